@@ -1,0 +1,50 @@
+// bench-trace: reads a trace from standard input, its first 4,096 bytes, runs it from a fresh start with L = E = 65,536 and external memory zero, and
+// prints number, server and value of each answer, then "end", the stop number and the bytes consumed, all decimal.
+
+// One answer of ten bytes: number, server, value, with a blank between and a line end.
+fn show(answer: &[u8]) -> bool {
+    if answer.len() < 10 {
+        return false;
+    }
+    io::print_decimal(1, wide(answer[0]));
+    io::write_all(1, b" ");
+    io::print_decimal(1, wide(answer[1]));
+    io::write_all(1, b" ");
+    io::print_decimal(1, memory::load8(answer, 2));
+    io::write_all(1, b"\n")
+}
+
+fn wide(x: u8) -> u64 {
+    x as u64
+}
+
+// The first `count` answers.
+fn show_all(answers: &[u8], count: usize) {
+    let mut k: usize = 0;
+    while k < count {
+        if answers.len() / 10 <= k {
+            return;
+        }
+        let at = k * 10;
+        show(&answers[at..at + 10]);
+        k += 1;
+    }
+}
+
+fn main() {
+    let mut input = io::buffer();
+    let n = io::read_full(0, &mut input);
+    let mut l1d = [0u8; 16384];
+    let mut l2 = io::large_buffer();
+    let mut ext = io::large_buffer();
+    let mut answers = [0u8; 40960];
+    let start = calls::fresh(&mut l1d, &mut l2, &mut ext);
+    let r = start.record;
+    let q = calls::run(r, &input[..n], &mut l1d, &mut l2, &mut ext, &mut answers);
+    show_all(&answers, q.count);
+    io::write_all(1, b"end ");
+    io::print_decimal(1, wide(q.stop));
+    io::write_all(1, b" ");
+    io::print_decimal(1, q.consumed as u64);
+    io::write_all(1, b"\n");
+}

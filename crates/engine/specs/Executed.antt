@@ -1,0 +1,151 @@
+-- What the loop makes of its commands: the run of paper 01 (`runFrom`), with the last answer beside it, over a source of commands that is a trace or
+-- one given command.
+use Prim.Native.Nat.{ℕ, zero, suc, _+_, _*_, _-_, _/_, _≤_, _<_}
+use mathlib.Core.Bool.{Bool, true, false}
+use mathlib.Core.List.{List, [], _∷_}
+use mathlib.Core.Path.{_≡_, refl, sym, ap, _∙_}
+use mathlib.Core.Logic.{_⊎_}
+use native.Mathlib.Omega.{arith}
+use native.Mathlib.Numerals.{add-one}
+use lib.ListN.{length, drop}
+use lib.Dec.{ltb, leb, eqb}
+use borrow.Author.Tests.{lt-ltb, le-ltb, le-leb, lt-leb, leb-true, eq-eqb, ne-eqb}
+use Rattle.model.specs.Basics.{pick, bool}
+use Rattle.model.specs.Memories.{externalBase}
+use Rattle.model.specs.Records.{State, state}
+use Rattle.model.specs.Trace.{Decoded, decoded, decode}
+use Rattle.model.specs.Calls.{Reply, step, Run, ran, putAnswer, runFrom}
+use Rattle.model.specs.declared.Command.{Command}
+use Rattle.decode.specs.Told.{told}
+use Rattle.decode.specs.Codes.{DecodedAt}
+use Rattle.decode.specs.declared.Decoded.{Decoded as Next}
+use Rattle.stages.specs.declared.Answer.{Answer}
+use Rattle.engine.specs.declared.Ran.{Ran}
+
+-- ---- where commands come from
+abbrev pub sourceOf : Bool → Command → List ℕ → ℕ → Decoded
+sourceOf single c t i = pick single (decoded c 1) (decode (drop i t))
+
+unfoldable pub endOf : Bool → List ℕ → ℕ
+endOf single t = pick single 1 (length t)
+
+-- the command at a place; one that lies before the end takes a byte at least and ends before it
+pub record NextAt (single : Bool) (c : Command) (t : List ℕ) (at : ℕ) (r : Next) : Type 0 where
+  pub same : told r ≡ sourceOf single c t at
+  pub within : r .ok ≡ true → at < endOf single t → (1 ≤ r .used) × (at + r .used ≤ endOf single t)
+
+-- why a run stops before a command: 11, then 12
+unfoldable pub stopOf : Bool → ℕ → ℕ → ℕ
+stopOf ok len k = pick ok (pick (leb (k * 10 + 10) len) 0 12) 11
+
+-- `cacheable` by the two MAR bits
+unfoldable pub cachedBy : Bool → Bool → ℕ → Bool
+cachedBy a b x = pick (ltb x externalBase) true (pick (ltb x 2164260864) a b)
+
+-- ---- the run, with the last answer
+abbrev pub noAnswer : Answer
+noAnswer = record { number = 0; server = 0; value = 0 }
+
+abbrev pub answerOf : Reply → Answer
+answerOf x = record { number = x .number; server = x .server; value = x .value }
+
+pub record Executed : Type 0 where
+  pub run : Run
+  pub last : Answer
+
+abbrev pub executed : Run → Answer → Executed
+executed x a = record { run = x; last = a }
+
+unfoldable pub executes : (ℕ → Decoded) → ℕ → ℕ → ℕ → State → ℕ → List ℕ → Answer → Executed
+executes source end zero i z k o a = executed (ran z i k 0 o) a
+executes source end (suc turns) i z k o a =
+    pick (ltb i end)
+    (pick (eqb (stopOf (source i .ok) (length o) k) 0)
+    (executes source end turns (i + source i .used) (step (source i .found) z .next) (suc k)
+    (putAnswer o k (step (source i .found) z .number) (step (source i .found) z .server) (step (source i .found) z .value))
+    (answerOf (step (source i .found) z)))
+    (executed (ran z i k (stopOf (source i .ok) (length o) k) o) a))
+    (executed (ran z i k 0 o) a)
+
+-- what the loop returns, with the memories and answer bytes that it left
+abbrev pub executedAs : Ran → List ℕ → List ℕ → List ℕ → List ℕ → Executed
+executedAs q l m e o = executed (ran (state (q .«record») l m e) (q .consumed) (q .count) (q .stop) o) (q .last)
+
+-- ---- it is the run of paper 01
+pub executes-run : (source : ℕ → Decoded) (end turns i : ℕ) (z : State) (k : ℕ) (o : List ℕ) (a : Answer) →
+    executes source end turns i z k o a .run ≡ runFrom source end turns i z k o
+unfolding executes runFrom stopOf
+executes-run source end zero i z k o a = refl
+executes-run source end (suc turns) i z k o a =
+    bool (ltb i end)
+    (λ b. bool (source i .ok)
+    (λ c. bool (leb (k * 10 + 10) (length o))
+    (λ d. rw (b, c, d)
+    (executes-run source end turns (i + source i .used) (step (source i .found) z .next) (suc k)
+    (putAnswer o k (step (source i .found) z .number) (step (source i .found) z .server) (step (source i .found) z .value)) (answerOf (step (source i .found) z))))
+    (λ d. rw (b, c, d) refl))
+    (λ c. rw (b, c) refl))
+    (λ b. rw b refl)
+
+-- a single command is that step, where its answer has room
+pub executes-one : (c : Command) (t : List ℕ) (z : State) (o : List ℕ) (a : Answer) → 10 ≤ length o →
+    executes (sourceOf true c t) 1 1 0 z 0 o a
+    ≡ executed (ran (step c z .next) 1 1 0 (putAnswer o 0 (step c z .number) (step c z .server) (step c z .value))) (answerOf (step c z))
+unfolding executes stopOf
+executes-one c t z o a h = rw (le-leb 10 (length o) h) refl
+
+-- ---- how the loop goes on, stops and ends: what is left to do gives the whole
+module _ (source : ℕ → Decoded) (end at k : ℕ) (z : State) (o : List ℕ) (a : Answer) (whole : Executed) where
+  pub turn : at < end → k ≤ at → (d : Next) → told d ≡ source at → stopOf (d .ok) (length o) k ≡ 0 → (x : Reply) → x ≡ step (d .command) z →
+      (o′ : List ℕ) → o′ ≡ putAnswer o k (x .number) (x .server) (x .value) → executes source end (end - k) at z k o a ≡ whole →
+      executes source end (end - (k + 1)) (at + d .used) (x .next) (k + 1) o′ (answerOf x) ≡ whole
+  unfolding executes
+  turn h le d ed es x ex o′ eo inv =
+      let n : end - k ≡ suc (end - (k + 1)) = omega arith in
+      let s : eqb (stopOf (source at .ok) (length o) k) 0 ≡ true = eq-eqb (stopOf (source at .ok) (length o) k) 0 (sym (ap (λ (y : Decoded). stopOf (y .ok) (length o) k) ed) ∙ es) in
+      let inv′ = rw (n, lt-ltb at end h, s) at inv in
+      rw (eo, ex, add-one) (rw (← ed, add-one) at inv′)
+
+  pub stopped : at < end → k ≤ at → (d : Next) → told d ≡ source at → (s : ℕ) → s ≡ stopOf (d .ok) (length o) k → (s ≡ 0 → ⊥) →
+      executes source end (end - k) at z k o a ≡ whole → executed (ran z at k s o) a ≡ whole
+  unfolding executes
+  stopped h le d ed s es ns inv =
+      let n : end - k ≡ suc (end - (k + 1)) = omega arith in
+      let s′ : s ≡ stopOf (source at .ok) (length o) k = es ∙ ap (λ (y : Decoded). stopOf (y .ok) (length o) k) ed in
+      let t : eqb (stopOf (source at .ok) (length o) k) 0 ≡ false = ne-eqb (stopOf (source at .ok) (length o) k) 0 (λ e. ns (s′ ∙ e)) in
+      rw s′ (rw (n, lt-ltb at end h, t) at inv)
+
+  pub at-end : (n : ℕ) → end ≤ at → executes source end n at z k o a ≡ whole → executed (ran z at k 0 o) a ≡ whole
+  unfolding executes
+  at-end zero h inv = inv
+  at-end (suc n) h inv = rw (le-ltb at end h) at inv
+
+-- room for an answer, as the run tests it
+pub stop-none : (ok : Bool) (len k : ℕ) → stopOf ok len k ≡ 0 → k * 10 + 10 ≤ len
+unfolding stopOf
+stop-none ok len k e =
+    bool ok
+    (λ t. bool (leb (k * 10 + 10) len) (λ d. leb-true (k * 10 + 10) len d)
+    (λ d. let f : _≡_ {A = ℕ} 12 0 = rw (t, d) at e in absurd (omega arith)))
+    (λ t. let f : _≡_ {A = ℕ} 11 0 = rw t at e in absurd (omega arith))
+
+pub stop-ok : (ok : Bool) (len k : ℕ) → stopOf ok len k ≡ 0 → ok ≡ true
+unfolding stopOf
+stop-ok ok len k e = bool ok (λ t. t) (λ t. let f : _≡_ {A = ℕ} 11 0 = rw t at e in absurd (omega arith))
+
+-- ---- the two sources
+pub next-given : (single : Bool) (c : Command) (t : List ℕ) (at : ℕ) → single ≡ true → NextAt single c t at (record { ok = true; command = c; used = 1 })
+unfolding endOf
+next-given single c t at s =
+    record { same = rw s refl; within = λ _ h. let h′ : at < 1 = rw s at h in rw s (omega arith, omega arith) }
+
+pub next-trace : (single : Bool) (c : Command) (t : List ℕ) (at : ℕ) (r : Next) → single ≡ false → DecodedAt t at r → NextAt single c t at r
+unfolding endOf
+next-trace single c t at r s d = record { same = rw s (d .same); within = λ k _. rw s (d .within k) }
+
+-- the two ways to a place where arms meet
+abbrev pub First : {A B : Type 0} → A ⊎ B → Type 0
+First {A} {B} x = A
+
+abbrev pub Second : {A B : Type 0} → A ⊎ B → Type 0
+Second {A} {B} x = B

@@ -1,0 +1,4 @@
+pub mod Sets
+pub mod Leaving
+pub mod Access
+pub mod Miss

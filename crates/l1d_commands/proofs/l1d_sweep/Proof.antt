@@ -1,0 +1,238 @@
+-- `l1d_commands::l1d_sweep` meets its contract: after k turns the state is that of the definition's first k turns. A turn is `l1d-off` or `l1d-on` of specs/Turn.
+use Prim.Native.Nat.{_-_, _≤_}
+use mathlib.Core.Path.{_≡_, refl, ap, _∙_}
+use native.Mathlib.Omega.{arith}
+use lib.ListN.{length, set}
+use borrow.Author.Needs.{needs}
+use Rattle.model.specs.Lines.{l1dPut}
+use Rattle.model.specs.Records.{state, withL1dSet, withL2Set}
+use Rattle.model.specs.Basics.{each}
+use Rattle.stages.specs.Stages.{sentAs}
+use Rattle.blocks.specs.Sweeping.{each-none, each-next, sets-now, sram-now}
+use Rattle.l1d_commands.specs.Turn.{l1d-off, l1d-on}
+use Rattle.l1d_commands.specs.Sweep.{sentLine, l1dTurn, l1dSweep}
+use Rattle.eviction.proofs.send_home.Reads as send-home-reads
+use Rattle.l1d_commands.proofs.l1d_sweep.Statement.{statement}
+use Rattle.l1d_commands.proofs.l1d_sweep.Tie as tie
+use Rattle.l1d_commands.proofs.l1d_sweep.Reads as reads
+use Rattle.l1d_commands.proofs.l1d_sweep.Lts as lts
+use Rattle.l1d_commands.proofs.l1d_target.Reads as l1d-target-reads
+use Rattle.l1d_commands.proofs.l1d_turns.Reads as l1d-turns-reads
+use Rattle.l1d_commands.proofs.l1d_way.Reads as l1d-way-reads
+use Rattle.l1d_commands.proofs.sent_line.Reads as sent-line-reads
+use Rattle.sets.proofs.L2.set_of.Reads as set-of-reads
+use Rattle.sets.proofs.L2.sets.Reads as sets-reads
+use Rattle.sets.proofs.L2.sram.Reads as sram-reads
+use Rattle.sets.proofs.empty_line.Reads as empty-line-reads
+use Rattle.sets.proofs.l1d_get.Reads as l1d-get-reads
+use Rattle.sets.proofs.l1d_put.Reads as l1d-put-reads
+
+abbrev Inv-loop : tie.InvT-loop
+Inv-loop code base count l1d l2₀ ext₀ sets sram n q₀ k₀ l2 ext q k =
+    (k ≤ n) × (length l2 ≡ length l2₀) × (length ext ≡ length ext₀) × (q .mode ≡ q₀ .mode) × (q .l2len ≡ q₀ .l2len)
+    × (state q l1d l2 ext ≡ each (l1dTurn code base) k (state q₀ l1d l2₀ ext₀))
+
+abbrev μ-loop : tie.MeasureT-loop
+μ-loop code base count l1d l2₀ ext₀ sets sram n q₀ k₀ l2 ext q k = n - k
+
+-- src/lib.rt:72:9
+sets-requires : tie.Need-sets-requires Inv-loop μ-loop
+sets-requires c κs = search needs
+
+-- src/lib.rt:73:9
+sram-requires : tie.Need-sram-requires Inv-loop μ-loop
+sram-requires c κs = search needs
+
+-- src/lib.rt:74:9
+l1d-turns-requires : tie.Need-l1d-turns-requires Inv-loop μ-loop
+l1d-turns-requires c κs = search needs
+
+-- src/lib.rt:76:5
+loop-holds : tie.Need-loop-holds Inv-loop μ-loop
+loop-holds c = (omega arith, refl, refl, refl, refl, each-none _ _)
+
+-- src/lib.rt:77:13
+l1d-target-requires : tie.Need-l1d-target-requires Inv-loop μ-loop
+l1d-target-requires c κs = let t = c .loop-test .taken in let e = c .before .before .l1d-turns .ensures in omega arith
+
+-- src/lib.rt:79:17
+mul-s : tie.Need-mul-s Inv-loop μ-loop
+mul-s c = search needs
+
+-- src/lib.rt:79:17
+element-copy-out-s : tie.Need-element-copy-out-s Inv-loop μ-loop
+element-copy-out-s c = search needs
+
+-- src/lib.rt:80:13
+l1d-way-requires : tie.Need-l1d-way-requires Inv-loop μ-loop
+l1d-way-requires c κs = search needs
+
+-- src/lib.rt:82:13
+add-k : tie.Need-add-k Inv-loop μ-loop
+add-k c = search needs
+
+-- src/lib.rt:76:5
+loop-less : tie.Need-loop-less Inv-loop μ-loop
+loop-less c = search needs
+
+-- src/lib.rt:76:5
+loop-again : tie.Need-loop-again Inv-loop μ-loop
+loop-again c =
+    let p-l1d-way = c .before in
+    let p-l1d-target = p-l1d-way .before .before in
+    let p-loop-test = p-l1d-target .before in
+    let p-loop = p-loop-test .before in
+    let p-sets = p-loop .before .before .before in
+    let p-args = p-sets .before .before .before .before in
+    let t = p-loop-test .loop-test .taken in let l = p-loop .loop in let a = p-args .args in
+    let z = state (l .q) (a .l1d .now) (l .l2) (l .ext) in
+    let z₀ = state (a .r0) (a .l1d .now) (a .l2 .now) (a .ext .now) in
+    let g = sets-now (l .q) (a .r0) (l .inv .3) (p-sets .sets .ensures .0) in
+    let f = l1dTurn (a .code) (a .base) in
+    let p = p-l1d-target .l1d-target .result in let w = p-l1d-way .l1d-way .result in (
+      omega arith,
+      l .inv .1,
+      l .inv .2,
+      l .inv .3,
+      l .inv .4,
+      each-next f (l .k) z₀ z z (l .inv .5) (l1d-off (a .code) (a .base) (l .k) (l .q) (a .l1d .now) (l .l2) (l .ext) p w (p-l1d-target .l1d-target .ensures .0) (p-l1d-way .l1d-way .ensures .0) (c .if1 .taken)),
+    )
+
+-- src/lib.rt:84:13
+l1d-get-requires : tie.Need-l1d-get-requires Inv-loop μ-loop
+l1d-get-requires c κs = search needs
+
+-- src/lib.rt:85:13
+sent-line-requires : tie.Need-sent-line-requires Inv-loop μ-loop
+sent-line-requires c κs = search needs
+
+-- src/lib.rt:86:13
+set-of-requires : tie.Need-set-of-requires Inv-loop μ-loop
+set-of-requires c κs = search needs
+
+-- src/lib.rt:87:17
+mul-u : tie.Need-mul-u Inv-loop μ-loop
+mul-u c = search needs
+
+-- src/lib.rt:87:17
+element-copy-out-u : tie.Need-element-copy-out-u Inv-loop μ-loop
+element-copy-out-u c = search needs
+
+-- src/lib.rt:88:13
+send-home-requires : tie.Need-send-home-requires Inv-loop μ-loop
+send-home-requires c κs = (c .before .before .before .before .before .before .before .before .before .l1d-target .ensures .1 .0, (c .before .before .before .before .before .before .if1 .left, (c .before .before .before .before .before .before .before .before .before .before .before .before .before .sram .ensures .1, (c .before .before .before .before .before .before .before .before .before .before .before .before .before .before .sets .ensures .1, c .before .before .before .set-of .ensures .1))))
+
+-- src/lib.rt:89:9
+mul-t : tie.Need-mul-t Inv-loop μ-loop
+mul-t c = search needs
+
+-- src/lib.rt:89:9
+element-set-from-t : tie.Need-element-set-from-t Inv-loop μ-loop
+element-set-from-t c = search needs
+
+-- src/lib.rt:90:37
+empty-line-requires : tie.Need-empty-line-requires Inv-loop μ-loop
+empty-line-requires c κs = search needs
+
+-- src/lib.rt:90:13
+l1d-put-requires : tie.Need-l1d-put-requires Inv-loop μ-loop
+l1d-put-requires c κs = search needs
+
+-- src/lib.rt:91:9
+mul-v : tie.Need-mul-v Inv-loop μ-loop
+mul-v c = let t = c .before .before .before .before .before .before .before .before .before .before .before .before .before .before .before .before .l1d-target .ensures .1 .0 in omega arith
+
+-- src/lib.rt:91:9
+element-set-from-v : tie.Need-element-set-from-v Inv-loop μ-loop
+element-set-from-v c = let t = c .before .before .before .before .before .before .before .before .before .before .before .before .before .before .before .before .l1d-target .ensures .1 .0 in omega arith
+
+-- src/lib.rt:76:9
+add-k-2 : tie.Need-add-k-2 Inv-loop μ-loop
+add-k-2 c = let t = c .before .before .before .before .before .before .before .before .before .before .before .before .before .before .before .before .before .loop-test .taken in let g = c .before .before .before .before .before .before .before .before .before .before .before .before .before .before .before .before .before .before .before .l1d-turns .ok in omega arith
+
+-- src/lib.rt:76:5
+loop-less-2 : tie.Need-loop-less-2 Inv-loop μ-loop
+loop-less-2 c = let t = c .before .before .before .before .before .before .before .before .before .before .before .before .before .before .before .before .before .loop-test .taken in let g = c .before .before .before .before .before .before .before .before .before .before .before .before .before .before .before .before .before .before .before .l1d-turns .ok in omega arith
+
+-- src/lib.rt:76:5
+loop-again-2 : tie.Need-loop-again-2 Inv-loop μ-loop
+loop-again-2 c =
+    let p-empty-line = c .before in
+    let p-send-home = p-empty-line .before .before .before .before .before in
+    let p-set-of = p-send-home .before .before .before .before in
+    let p-sent-line = p-set-of .before in
+    let p-l1d-get = p-sent-line .before in
+    let p-if1 = p-l1d-get .before in
+    let p-l1d-way = p-if1 .before in
+    let p-l1d-target = p-l1d-way .before .before in
+    let p-loop-test = p-l1d-target .before in
+    let p-loop = p-loop-test .before in
+    let p-sram = p-loop .before .before in
+    let p-sets = p-sram .before in
+    let p-args = p-sets .before .before .before .before in
+    let t = p-loop-test .loop-test .taken in let l = p-loop .loop in let a = p-args .args in
+    let z = state (l .q) (a .l1d .now) (l .l2) (l .ext) in
+    let z₀ = state (a .r0) (a .l1d .now) (a .l2 .now) (a .ext .now) in
+    let g = sets-now (l .q) (a .r0) (l .inv .3) (p-sets .sets .ensures .0) in
+    let f = l1dTurn (a .code) (a .base) in
+    let p = p-l1d-target .l1d-target .result in let w = p-l1d-way .l1d-way .result in
+    let s = sentAs (p-send-home .send-home .result) (p-send-home .send-home .last .1 .1 .1 .1 .1 .1 .1 .1 .0) (p-send-home .send-home .last .1 .1 .1 .1 .1 .1 .1 .1 .1 .0) in
+    let v = c .l1d-put .result in let j = p-set-of .set-of .result in let x = p-sent-line .sent-line .result in
+    let z′ = state (withL1dSet (withL2Set (l .q) j (s .set)) (p .set) v) (a .l1d .now) (s .l2) (s .ext) in
+    let e = l1d-on (a .code) (a .base) (l .k) (l .q) (a .l1d .now) (l .l2) (l .ext) p w (p-l1d-target .l1d-target .ensures .0) (p-l1d-way .l1d-way .ensures .0)
+    (p-sram .sram .result) (p-sets .sets .result) j x s v (p-if1 .if1 .left) (sram-now (l .q) (a .r0) (l .inv .3) (l .inv .4) (p-sram .sram .ensures .0)) g
+    (p-sent-line .sent-line .ensures ∙ ap (sentLine (a .code)) (p-l1d-get .l1d-get .ensures)) (p-set-of .set-of .ensures .0) (p-send-home .send-home .ensures)
+    (c .l1d-put .ensures ∙ ap (l1dPut _ w) (p-empty-line .empty-line .ensures)) in
+    (omega arith, p-send-home .send-home .kept .1 .1 .1 .1 .1 .1 .1 .1 .0 ∙ l .inv .1, p-send-home .send-home .kept .1 .1 .1 .1 .1 .1 .1 .1 .1 .0 ∙ l .inv .2, l .inv .3, l .inv .4, each-next f (l .k) z₀ z z′ (l .inv .5) e)
+
+-- src/lib.rt:68:1
+same-length : tie.Need-same-length Inv-loop μ-loop
+same-length c = c .before .loop .inv .1
+
+-- src/lib.rt:68:1
+same-length-2 : tie.Need-same-length-2 Inv-loop μ-loop
+same-length-2 c = c .before .loop .inv .2
+
+-- src/lib.rt:68:1
+returns : tie.Need-returns Inv-loop μ-loop
+unfolding l1dSweep
+returns c =
+    let l = c .before .loop in let a = c .before .before .before .before .before .before .before .before .args in
+    let e : l .k ≡ c .before .before .l1d-turns .result = omega arith in
+    (rw (e, c .before .before .l1d-turns .ensures) at (l .inv .5), l .inv .4)
+
+pub l1d-sweep-spec : {M : Type 1} → statement M
+l1d-sweep-spec =
+    tie.close
+    (tie.spec
+    Inv-loop
+    μ-loop
+    sets-requires
+    sram-requires
+    l1d-turns-requires
+    loop-holds
+    l1d-target-requires
+    mul-s
+    element-copy-out-s
+    l1d-way-requires
+    add-k
+    loop-less
+    loop-again
+    l1d-get-requires
+    sent-line-requires
+    set-of-requires
+    mul-u
+    element-copy-out-u
+    send-home-requires
+    mul-t
+    element-set-from-t
+    empty-line-requires
+    l1d-put-requires
+    mul-v
+    element-set-from-v
+    add-k-2
+    loop-less-2
+    loop-again-2
+    same-length
+    same-length-2
+    returns)

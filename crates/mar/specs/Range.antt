@@ -1,0 +1,80 @@
+-- Refusals 9 and 10, as the code comes to them: by the number, by the bit, then set by set and way by way.
+use Prim.Native.Nat.{ℕ, _+_, _≤_, _<_}
+use mathlib.Core.Bool.{Bool, true, false, not, _&&_, _||_}
+use mathlib.Core.List.{List}
+use mathlib.Core.Path.{_≡_, refl, sym, ap, _∙_}
+use native.Mathlib.Numerals.{add-one}
+use lib.ListN.{length, getD, drop, drop-of-length-le}
+use lib.Seq.{drop-cons}
+use lib.Dec.{leb, eqb}
+use borrow.Author.Tests.{eq-eqb, ne-eqb}
+use Rattle.model.specs.Basics.{both, any}
+use Rattle.model.specs.Lines.{emptyLine}
+use Rattle.model.specs.Modes.{inRange, holdsRange}
+use Rattle.model.specs.Refusals.{first, unless, marDue}
+use Rattle.model.specs.declared.Line.{Line}
+use Rattle.model.specs.declared.L1dSet.{L1dSet}
+use Rattle.model.specs.declared.L2Set.{L2Set}
+use Rattle.model.specs.declared.Record.{Record}
+use Rattle.sizes.specs.Join.{and-both, or-either, or-pick}
+use Rattle.ways.specs.Ways.{two, four, any-two, any-four}
+
+-- ---- a MAR bit
+module _ (r : Record) (n b : ℕ) where
+  abbrev marFlag : Bool
+  marFlag = (eqb n 128 || eqb n 129) && leb b 1
+
+  by-mar : marDue r n b ≡ first (unless marFlag 9) (unless (not (both (eqb b 0) (holdsRange n r))) 10)
+  unfolding marDue
+  by-mar = simp (and-both, or-either)
+
+  pub mar-nine : marFlag ≡ false → 9 ≡ marDue r n b
+  mar-nine e = sym (by-mar ∙ rw e refl)
+
+  pub mar-set : marFlag ≡ true → (b ≡ 0 → ⊥) → 0 ≡ marDue r n b
+  mar-set e z = sym (by-mar ∙ rw (e, ne-eqb b 0 z) refl)
+
+  pub mar-ten : marFlag ≡ true → b ≡ 0 → holdsRange n r ≡ true → 10 ≡ marDue r n b
+  mar-ten e z h = sym (by-mar ∙ rw (e, eq-eqb b 0 z, h) refl)
+
+  pub mar-cleared : marFlag ≡ true → b ≡ 0 → holdsRange n r ≡ false → 0 ≡ marDue r n b
+  mar-cleared e z h = sym (by-mar ∙ rw (e, eq-eqb b 0 z, h) refl)
+
+module _ (r : Record) (n : ℕ) where
+  pub range-l1d : any (λ (v : L1dSet). any (inRange n) (v .lines)) (r .l1d) ≡ true → true ≡ holdsRange n r
+  unfolding holdsRange
+  range-l1d e = rw e refl
+
+  pub range-l2 : any (λ (v : L1dSet). any (inRange n) (v .lines)) (r .l1d) ≡ false → (h : Bool) →
+      h ≡ any (λ (v : L2Set). any (inRange n) (v .lines)) (r .l2) → h ≡ holdsRange n r
+  unfolding holdsRange
+  range-l2 e h f = rw e f
+
+-- ---- a loop that looks for a set that passes
+module _ {ℓ} {A : Type ℓ} (p : A → Bool) (xs : List A) (i : ℕ) (d : A) where
+  pub any-next : i < length xs → p (getD xs i d) ≡ false → any p (drop i xs) ≡ any p (drop (i + 1) xs)
+  unfolding any
+  any-next h e = rw (add-one, drop-cons xs i d h, e) refl
+
+  pub any-hit : i < length xs → p (getD xs i d) ≡ true → any p (drop i xs) ≡ true
+  unfolding any
+  any-hit h e = rw (drop-cons xs i d h, e) refl
+
+  pub any-end : length xs ≤ i → any p (drop i xs) ≡ false
+  unfolding any
+  any-end h = rw (drop-of-length-le xs h) refl
+
+-- ---- the ways of a set: `two`, `four` and what is left at the end of a list are of the crate ways
+pub any-joined-2 : (n : ℕ) (xs : List Line) → length xs ≡ 2 → (b0 b1 : Bool) →
+    b0 ≡ inRange n (getD xs 0 emptyLine) → b1 ≡ inRange n (getD xs 1 emptyLine) → (b0 || b1) ≡ any (inRange n) xs
+any-joined-2 n xs l b0 b1 e0 e1 =
+    rw (or-pick b0 b1, e0, e1)
+    (sym (ap (any (inRange n)) (two emptyLine xs l) ∙ any-two (inRange n) (getD xs 0 emptyLine) (getD xs 1 emptyLine)))
+
+pub any-joined-4 : (n : ℕ) (xs : List Line) → length xs ≡ 4 → (b0 b1 b2 b3 : Bool) →
+    b0 ≡ inRange n (getD xs 0 emptyLine) → b1 ≡ inRange n (getD xs 1 emptyLine) → b2 ≡ inRange n (getD xs 2 emptyLine) →
+    b3 ≡ inRange n (getD xs 3 emptyLine) → (b0 || (b1 || (b2 || b3))) ≡ any (inRange n) xs
+any-joined-4 n xs l b0 b1 b2 b3 e0 e1 e2 e3 =
+    simp (or-pick, e0, e1, e2, e3)
+    (sym (ap (any (inRange n)) (four emptyLine xs l)
+    ∙ any-four (inRange n) (getD xs 0 emptyLine) (getD xs 1 emptyLine) (getD xs 2 emptyLine) (getD xs 3 emptyLine)))

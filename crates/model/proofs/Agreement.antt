@@ -1,0 +1,314 @@
+-- Demand 3 is met (`demand3`). Shown first of one command: where the chip is good by flat memory's bytes (`Matches`), both give the same answer and match again.
+-- Why: an accepted read reads right bytes, so the same; a write changes flat memory as it changes what is right; a mode change likewise; the other commands
+-- are not seen. After a global writeback in a mode with an L2 cache every place of external memory is right, so the two lists are equal.
+use Prim.Native.Nat.{ℕ, _+_, _*_, _-_, _≤_, _<_}
+use mathlib.Core.Bool.{true, false}
+use mathlib.Core.Path.{_≡_, refl, sym, ap, _∙_}
+use mathlib.Core.Logic.{_≢_}
+use mathlib.Core.List.{List, [], _∷_}
+use native.Mathlib.Omega.{arith}
+use lib.ListN.{length, length-replicate}
+use lib.Seq.{ext-getD}
+use lib.Dec.{ltb, eqb}
+use borrow.Author.Tests.{eqb-true, ne-eqb, lt-leb}
+use Rattle.model.specs.Basics.{both, bool, false-true, both-true, pick-elim}
+use Rattle.model.specs.Bytes.{little, littleBytes, zeroFrom, length-littleBytes}
+use Rattle.model.specs.Memories.{l1dLength, externalBase, legalL2, legalExternal, cacheSize, isMode, sramLength}
+use Rattle.model.specs.Records.{State, state, sramOf, l2SetsOf, l2LineAt, freshRecord, freshState}
+use Rattle.model.specs.Access.{readAccess, writeAccess}
+use Rattle.model.specs.Modes.{smaller, flushL1d, flushL2, newMode, changeMode}
+use Rattle.model.specs.Commands.{l2WritebackAll, l2WritebackInvalidateAll}
+use Rattle.model.specs.Refusals.{accessDue, modeDue}
+use Rattle.model.specs.Trace.{command}
+use Rattle.model.specs.Flat.{Flat, flat, freshFlat, flatPart, flatPut, flatMode, FlatReply, flatReply, flatRead, flatWrite, flatChange, flatStep}
+use Rattle.model.specs.Calls.{Reply, refused, carriedOut, freshOk, freshCall, commandDue, readDone, writeDone, commandState, accepted, step, call}
+use Rattle.model.specs.declared.Command.{Command}
+use Rattle.model.proofs.Level.{Valid}
+use Rattle.model.proofs.Invariant.{Allowed, Layout}
+use Rattle.model.proofs.Memory.{memoryByte, memory-low, memory-high, lowStored, highStored, low-length, high-length, Fits, read-length, read-at, written-same, wrote-memory}
+use Rattle.model.proofs.Good.{l1dLevel, l2Level, Good, Well, good-well}
+use Rattle.model.proofs.ReadWrite.{Step}
+use Rattle.model.proofs.Sweeps.{SweptTo, flushed, l2WritebackAll-good, l2WritebackInvalidateAll-good, flush-good}
+use Rattle.model.proofs.Changes.{zero-length, zero-below, zero-above, smaller-bound, fresh-good, newMode-good}
+use Rattle.model.proofs.Due.{access-tells, accepted-read, accepted-write, mode-tells, mode-sets}
+use Rattle.model.proofs.Steps.{codes, Quiet, quiet-step, quiet-2, quiet-3, quiet-4, quiet-5, quiet-7, quiet-11}
+use Rattle.model.proofs.Tested.{legalL2-tells, legalExternal-tells, call-step}
+use Rattle.model.proofs.Demand.{listedCode, listed, compared, global, modeAfter, Settled, AgreesAt, Agree, end, next, Demand3}
+
+-- ---- chip and flat memory match: every byte that counts is flat memory's, and the sizes are the same
+abbrev flatByte : Flat → ℕ → ℕ
+flatByte f a = memoryByte (f .sram) (f .ext) a
+
+abbrev pub Is : Flat → Allowed
+Is f a c = c ≡ flatByte f a
+
+pub record Matches (z : State) (f : Flat) : Type 0 where
+  pub good : Good z (Is f)
+  pub l2len : f .l2len ≡ z .rec .l2len
+  pub sram : length (f .sram) ≡ sramOf (z .rec)
+  pub ext : length (f .ext) ≡ z .rec .extlen
+
+matches-quiet : (z : State) (f : Flat) → Matches z f → (z′ : State) → Quiet z (Is f) z′ → Matches z′ f
+matches-quiet z f m z′ q =
+    record {
+      good = q .good;
+      l2len = m .l2len ∙ sym (q .l2len);
+      sram = m .sram ∙ sym (sram-same (q .l2len) (q .mode));
+      ext = m .ext ∙ sym (q .extlen);
+    }
+  where
+    sram-same : z′ .rec .l2len ≡ z .rec .l2len → z′ .rec .mode ≡ z .rec .mode → sramOf (z′ .rec) ≡ sramOf (z .rec)
+    sram-same a b = rw (a, b) refl
+
+-- ---- the same bytes at an address, and bytes put there
+flatPut-state : (a : ℕ) (bs : List ℕ) (f : Flat) → flatPut a bs f ≡ flat (f .l2len) (lowStored (f .sram) a bs) (highStored (f .ext) a bs)
+unfolding flatPut lowStored highStored
+flatPut-state a bs f = bool (ltb a externalBase) (λ t. rw t refl) (λ t. rw t refl)
+
+module _ (z : State) (f : Flat) (m : Matches z f) (n a : ℕ) where
+  flat-fits : (v : ℕ) → accessDue (sramOf (z .rec)) (z .rec .extlen) n a v ≡ 0 → Fits (f .sram) (f .ext) a n
+  flat-fits v d =
+      let k = access-tells (sramOf (z .rec)) (z .rec .extlen) n a v d in
+      let mo = k .more in let s = m .sram in let e = m .ext in
+      record { low = λ h. let g = k .low h in omega arith; high = λ h. let g = k .high h in omega arith }
+
+  sram-below : length (f .sram) ≤ externalBase
+  sram-below = let s = m .sram in let x = m .good .tidy .sizes .l2Most in omega arith
+
+  same-bytes : accessDue (sramOf (z .rec)) (z .rec .extlen) n a 0 ≡ 0 → readAccess n a z .bytes ≡ flatPart a n f
+  unfolding flatPart
+  same-bytes d =
+      let r = accepted-read z (Is f) (m .good) n a d in
+      let g = flat-fits 0 d in
+      ext-getD 0 (readAccess n a z .bytes) (flatPart a n f) (r .long ∙ sym (read-length (f .sram) (f .ext) a n g))
+      (λ j h. let l = r .long in let k : j < n = omega arith in r .right j k ∙ sym (read-at (f .sram) (f .ext) a n g sram-below j k))
+
+  put-matches : (v : ℕ) → accessDue (sramOf (z .rec)) (z .rec .extlen) n a v ≡ 0 → (z′ : State) → z′ ≡ writeAccess a (littleBytes v n) z .next →
+      Matches z′ (flatPut a (littleBytes v n) f) × (z′ .rec .mode ≡ z .rec .mode)
+  put-matches v d z′ e =
+      let bs = littleBytes v n in
+      let f′ = flat (f .l2len) (lowStored (f .sram) a bs) (highStored (f .ext) a bs) in
+      let long = length-littleBytes v n in
+      let g : Fits (f .sram) (f .ext) a (length bs) = rw long (flat-fits v d) in
+      let w : Step z (Is f′) (writeAccess a bs z .next) =
+      accepted-write z (Is f) (m .good) n a (Is f′) v (written-same (flatByte f) (flatByte f′) a bs (wrote-memory (f .sram) (f .ext) bs a g sram-below)) d in
+      let q = quiet-step z (Is f′) (writeAccess a bs z .next) w in
+      let s : sramOf (writeAccess a bs z .next .rec) ≡ sramOf (z .rec) = ap (λ (x : Layout). x .sram) (w .kept .layout) in
+      rw (e, flatPut-state a bs f) (
+        record {
+          good = w .good;
+          l2len = m .l2len ∙ sym (q .l2len);
+          sram = low-length (f .sram) bs a ∙ m .sram ∙ sym s;
+          ext = high-length (f .ext) bs a ∙ m .ext ∙ sym (q .extlen);
+        },
+        q .mode,
+      )
+
+-- ---- a mode change, when everything has gone out
+mode-matches : (z : State) (f : Flat) → Matches z f → (k : ℕ) → isMode k ≡ true → cacheSize k ≤ z .rec .l2len →
+    ((s w : ℕ) → Valid (l1dLevel z) s w → ⊥) → ((t v : ℕ) → Valid (l2Level z) t v → l2LineAt (z .rec) t v .dirty ≡ false) → Matches (newMode k z) (flatMode k f)
+unfolding newMode flatMode
+mode-matches z f m k ok c none clean =
+    let n = sramLength (f .l2len) k in
+    let y = smaller (length (f .sram)) n in
+    let r = m .l2len in
+    let e : smaller (sramOf (z .rec)) (sramLength (z .rec .l2len) k) ≡ y = rw (m .sram, m .l2len) refl in
+    let yb = smaller-bound (length (f .sram)) n in let y₀ = yb .0 in let y₁ = yb .1 in
+    let lo = zeroFrom y (f .sram) n in
+    record {
+      good = newMode-good z (Is f) (Is (flatMode k f)) (m .good) k ok c none clean
+          (λ a b h c i. i ∙ sym (memory-low lo (f .ext) a b ∙ zero-below y (f .sram) n y₀ y₁ a (rw e at h) ∙ sym (memory-low (f .sram) (f .ext) a b)))
+          (λ a b h. sym (memory-low lo (f .ext) a b ∙ zero-above y (f .sram) n y₀ y₁ a (rw e at h)))
+          (λ a b c i. i ∙ sym (memory-high lo (f .ext) a b ∙ sym (memory-high (f .sram) (f .ext) a b)));
+      l2len = m .l2len;
+      sram = zero-length y (f .sram) n y₀ y₁ ∙ rw r refl;
+      ext = m .ext;
+    }
+
+-- ---- one command: the same answer where it is compared, and both match again
+pub record Answered (c : Command) (r : Reply) (g : FlatReply) (before : ℕ) : Type 0 where
+  pub number : compared c ≡ true → r .number ≡ g .number
+  pub value : compared c ≡ true → r .value ≡ g .value
+  pub matches : Matches (r .next) (g .next)
+  pub mode : r .next .rec .mode ≡ modeAfter c r before
+
+module _ (z : State) (f : Flat) (m : Matches z f) (a b v : ℕ) where
+  same-due : (n : ℕ) → accessDue (length (f .sram)) (length (f .ext)) a b n ≡ accessDue (sramOf (z .rec)) (z .rec .extlen) a b n
+  same-due n = rw (m .sram, m .ext) refl
+
+  read-answered : Answered (command 0 a b v) (step (command 0 a b v) z) (flatStep (command 0 a b v) f) (z .rec .mode)
+  unfolding step commandDue accepted readDone flatStep flatRead modeAfter
+  read-answered =
+      let d = accessDue (sramOf (z .rec)) (z .rec .extlen) a b 0 in
+      let e = same-due 0 in
+      rw e (bool (eqb d 0)
+      (λ t. let r = accepted-read z (Is f) (m .good) a b (eqb-true d 0 t) in
+      let q = quiet-step z (Is f) (readAccess a b z .next) (record { good = r .good; kept = r .kept }) in
+      rw t (record {
+        number = λ _. refl;
+        value = λ _. ap little (same-bytes z f m a b (eqb-true d 0 t));
+        matches = matches-quiet z f m (readAccess a b z .next) q;
+        mode = q .mode;
+      }))
+      (λ t. rw t (record { number = λ _. refl; value = λ _. refl; matches = m; mode = refl })))
+
+  write-answered : Answered (command 1 a b v) (step (command 1 a b v) z) (flatStep (command 1 a b v) f) (z .rec .mode)
+  unfolding step commandDue accepted writeDone flatStep flatWrite modeAfter
+  write-answered =
+      let d = accessDue (sramOf (z .rec)) (z .rec .extlen) a b v in
+      let e = same-due v in
+      rw e (bool (eqb d 0)
+      (λ t. let p = put-matches z f m a b v (eqb-true d 0 t) (writeAccess b (littleBytes v a) z .next) refl in
+      rw t (record { number = λ _. refl; value = λ _. refl; matches = p .0; mode = p .1 }))
+      (λ t. rw t (record { number = λ _. refl; value = λ _. refl; matches = m; mode = refl })))
+
+  mode-answered : Answered (command 10 a b v) (step (command 10 a b v) z) (flatStep (command 10 a b v) f) (z .rec .mode)
+  unfolding step commandDue accepted commandState flatStep flatChange modeAfter changeMode newMode
+  mode-answered =
+      let d = modeDue (z .rec .l2len) a in
+      let e : modeDue (f .l2len) a ≡ d = rw (m .l2len) refl in
+      rw e (bool (eqb d 0)
+      (λ t. let c = mode-tells (z .rec .l2len) a (eqb-true d 0 t) in
+      let o = flush-good z (Is f) (m .good) in
+      let z₁ = flushL2 (flushL1d z) in
+      let m₁ = matches-quiet z f m z₁ (quiet-step z (Is f) z₁ (o .step)) in
+      let s : Matches (newMode a z₁) (flatMode a f) = mode-matches z₁ f m₁ a (c .0) (rw (o .step .kept .l2len) (c .1)) (o .l1dNone) (o .l2Clean) in
+      rw t (record { number = λ _. refl; value = λ _. refl; matches = s; mode = refl }))
+      (λ t. rw t (record { number = λ _. refl; value = λ _. refl; matches = m; mode = rw t refl })))
+
+  quiet-answered : (k : ℕ) → compared (command k a b v) ≡ false → eqb k 10 ≡ false → flatStep (command k a b v) f ≡ flatReply 0 0 f →
+      Quiet z (Is f) (step (command k a b v) z .next) → Answered (command k a b v) (step (command k a b v) z) (flatStep (command k a b v) f) (z .rec .mode)
+  unfolding modeAfter
+  quiet-answered k unseen ne e q =
+      rw e (record {
+        number = λ y. false-true (sym unseen ∙ y);
+        value = λ y. false-true (sym unseen ∙ y);
+        matches = matches-quiet z f m (step (command k a b v) z .next) q;
+        mode = rw ne (q .mode);
+      })
+
+listed-below : (k : ℕ) → 12 ≤ k → listedCode k ≡ false
+listed-below k h = rw (lt-leb k 5 (omega arith), ne-eqb k 7 (omega arith), ne-eqb k 10 (omega arith), ne-eqb k 11 (omega arith)) refl
+
+pub step-answered : (c : Command) (z : State) (f : Flat) → Matches z f → listedCode (c .code) ≡ true → Answered c (step c z) (flatStep c f) (z .rec .mode)
+unfolding flatStep
+step-answered c z f m =
+    let a = c .first in let b = c .second in let v = c .value in
+    codes (λ (k : ℕ). listedCode k ≡ true → Answered (command k a b v) (step (command k a b v) z) (flatStep (command k a b v) f) (z .rec .mode))
+    (λ _. read-answered z f m a b v)
+    (λ _. write-answered z f m a b v)
+    (λ _. quiet-answered z f m a b v 2 refl refl refl (quiet-2 z (Is f) (m .good) a b v))
+    (λ _. quiet-answered z f m a b v 3 refl refl refl (quiet-3 z (Is f) (m .good) a b v))
+    (λ _. quiet-answered z f m a b v 4 refl refl refl (quiet-4 z (Is f) (m .good) a b v))
+    (λ _. quiet-answered z f m a b v 5 refl refl refl (quiet-5 z (Is f) (m .good) a b v))
+    (λ y. false-true y)
+    (λ _. quiet-answered z f m a b v 7 refl refl refl (quiet-7 z (Is f) (m .good) a b v))
+    (λ y. false-true y)
+    (λ y. false-true y)
+    (λ _. mode-answered z f m a b v)
+    (λ _. quiet-answered z f m a b v 11 refl refl refl (quiet-11 z (Is f) (m .good) a b v))
+    (λ k h y. false-true (sym (listed-below k h) ∙ y))
+    (c .code)
+
+-- ---- a global writeback settles external memory
+settles : (z z′ : State) (f : Flat) → Matches z f → z .rec .mode ≢ 0 → SweptTo z (Is f) (l2SetsOf (z .rec) * 4) z′ → Settled z′ f
+settles z z′ f m n u =
+    let h = flushed z (Is f) z′ (mode-sets (z .rec .mode) (m .good .tidy .sizes .legalMode) n) u in
+    let s = matches-quiet z f m z′ (quiet-step z (Is f) z′ (u .step)) in
+    let le = s .good .tidy .sizes .extLength in let hi = s .ext in
+    record {
+      same = ext-getD 0 (z′ .ext) (f .ext) (le ∙ sym hi)
+          (λ i k. let j : externalBase + i - externalBase ≡ i = omega arith in
+          h .extRight i (omega arith) ∙ (rw j at (memory-high (f .sram) (f .ext) (externalBase + i) (omega arith))));
+      l1dClean = λ s w k b. absurd (h .l1dNone s w k b);
+      l2Clean = h .l2Clean;
+    }
+
+global-settles : (c : Command) (z : State) (f : Flat) → Matches z f → z .rec .mode ≢ 0 → global c ≡ true → Settled (step c z .next) (flatStep c f .next)
+unfolding step commandDue accepted commandState flatStep
+global-settles c z f m n =
+    let a = c .first in let b = c .second in let v = c .value in
+    let not-global : (k : ℕ) → global (command k a b v) ≡ false → global (command k a b v) ≡ true → Settled (step (command k a b v) z .next) (flatStep (command k a b v) f .next) =
+    λ k e y. false-true (sym e ∙ y) in
+    codes (λ (k : ℕ). global (command k a b v) ≡ true → Settled (step (command k a b v) z .next) (flatStep (command k a b v) f .next))
+    (not-global 0 refl) (not-global 1 refl)
+    (λ _. settles z (l2WritebackAll z) f m n (l2WritebackAll-good z (Is f) (m .good)))
+    (λ _. settles z (l2WritebackInvalidateAll z) f m n (l2WritebackInvalidateAll-good z (Is f) (m .good)))
+    (not-global 4 refl) (not-global 5 refl) (not-global 6 refl) (not-global 7 refl) (not-global 8 refl) (not-global 9 refl) (not-global 10 refl) (not-global 11 refl)
+    (λ k h. not-global k (rw (ne-eqb k 2 (omega arith), ne-eqb k 3 (omega arith)) refl))
+    (c .code)
+
+-- ---- along a list
+pub agree : (cs : List Command) (mode : ℕ) (z : State) (f : Flat) → Matches z f → z .rec .mode ≡ mode → listed cs ≡ true → Agree mode cs z f
+unfolding listed
+agree [] mode z f m e y = end
+agree (c ∷ cs) mode z f m e y =
+    let p = both-true (listedCode (c .code)) (listed cs) y in
+    let s = call-step c z (good-well z (Is f) (m .good)) in
+    let r = step-answered c z f m (p .0) in
+    let here : AgreesAt mode c z f =
+    record {
+      number = λ k. rw s (r .number k);
+      value = λ k. rw s (r .value k);
+      settled = λ k _ n. rw s (global-settles c z f m (λ i. n (sym e ∙ i)) k);
+    } in
+    let rest : Agree (modeAfter c (call c z) mode) cs (call c z .next) (flatStep c f .next) =
+    rw s (agree cs (modeAfter c (step c z) mode) (step c z .next) (flatStep c f .next) (r .matches)
+    (r .mode ∙ ap (λ (k : ℕ). modeAfter c (step c z) k) e) (p .1)) in
+    next here rest
+
+-- ---- the fresh start
+pub fresh-matches : (l : ℕ) (e : List ℕ) → legalL2 l ≡ true → legalExternal (length e) ≡ true → Matches (freshState l e) (freshFlat l e)
+unfolding freshState freshRecord freshFlat cacheSize isMode
+fresh-matches l e hl he =
+    let n = length-replicate {A = ℕ} l 0 in
+    let p = legalL2-tells l hl in
+    let x = legalExternal-tells (length e) he in
+    record {
+      good = fresh-good (freshState l e) (Is (freshFlat l e)) refl refl
+          (record {
+            l1dLength = length-replicate {A = ℕ} 16384 0;
+            l2Length = n;
+            extLength = refl;
+            l2Least = p .0;
+            l2Most = p .1;
+            l2Whole = p .2;
+            extLeast = x .0;
+            extMost = x .1;
+            extWhole = x .2;
+            legalMode = refl;
+            cacheMost = omega arith;
+          })
+          (λ a _. refl);
+      l2len = refl;
+      sram = omega arith;
+      ext = refl;
+    }
+
+fresh-mode : (l : ℕ) (e : List ℕ) → freshState l e .rec .mode ≡ 0
+unfolding freshState freshRecord
+fresh-mode l e = refl
+
+-- ---- demand 3
+pub demand3 : Demand3
+demand3 l e hl he cs y = agree cs 0 (freshState l e) (freshFlat l e) (fresh-matches l e hl he) (fresh-mode l e) y
+
+-- the same from the call itself: a fresh start that was accepted, whatever bytes L1D and L2 were lent with
+fresh-accepted : (d m e : List ℕ) → freshCall d m e .number ≡ 0 → (legalL2 (length m) ≡ true) × (legalExternal (length e) ≡ true) × (freshCall d m e .next ≡ freshState (length m) e)
+unfolding freshCall freshOk
+fresh-accepted d m e =
+    let ok = freshOk d m e in
+    pick-elim (λ (r : Reply). r .number ≡ 0 → (legalL2 (length m) ≡ true) × (legalExternal (length e) ≡ true) × (r .next ≡ freshState (length m) e)) ok
+    (carriedOut (freshState (length m) e)) (refused 1 (state (freshRecord 32768 128) d m e))
+    (λ t _. let p = both-true (eqb (length d) l1dLength) (both (legalL2 (length m)) (legalExternal (length e))) t in
+    let q = both-true (legalL2 (length m)) (legalExternal (length e)) (p .1) in
+    (q .0, q .1, refl))
+    (λ _ h. absurd (omega arith))
+
+pub demand3-started : (d m e : List ℕ) → freshCall d m e .number ≡ 0 → (cs : List Command) → listed cs ≡ true →
+    Agree 0 cs (freshCall d m e .next) (freshFlat (length m) e)
+demand3-started d m e h cs y = let p = fresh-accepted d m e h in let s = p .2 in rw s (demand3 (length m) e (p .0) (p .1) cs y)
+
+-- and the fresh state is well formed
+pub fresh-well : (l : ℕ) (e : List ℕ) → legalL2 l ≡ true → legalExternal (length e) ≡ true → Well (freshState l e)
+fresh-well l e hl he = good-well (freshState l e) (Is (freshFlat l e)) (fresh-matches l e hl he .good)

@@ -1,0 +1,229 @@
+-- A change of the mode, a change of a MAR bit, and the fresh start. Shown: each leaves (or makes) a good state.
+-- Why: with every set fresh no line holds anything, so only the memories count (`fresh-good`). Before a mode change nothing is valid in L1D and nothing dirty
+-- in L2, so the memories are right; SRAM keeps its bytes below the smaller of old and new S and is zero from there on, as flat memory's. A MAR bit becomes 0 only
+-- where no line of its 16 MiB is held, so that every line held keeps its bit.
+use Prim.Native.Nat.{ℕ, zero, suc, _+_, _-_, _/_, _≤_, _<_}
+use mathlib.Core.Bool.{true, false}
+use mathlib.Core.Path.{_≡_, refl, sym, ap, _∙_}
+use mathlib.Core.Logic.{_≢_, _⊎_, ⊎-elim}
+use mathlib.Core.List.{List, _++_}
+use native.Mathlib.Omega.{arith}
+use native.Mathlib.Nat.{add-sub-of-le}
+use lib.ListN.{length, getD, take, replicate, length-append, length-replicate, getD-replicate, List·getD-eq-default, List·getD-append}
+use lib.Seq.{getD-take, getD-append-add, length-take-le}
+use lib.Dec.{ltb, leb, eqb}
+use borrow.Author.Tests.{ltb-true, ltb-false, leb-true, leb-false, eq-eqb, eqb-true}
+use Rattle.model.specs.Basics.{any, bool, false-true}
+use Rattle.model.specs.Bytes.{zeroFrom}
+use Rattle.model.specs.Memories.{externalBase, cacheSize, isMode, sramLength}
+use Rattle.model.specs.Lines.{emptyLine, Permutation2, Permutation4}
+use Rattle.model.specs.Records.{State, sramOf, marBit, noL2Set, l1dLineAt, l2LineAt, freshL1dSet, freshL2Set}
+use Rattle.model.specs.Modes.{smaller, newMode, changeMar, inRange, holdsRange}
+use Rattle.model.specs.declared.Line.{Line}
+use Rattle.model.specs.declared.L1dSet.{L1dSet}
+use Rattle.model.specs.declared.L2Set.{L2Set}
+use Rattle.model.specs.declared.Record.{Record}
+use Rattle.model.proofs.Level.{Valid, NoDirty}
+use Rattle.model.proofs.Invariant.{Allowed, carry, Inside}
+use Rattle.model.proofs.Tables.{l1dKind, l2Kind, fresh-line, fresh-table, none-found}
+use Rattle.model.proofs.Memory.{memory-low, memory-high}
+use Rattle.model.proofs.Good.{layoutOf, l1dLevel, l2Level, memoryOf, Sizes, sizes-new, Good}
+
+-- ---- bytes set zero from k on
+module _ (k : ℕ) (m : List ℕ) (n : ℕ) (hk : k ≤ length m) (hn : k ≤ n) where
+  front : length (take k m) ≡ k
+  front = length-take-le k m hk
+
+  pub zero-length : length (zeroFrom k m n) ≡ n
+  unfolding zeroFrom
+  zero-length = let f = front in let r = length-replicate {A = ℕ} (n - k) 0 in length-append (take k m) (replicate (n - k) 0) ∙ omega arith
+
+  pub zero-below : (i : ℕ) → i < k → getD (zeroFrom k m n) i 0 ≡ getD m i 0
+  unfolding zeroFrom
+  zero-below i h = let f = front in List·getD-append (take k m) (replicate (n - k) 0) 0 i (omega arith) ∙ getD-take k m i 0 h
+
+  pub zero-above : (i : ℕ) → k ≤ i → getD (zeroFrom k m n) i 0 ≡ 0
+  unfolding zeroFrom
+  zero-above i h =
+      let f = front in
+      let h′ : length (take k m) ≤ i = omega arith in
+      ap (λ (j : ℕ). getD (take k m ++ replicate (n - k) 0) j 0) (sym (add-sub-of-le h′))
+      ∙ getD-append-add (take k m) (replicate (n - k) 0) (i - length (take k m)) 0
+      ∙ zeros (n - k) (i - length (take k m))
+    where
+      zeros : (n j : ℕ) → _≡_ {A = ℕ} (getD (replicate n 0) j 0) 0
+      zeros n j =
+          bool (ltb j n) (λ t. getD-replicate n j 0 0 (ltb-true j n t))
+          (λ t. let t′ = ltb-false j n t in let l = length-replicate {A = ℕ} n 0 in List·getD-eq-default (replicate n 0) 0 {n = j} (omega arith))
+
+pub smaller-bound : (a b : ℕ) → (smaller a b ≤ a) × (smaller a b ≤ b)
+unfolding smaller
+smaller-bound a b =
+    bool (leb a b)
+    (λ t. let h = leb-true a b t in rw t (omega arith, h))
+    (λ t. let h = leb-false a b t in rw t (omega arith, omega arith))
+
+-- ---- a fresh set holds nothing, and its order is a permutation
+l1d-fresh : (w : ℕ) → getD (freshL1dSet .lines) w emptyLine ≡ emptyLine
+l1d-fresh zero = refl
+l1d-fresh (suc zero) = refl
+l1d-fresh (suc (suc w)) = refl
+
+pub l2-fresh : (w : ℕ) → getD (freshL2Set .lines) w emptyLine ≡ emptyLine
+l2-fresh zero = refl
+l2-fresh (suc zero) = refl
+l2-fresh (suc (suc zero)) = refl
+l2-fresh (suc (suc (suc zero))) = refl
+l2-fresh (suc (suc (suc (suc w)))) = refl
+
+l1d-fresh-order : Permutation2 (freshL1dSet .order)
+l1d-fresh-order = record { below1 = omega arith; below2 = omega arith; apart = λ e. absurd (omega arith) }
+
+l2-fresh-order : Permutation4 (freshL2Set .order)
+l2-fresh-order =
+    record {
+      below1 = omega arith;
+      below2 = omega arith;
+      below3 = omega arith;
+      below4 = omega arith;
+      apart12 = λ e. absurd (omega arith);
+      apart13 = λ e. absurd (omega arith);
+      apart14 = λ e. absurd (omega arith);
+      apart23 = λ e. absurd (omega arith);
+      apart24 = λ e. absurd (omega arith);
+      apart34 = λ e. absurd (omega arith);
+    }
+
+-- ---- a state with fresh sets is good where the memories are right
+pub fresh-good : (z : State) (F : Allowed) → z .rec .l1d ≡ replicate 128 freshL1dSet → z .rec .l2 ≡ replicate 512 freshL2Set →
+    Sizes (z .rec .l2len) (z .rec .extlen) (z .rec .mode) (z .l1d) (z .l2) (z .ext) →
+    ((a : ℕ) → Inside (layoutOf (z .rec)) a → F a (memoryOf z a)) → Good z F
+fresh-good z F e₁ e₂ sizes h =
+    let v₁ : (s w : ℕ) → l1dLineAt (z .rec) s w .valid ≡ false = λ s w. rw e₁ (ap (λ (l : Line). l .valid) (fresh-line l1dKind freshL1dSet 128 l1d-fresh s w)) in
+    let v₂ : (s w : ℕ) → l2LineAt (z .rec) s w .valid ≡ false = λ s w. rw e₂ (ap (λ (l : Line). l .valid) (fresh-line l2Kind freshL2Set 512 l2-fresh s w)) in
+    record {
+      tidy = record {
+        sizes = sizes;
+        l1d = rw e₁ (fresh-table l1dKind freshL1dSet 128 l1d-fresh refl refl l1d-fresh-order);
+        l2 = rw e₂ (fresh-table l2Kind freshL2Set 512 l2-fresh refl refl l2-fresh-order);
+        idle = λ t k _. rw e₂ (getD-replicate 512 t freshL2Set noL2Set k);
+      };
+      inv = record {
+        l1dSound = record { once = λ s w s′ w′ k. false-true (sym (v₁ s w) ∙ k); place = λ s w k. false-true (sym (v₁ s w) ∙ k) };
+        l2Sound = record { once = λ s w s′ w′ k. false-true (sym (v₂ s w) ∙ k); place = λ s w k. false-true (sym (v₂ s w) ∙ k) };
+        inclusion = λ s w k. false-true (sym (v₁ s w) ∙ k);
+        l1dRight = λ s w k. false-true (sym (v₁ s w) ∙ k);
+        l2Right = λ s w k. false-true (sym (v₂ s w) ∙ k);
+        memoryRight = λ a l _ _. h a l;
+      };
+    }
+
+-- ---- a mode change, once everything has gone out: F′ is F with SRAM kept below the smaller S and zero from there on
+module _ (z : State) (F F′ : Allowed) (q : Good z F) (m : ℕ) (ok : isMode m ≡ true) (hm : cacheSize m ≤ z .rec .l2len)
+    (l1dNone : (s w : ℕ) → Valid (l1dLevel z) s w → ⊥) (l2Clean : (t v : ℕ) → Valid (l2Level z) t v → l2LineAt (z .rec) t v .dirty ≡ false)
+    (below : (a : ℕ) → a < externalBase → a < smaller (sramOf (z .rec)) (sramLength (z .rec .l2len) m) → (c : ℕ) → F a c → F′ a c)
+    (zeros : (a : ℕ) → a < externalBase → smaller (sramOf (z .rec)) (sramLength (z .rec .l2len) m) ≤ a → F′ a 0)
+    (above : (a : ℕ) → externalBase ≤ a → (c : ℕ) → F a c → F′ a c) where
+  pub newMode-good : Good (newMode m z) F′
+  unfolding newMode
+  newMode-good =
+      let h = q .tidy .sizes in
+      let l = z .rec .l2len in
+      let k = smaller (sramOf (z .rec)) (sramLength l m) in
+      let kb = smaller-bound (sramOf (z .rec)) (sramLength l m) in
+      let k₀ = kb .0 in let k₁ = kb .1 in
+      let n = h .l2Length in let cm = h .cacheMost in
+      let l′ = zeroFrom k (z .l2) (length (z .l2)) in
+      let hk : k ≤ length (z .l2) = omega arith in
+      let c₁ : (a : ℕ) → NoDirty 64 (l1dLevel z) a = λ a s w i _ _. l1dNone s w i in
+      let c₂ : (a : ℕ) → NoDirty 128 (l2Level z) a = λ a t v i d _. false-true (sym (l2Clean t v i) ∙ d) in
+      fresh-good (newMode m z) F′ refl refl
+      (sizes-new h m ok hm (z .l1d) l′ (z .ext) refl (zero-length k (z .l2) (length (z .l2)) hk hk) refl)
+      (λ a i. bool (ltb a externalBase)
+      (λ t. let b = ltb-true a externalBase t in
+      bool (ltb a k)
+      (λ y. let y′ = ltb-true a k y in
+      carry F′ (memory-low l′ (z .ext) a b ∙ zero-below k (z .l2) (length (z .l2)) hk hk a y′ ∙ sym (memory-low (z .l2) (z .ext) a b))
+      (below a b y′ (memoryOf z a) (q .inv .memoryRight a (record { low = λ _. omega arith; high = λ g. absurd (omega arith) }) (c₁ a) (c₂ a))))
+      (λ y. let y′ = ltb-false a k y in carry F′ (memory-low l′ (z .ext) a b ∙ zero-above k (z .l2) (length (z .l2)) hk hk a y′) (zeros a b y′)))
+      (λ t. let b = ltb-false a externalBase t in
+      carry F′ (memory-high l′ (z .ext) a b ∙ sym (memory-high (z .l2) (z .ext) a b))
+      (above a b (memoryOf z a) (q .inv .memoryRight a (record { low = λ g. absurd (omega arith); high = i .high }) (c₁ a) (c₂ a)))))
+
+-- ---- a MAR change
+module _ (n : ℕ) (r : Record) (h : holdsRange n r ≡ false) where
+  l1d-range : any (λ (v : L1dSet). any (inRange n) (v .lines)) (r .l1d) ≡ false
+  unfolding holdsRange
+  l1d-range = bool (any (λ (v : L1dSet). any (inRange n) (v .lines)) (r .l1d)) (λ t. false-true (sym (rw t at h))) (λ t. t)
+
+  l2-range : any (λ (v : L2Set). any (inRange n) (v .lines)) (r .l2) ≡ false
+  unfolding holdsRange
+  l2-range = rw l1d-range at h
+
+  l1d-none : (s w : ℕ) → inRange n (l1dLineAt r s w) ≡ false
+  unfolding inRange
+  l1d-none = none-found l1dKind (r .l1d) (inRange n) refl l1d-range
+
+  l2-none : (s w : ℕ) → inRange n (l2LineAt r s w) ≡ false
+  unfolding inRange
+  l2-none = none-found l2Kind (r .l2) (inRange n) refl l2-range
+
+outside-range : (n : ℕ) (l : Line) → inRange n l ≡ false → l .valid ≡ true → l .address / 16777216 ≢ n
+unfolding inRange
+outside-range n l h v e = false-true (sym (rw (v, eq-eqb (l .address / 16777216) n e) at h))
+
+-- every line that is held keeps its bit
+module _ (z : State) (F : Allowed) (q : Good z F) (n b : ℕ) (allowed : (b ≡ 1) ⊎ (holdsRange n (z .rec) ≡ false)) where
+  keeps-bit : (l : Line) → l .valid ≡ true → externalBase ≤ l .address → l .address < externalBase + 33554432 →
+      (holdsRange n (z .rec) ≡ false → inRange n l ≡ false) → marBit (z .rec) (l .address) ≡ true → marBit (changeMar n b z .rec) (l .address) ≡ true
+  unfolding changeMar marBit
+  keeps-bit l v lo hi none e =
+      bool (ltb (l .address) 2164260864)
+      (λ t. let t′ = ltb-true (l .address) 2164260864 t in
+      rw t (bool (eqb n 128)
+      (λ y. let y′ = eqb-true n 128 y in rw y (⊎-elim (λ c. rw c refl) (λ c. absurd (outside-range n l (none c) v (omega arith))) allowed))
+      (λ y. rw y (rw t at e))))
+      (λ t. let t′ = ltb-false (l .address) 2164260864 t in
+      rw t (bool (eqb n 129)
+      (λ y. let y′ = eqb-true n 129 y in rw y (⊎-elim (λ c. rw c refl) (λ c. absurd (outside-range n l (none c) v (omega arith))) allowed))
+      (λ y. rw y (rw t at e))))
+
+  pub changeMar-good : Good (changeMar n b z) F
+  unfolding changeMar
+  changeMar-good =
+      let h = q .tidy in let v = q .inv in let mx = h .sizes .extMost in
+      record {
+        tidy = record { sizes = h .sizes; l1d = h .l1d; l2 = h .l2; idle = h .idle };
+        inv = record {
+          l1dSound = record {
+            once = v .l1dSound .once;
+            place = λ s w k. let p = v .l1dSound .place s w k in
+                record {
+                  aligned = p .aligned;
+                  ownSet = p .ownSet;
+                  way = p .way;
+                  low = p .low;
+                  high = p .high;
+                  marSet = λ g. let hh = p .high g in
+                      keeps-bit (l1dLineAt (z .rec) s w) k g (omega arith) (λ c. l1d-none n (z .rec) c s w) (p .marSet g);
+                };
+          };
+          l2Sound = record {
+            once = v .l2Sound .once;
+            place = λ s w k. let p = v .l2Sound .place s w k in let hh = p .high in
+                record {
+                  aligned = p .aligned;
+                  ownSet = p .ownSet;
+                  setUsed = p .setUsed;
+                  way = p .way;
+                  low = p .low;
+                  high = p .high;
+                  marSet = keeps-bit (l2LineAt (z .rec) s w) k (p .low) (omega arith) (λ c. l2-none n (z .rec) c s w) (p .marSet);
+                };
+          };
+          inclusion = v .inclusion;
+          l1dRight = v .l1dRight;
+          l2Right = v .l2Right;
+          memoryRight = λ a l. v .memoryRight a (record { low = l .low; high = l .high });
+        };
+      }

@@ -1,0 +1,244 @@
+-- A trace of whole commands, and traces cut at command boundaries. Shown: a run over a trace of whole commands, with answer bytes for all, carries out just these
+-- (`whole-carried`); the pieces of such a trace, cut at command boundaries, carry out the same commands as the trace in one piece (`pieces-carried`,
+-- `pieces-whole`), so that by `run-calls` each answer is the same, and leave the same state (`cut-anywhere`), on every well-formed state and for every code.
+-- Why: reading a command looks at its own bytes only (`decode-stable`), and takes one at least.
+use Prim.Native.Nat.{ℕ, zero, suc, _+_, _*_, _-_, _≤_, _<_}
+use mathlib.Core.Bool.{true}
+use mathlib.Core.Path.{_≡_, refl, sym, ap, _∙_, subst}
+use mathlib.Core.List.{List, [], _∷_, _++_}
+use native.Mathlib.Omega.{arith}
+use lib.ListN.{length, drop, length-drop}
+use lib.Seq.{drop-append-le, drop-drop}
+use lib.Dec.{ltb, leb, eqb}
+use borrow.Author.Tests.{lt-ltb, le-ltb, le-leb}
+use Rattle.model.specs.Basics.{both, either, bool, false-true, both-true}
+use Rattle.model.specs.Trace.{Number, moreGroups, groups, numberBelow, number32, number64, Decoded, oneNumber, secondNumber, twoNumbers, valueNumber, threeNumbers, decodeAfter, decode}
+use Rattle.model.specs.declared.Command.{Command}
+use Rattle.model.specs.Records.{State}
+use Rattle.model.specs.Calls.{call, runCall}
+use Rattle.model.proofs.Good.{Well}
+use Rattle.model.proofs.Tested.{call-well}
+use Rattle.model.proofs.Traces.{carriedFrom, carried, after, Piece, pieceCommands, allCommands}
+use Rattle.model.proofs.TraceAgreement.{run-calls}
+
+-- ---- numbers: a number that is read stays the same whatever stands behind it, and lies in what was read
+record NumberStable (f : List ℕ → Number) (xs ys : List ℕ) : Type 0 where
+  same : f (xs ++ ys) ≡ f xs
+  inside : f xs .used ≤ length xs
+
+more-stable : (xs ys : List ℕ) → moreGroups xs .ok ≡ true → NumberStable moreGroups xs ys
+unfolding moreGroups
+more-stable [] ys h = false-true h
+more-stable (b ∷ bs) ys h =
+    bool (ltb b 128)
+    (λ t. bool (eqb b 0)
+    (λ u. false-true (rw (t, u) at h))
+    (λ u. record { same = rw (t, u) refl; inside = rw (t, u) (omega arith) }))
+    (λ t. bool (moreGroups bs .ok)
+    (λ u. let r = more-stable bs ys u in let s = r .same in let i = r .inside in
+    record { same = rw (t, s, u) refl; inside = rw (t, u) (omega arith) })
+    (λ u. false-true (rw (t, u) at h)))
+
+groups-stable : (xs ys : List ℕ) → groups xs .ok ≡ true → NumberStable groups xs ys
+unfolding groups
+groups-stable [] ys h = false-true h
+groups-stable (b ∷ bs) ys h =
+    bool (ltb b 128)
+    (λ t. record { same = rw t refl; inside = rw t (omega arith) })
+    (λ t. bool (moreGroups bs .ok)
+    (λ u. let r = more-stable bs ys u in let s = r .same in let i = r .inside in
+    record { same = rw (t, s, u) refl; inside = rw (t, u) (omega arith) })
+    (λ u. false-true (rw (t, u) at h)))
+
+below-stable : (limit : ℕ) (xs ys : List ℕ) → numberBelow limit xs .ok ≡ true → NumberStable (numberBelow limit) xs ys
+unfolding numberBelow
+below-stable limit xs ys h =
+    bool (both (groups xs .ok) (ltb (groups xs .value) limit))
+    (λ t. let r = groups-stable xs ys (both-true (groups xs .ok) (ltb (groups xs .value) limit) t .0) in
+    let s = r .same in let i = r .inside in
+    record { same = rw (s, t) refl; inside = rw t i })
+    (λ t. false-true (rw t at h))
+
+-- ---- commands: used counts k bytes that stand before xs
+record CommandStable (f : List ℕ → Decoded) (k : ℕ) (xs ys : List ℕ) : Type 0 where
+  same : f (xs ++ ys) ≡ f xs
+  least : k ≤ f xs .used
+  most : f xs .used ≤ k + length xs
+
+one-stable : (c : ℕ) (xs ys : List ℕ) → oneNumber c xs .ok ≡ true → CommandStable (oneNumber c) 1 xs ys
+unfolding oneNumber
+one-stable c xs ys h =
+    bool (number32 xs .ok)
+    (λ t. let r = below-stable 4294967296 xs ys t in let s = r .same in let i = r .inside in
+    record { same = rw (s, t) refl; least = rw t (omega arith); most = rw t (omega arith) })
+    (λ t. false-true (rw t at h))
+
+second-stable : (c a k : ℕ) (xs ys : List ℕ) → secondNumber c a k xs .ok ≡ true → CommandStable (secondNumber c a k) k xs ys
+unfolding secondNumber
+second-stable c a k xs ys h =
+    bool (number32 xs .ok)
+    (λ t. let r = below-stable 4294967296 xs ys t in let s = r .same in let i = r .inside in
+    record { same = rw (s, t) refl; least = rw t (omega arith); most = rw t (omega arith) })
+    (λ t. false-true (rw t at h))
+
+two-stable : (c : ℕ) (xs ys : List ℕ) → twoNumbers c xs .ok ≡ true → CommandStable (twoNumbers c) 1 xs ys
+unfolding twoNumbers
+two-stable c xs ys h =
+    bool (number32 xs .ok)
+    (λ t. let r = below-stable 4294967296 xs ys t in let s = r .same in let i = r .inside in
+    let u = number32 xs .used in
+    let q = second-stable c (number32 xs .value) (1 + u) (drop u xs) ys (rw t at h) in
+    let q₀ = q .same in let q₁ = q .least in let q₂ = q .most in let l = length-drop u xs in
+    record { same = rw (s, t, drop-append-le u xs ys i, q₀) refl; least = rw t (omega arith); most = rw t (omega arith) })
+    (λ t. false-true (rw t at h))
+
+value-stable : (d : Decoded) (xs ys : List ℕ) → valueNumber d xs .ok ≡ true → CommandStable (valueNumber d) (d .used) xs ys
+unfolding valueNumber
+value-stable d xs ys h =
+    bool (number64 xs .ok)
+    (λ t. let r = below-stable 18446744073709551616 xs ys t in let s = r .same in let i = r .inside in
+    record { same = rw (s, t) refl; least = rw t (omega arith); most = rw t (omega arith) })
+    (λ t. false-true (rw t at h))
+
+three-stable : (c : ℕ) (xs ys : List ℕ) → threeNumbers c xs .ok ≡ true → CommandStable (threeNumbers c) 1 xs ys
+unfolding threeNumbers twoNumbers
+three-stable c xs ys h =
+    bool (twoNumbers c xs .ok)
+    (λ t. let r = two-stable c xs ys t in let s = r .same in let a = r .least in let b = r .most in
+    let u = twoNumbers c xs .used - 1 in
+    let i : u ≤ length xs = omega arith in
+    let q = value-stable (twoNumbers c xs) (drop u xs) ys (rw t at h) in
+    let q₀ = q .same in let q₁ = q .least in let q₂ = q .most in let l = length-drop u xs in
+    record { same = rw (s, t, drop-append-le u xs ys i, q₀) refl; least = rw t (omega arith); most = rw t (omega arith) })
+    (λ t. false-true (rw t at h))
+
+after-stable : (c : ℕ) (xs ys : List ℕ) → decodeAfter c xs .ok ≡ true → CommandStable (decodeAfter c) 1 xs ys
+unfolding decodeAfter
+after-stable c xs ys h =
+    bool (eqb c 1)
+    (λ t. let r = three-stable c xs ys (rw t at h) in record { same = rw t (r .same); least = rw t (r .least); most = rw t (r .most) })
+    (λ t. bool (either (eqb c 0) (either (both (leb 4 c) (leb c 8)) (eqb c 11)))
+    (λ u. let r = two-stable c xs ys (rw (t, u) at h) in record { same = rw (t, u) (r .same); least = rw (t, u) (r .least); most = rw (t, u) (r .most) })
+    (λ u. bool (eqb c 10)
+    (λ v. let r = one-stable c xs ys (rw (t, u, v) at h) in
+    record { same = rw (t, u, v) (r .same); least = rw (t, u, v) (r .least); most = rw (t, u, v) (r .most) })
+    (λ v. bool (either (eqb c 2) (either (eqb c 3) (eqb c 9)))
+    (λ w. record { same = rw (t, u, v, w) refl; least = rw (t, u, v, w) (omega arith); most = rw (t, u, v, w) (omega arith) })
+    (λ w. false-true (rw (t, u, v, w) at h)))))
+
+-- ---- a command that is read stays the same whatever stands behind it; it takes a byte at least, and none behind what was read
+pub record Read (t : List ℕ) : Type 0 where
+  pub same : (ys : List ℕ) → decode (t ++ ys) ≡ decode t
+  pub least : 1 ≤ decode t .used
+  pub most : decode t .used ≤ length t
+
+pub decode-stable : (t : List ℕ) → decode t .ok ≡ true → Read t
+unfolding decode
+decode-stable [] h = false-true h
+decode-stable (c ∷ xs) h =
+    let r = after-stable c xs [] h in let a = r .most in
+    record { same = λ ys. after-stable c xs ys h .same; least = r .least; most = omega arith }
+
+-- ---- a trace of whole commands
+pub data Whole : List ℕ → List Command → Type 0 where
+  none : Whole [] []
+  one : {t : List ℕ} {cs : List Command} → decode t .ok ≡ true → Whole (drop (decode t .used) t) cs → Whole t (decode t .found ∷ cs)
+
+whole-more : (t : List ℕ) (d : Decoded) (cs : List Command) → decode t ≡ d → d .ok ≡ true → Whole (drop (d .used) t) cs → Whole t (d .found ∷ cs)
+whole-more t d cs e h w = subst (λ (x : Decoded). x .ok ≡ true → Whole (drop (x .used) t) cs → Whole t (x .found ∷ cs)) e (λ k w′. one k w′) h w
+
+pub whole-append : {t : List ℕ} {cs : List Command} → Whole t cs → (u : List ℕ) (ds : List Command) → Whole u ds → Whole (t ++ u) (cs ++ ds)
+whole-append none u ds w = w
+whole-append (one {t} {cs} h r) u ds w =
+    let s = decode-stable t h in
+    let m = s .most in
+    let q : Whole (drop (decode t .used) (t ++ u)) (cs ++ ds) = rw (drop-append-le (decode t .used) t u m) (whole-append r u ds w) in
+    whole-more (t ++ u) (decode t) (cs ++ ds) (s .same u) h q
+
+-- ---- a run over it carries out just its commands
+carried-end : (source : ℕ → Decoded) (end room turns i k : ℕ) → end ≤ i → carriedFrom source end room turns i k ≡ []
+unfolding carriedFrom
+carried-end source end room zero i k h = refl
+carried-end source end room (suc turns) i k h = rw (le-ltb i end h) refl
+
+carried-more : (source : ℕ → Decoded) (end room turns i k : ℕ) → i < end → source i .ok ≡ true → k * 10 + 10 ≤ room →
+    carriedFrom source end room (suc turns) i k ≡ source i .found ∷ carriedFrom source end room turns (i + source i .used) (suc k)
+unfolding carriedFrom
+carried-more source end room turns i k h o f = rw (lt-ltb i end h, o, le-leb (k * 10 + 10) room f) refl
+
+whole-from : {u : List ℕ} {cs : List Command} → Whole u cs → (t : List ℕ) (room turns i k : ℕ) → u ≡ drop i t → length t ≤ i + turns → (k + length cs) * 10 ≤ room →
+    carriedFrom (λ j. decode (drop j t)) (length t) room turns i k ≡ cs
+whole-from none t room turns i k e n f =
+    let l : length (drop i t) ≡ 0 = ap length (sym e) in let d = length-drop i t in
+    carried-end (λ j. decode (drop j t)) (length t) room turns i k (omega arith)
+whole-from (one {t = u} {cs = cs} h r) t room zero i k e n f =
+    let s = decode-stable u h in let a = s .least in let b = s .most in
+    let l : length u ≡ length (drop i t) = ap length e in let d = length-drop i t in absurd (omega arith)
+whole-from (one {t = u} {cs = cs} h r) t room (suc turns) i k e n f =
+    let s = decode-stable u h in let a = s .least in let b = s .most in
+    let l : length u ≡ length (drop i t) = ap length e in let d = length-drop i t in
+    let source : ℕ → Decoded = λ j. decode (drop j t) in
+    let same : decode u ≡ decode (drop i t) = ap decode e in
+    let next : drop (decode u .used) u ≡ drop (i + decode u .used) t =
+    ap (λ (x : List ℕ). drop (decode u .used) x) e ∙ drop-drop (decode u .used) i t in
+    let rest = whole-from r t room turns (i + decode u .used) (suc k) next (omega arith) (omega arith) in
+    carried-more source (length t) room turns i k (omega arith) (ap (λ (x : Decoded). x .ok) (sym same) ∙ h) (omega arith)
+    ∙ ap (λ (x : Decoded). x .found ∷ carriedFrom source (length t) room turns (i + x .used) (suc k)) (sym same)
+    ∙ ap (λ (x : List Command). decode u .found ∷ x) rest
+
+pub whole-carried : {t : List ℕ} {cs : List Command} → Whole t cs → (room : ℕ) → length cs * 10 ≤ room → carried t room ≡ cs
+unfolding carried
+whole-carried {t} {cs} w room f = whole-from w t room (length t) 0 0 refl (omega arith) (omega arith)
+
+-- ---- a trace of whole commands in pieces, cut at command boundaries, each piece with answer bytes for its commands
+pub data WholePieces : List Piece → List Command → Type 0 where
+  none : WholePieces [] []
+  piece : {p : Piece} {ps : List Piece} {cs ds : List Command} → Whole (p .trace) cs → length cs * 10 ≤ length (p .answers) → WholePieces ps ds →
+      WholePieces (p ∷ ps) (cs ++ ds)
+
+-- the pieces put together again, and the state after a run over each
+unfoldable pub joined : List Piece → List ℕ
+joined [] = []
+joined (p ∷ ps) = p .trace ++ joined ps
+
+unfoldable pub runAll : List Piece → State → State
+runAll [] z = z
+runAll (p ∷ ps) z = runAll ps (runCall (p .trace) (p .answers) z .next)
+
+-- they carry out the commands of the whole
+pub pieces-carried : {ps : List Piece} {cs : List Command} → WholePieces ps cs → allCommands ps ≡ cs
+unfolding allCommands
+pieces-carried none = refl
+pieces-carried (piece {p} {ps} {cs} {ds} w f r) = let a = whole-carried w (length (p .answers)) f in let b = pieces-carried r in rw (a, b) refl
+
+pub pieces-whole : {ps : List Piece} {cs : List Command} → WholePieces ps cs → Whole (joined ps) cs
+unfolding joined
+pieces-whole none = none
+pieces-whole (piece {p} {ps} {cs} {ds} w f r) = whole-append w (joined ps) ds (pieces-whole r)
+
+after-append : (cs ds : List Command) (z : State) → after (cs ++ ds) z ≡ after ds (after cs z)
+unfolding after
+after-append [] ds z = refl
+after-append (c ∷ cs) ds z = after-append cs ds (call c z .next)
+
+after-well : (cs : List Command) (z : State) → Well z → Well (after cs z)
+unfolding after
+after-well [] z w = w
+after-well (c ∷ cs) z w = after-well cs (call c z .next) (call-well c z w)
+
+runs-state : (ps : List Piece) (z : State) → Well z → runAll ps z ≡ after (allCommands ps) z
+unfolding runAll allCommands after
+runs-state [] z w = refl
+runs-state (p ∷ ps) z w =
+    let e = run-calls (p .trace) (p .answers) z w .next in
+    let h = runs-state ps (after (pieceCommands p) z) (after-well (pieceCommands p) z w) in
+    rw e (h ∙ sym (after-append (pieceCommands p) (allCommands ps) z))
+
+-- the run over the whole and the runs over the pieces leave the same record and the same memories
+pub cut-anywhere : {ps : List Piece} {cs : List Command} → WholePieces ps cs → (o : List ℕ) → length cs * 10 ≤ length o → (z : State) → Well z →
+    runCall (joined ps) o z .next ≡ runAll ps z
+cut-anywhere {ps} {cs} w o f z h =
+    let a = run-calls (joined ps) o z h .next in
+    let b = whole-carried (pieces-whole w) (length o) f in
+    let c = pieces-carried w in
+    a ∙ ap (λ (x : List Command). after x z) (b ∙ sym c) ∙ sym (runs-state ps z h)

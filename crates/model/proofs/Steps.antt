@@ -1,0 +1,163 @@
+-- One command by its code: what `step` does to a good state. Shown: the commands that flat memory does not see (2 to 5, 7, 11), carried out or refused, leave the
+-- state good by the same F with L, E and the mode as they were; and every command, of any code, leaves a well-formed state (`step-well`).
+-- Why: the lemmas of the single commands, and a refused command changes nothing. At a written-out code the definitions of `step` compute.
+use Prim.Native.Nat.{ℕ, zero, suc, _≤_}
+use mathlib.Core.Bool.{Bool, true, false}
+use mathlib.Core.Path.{_≡_, refl, ap}
+use native.Mathlib.Omega.{arith}
+use lib.Dec.{leb, eqb}
+use borrow.Author.Tests.{eqb-true, ne-eqb, lt-leb}
+use Rattle.model.specs.Basics.{pick, both, pick-elim}
+use Rattle.model.specs.Records.{State, sramOf}
+use Rattle.model.specs.Modes.{flushL1d, flushL2, changeMode, changeMar}
+use Rattle.model.specs.Commands.{l2WritebackAll, l2WritebackInvalidateAll, l2WritebackBlock, l2WritebackInvalidateBlock, l2InvalidateBlock, l1dWritebackInvalidateBlock, l1dInvalidateBlock}
+use Rattle.model.specs.Refusals.{accessDue, blockDue, modeDue, marDue}
+use Rattle.model.specs.Trace.{command}
+use Rattle.model.specs.Calls.{Reply, refused, carriedOut, commandDue, readDone, writeDone, commandState, accepted, step}
+use Rattle.model.specs.declared.Command.{Command}
+use Rattle.model.proofs.Invariant.{Allowed, Layout}
+use Rattle.model.proofs.Good.{Good, Anything, Well}
+use Rattle.model.proofs.ReadWrite.{Step}
+use Rattle.model.proofs.Sweeps.{l2WritebackAll-good, l2WritebackInvalidateAll-good, l2WritebackBlock-good, l2WritebackInvalidateBlock-good, l1dWritebackInvalidateBlock-good, flush-good}
+use Rattle.model.proofs.Changes.{newMode-good, changeMar-good}
+use Rattle.model.proofs.Due.{accepted-read, accepted-write, mode-tells, mar-tells}
+use Rattle.model.proofs.Drops.{l1dInvalidateAll-well, l1dInvalidateBlock-well, l2InvalidateBlock-well}
+
+-- ---- a code is one of the twelve, each written out, or a later number
+pub codes {ℓ} : (P : ℕ → Type ℓ) → P 0 → P 1 → P 2 → P 3 → P 4 → P 5 → P 6 → P 7 → P 8 → P 9 → P 10 → P 11 → ((k : ℕ) → 12 ≤ k → P k) → (k : ℕ) → P k
+codes P a b c d e f g h i j k l m zero = a
+codes P a b c d e f g h i j k l m (suc zero) = b
+codes P a b c d e f g h i j k l m (suc (suc zero)) = c
+codes P a b c d e f g h i j k l m (suc (suc (suc zero))) = d
+codes P a b c d e f g h i j k l m (suc (suc (suc (suc zero)))) = e
+codes P a b c d e f g h i j k l m (suc (suc (suc (suc (suc zero))))) = f
+codes P a b c d e f g h i j k l m (suc (suc (suc (suc (suc (suc zero)))))) = g
+codes P a b c d e f g h i j k l m (suc (suc (suc (suc (suc (suc (suc zero))))))) = h
+codes P a b c d e f g h i j k l m (suc (suc (suc (suc (suc (suc (suc (suc zero)))))))) = i
+codes P a b c d e f g h i j k l m (suc (suc (suc (suc (suc (suc (suc (suc (suc zero))))))))) = j
+codes P a b c d e f g h i j k l m (suc (suc (suc (suc (suc (suc (suc (suc (suc (suc zero)))))))))) = k
+codes P a b c d e f g h i j k l m (suc (suc (suc (suc (suc (suc (suc (suc (suc (suc (suc zero))))))))))) = l
+codes P a b c d e f g h i j k l m (suc (suc (suc (suc (suc (suc (suc (suc (suc (suc (suc (suc n)))))))))))) =
+    m (suc (suc (suc (suc (suc (suc (suc (suc (suc (suc (suc (suc n)))))))))))) (omega arith)
+
+-- ---- commands that flat memory does not see
+pub record Quiet (z : State) (F : Allowed) (z′ : State) : Type 0 where
+  pub good : Good z′ F
+  pub mode : z′ .rec .mode ≡ z .rec .mode
+  pub l2len : z′ .rec .l2len ≡ z .rec .l2len
+  pub extlen : z′ .rec .extlen ≡ z .rec .extlen
+
+pub quiet-refl : (z : State) (F : Allowed) → Good z F → Quiet z F z
+quiet-refl z F q = record { good = q; mode = refl; l2len = refl; extlen = refl }
+
+pub quiet-step : (z : State) (F : Allowed) (z′ : State) → Step z F z′ → Quiet z F z′
+quiet-step z F z′ s = record { good = s .good; mode = s .kept .mode; l2len = s .kept .l2len; extlen = ap (λ (g : Layout). g .ext) (s .kept .layout) }
+
+module _ (z : State) (F : Allowed) (q : Good z F) (a b v : ℕ) where
+  -- carried out where its number is 0, else refused
+  quiet-unless : (d : ℕ) (z′ : State) → (d ≡ 0 → Quiet z F z′) → Quiet z F (pick (eqb d 0) (carriedOut z′) (refused d z) .next)
+  quiet-unless d z′ h = pick-elim (λ (r : Reply). Quiet z F (r .next)) (eqb d 0) (carriedOut z′) (refused d z) (λ t. h (eqb-true d 0 t)) (λ _. quiet-refl z F q)
+
+  pub quiet-2 : Quiet z F (step (command 2 a b v) z .next)
+  unfolding step commandDue accepted commandState
+  quiet-2 = quiet-step z F (l2WritebackAll z) (l2WritebackAll-good z F q .step)
+
+  pub quiet-3 : Quiet z F (step (command 3 a b v) z .next)
+  unfolding step commandDue accepted commandState
+  quiet-3 = quiet-step z F (l2WritebackInvalidateAll z) (l2WritebackInvalidateAll-good z F q .step)
+
+  pub quiet-4 : Quiet z F (step (command 4 a b v) z .next)
+  unfolding step commandDue accepted commandState
+  quiet-4 = quiet-unless (blockDue a b) (l2WritebackBlock a b z) (λ _. quiet-step z F (l2WritebackBlock a b z) (l2WritebackBlock-good z F q a b))
+
+  pub quiet-5 : Quiet z F (step (command 5 a b v) z .next)
+  unfolding step commandDue accepted commandState
+  quiet-5 =
+      quiet-unless (blockDue a b) (l2WritebackInvalidateBlock a b z)
+      (λ _. quiet-step z F (l2WritebackInvalidateBlock a b z) (l2WritebackInvalidateBlock-good z F q a b))
+
+  pub quiet-7 : Quiet z F (step (command 7 a b v) z .next)
+  unfolding step commandDue accepted commandState
+  quiet-7 =
+      quiet-unless (blockDue a b) (l1dWritebackInvalidateBlock a b z)
+      (λ _. quiet-step z F (l1dWritebackInvalidateBlock a b z) (l1dWritebackInvalidateBlock-good z F q a b))
+
+  mar-quiet : marDue (z .rec) a b ≡ 0 → Quiet z F (changeMar a b z)
+  unfolding changeMar
+  mar-quiet d = record { good = changeMar-good z F q a b (mar-tells (z .rec) a b d); mode = refl; l2len = refl; extlen = refl }
+
+  pub quiet-11 : Quiet z F (step (command 11 a b v) z .next)
+  unfolding step commandDue accepted commandState
+  quiet-11 = quiet-unless (marDue (z .rec) a b) (changeMar a b z) mar-quiet
+
+-- ---- every command keeps a well-formed state
+module _ (z : State) (h : Well z) (a b v : ℕ) where
+  -- any reply whose accepted form leaves a well-formed state
+  well-unless : (d : ℕ) (r : Reply) → (d ≡ 0 → Well (r .next)) → Well (pick (eqb d 0) r (refused d z) .next)
+  well-unless d r f = pick-elim (λ (x : Reply). Well (x .next)) (eqb d 0) r (refused d z) (λ t. f (eqb-true d 0 t)) (λ _. h)
+
+  well-0 : Well (step (command 0 a b v) z .next)
+  unfolding step commandDue accepted readDone
+  well-0 = well-unless (accessDue (sramOf (z .rec)) (z .rec .extlen) a b 0) (readDone a b z) (λ d. accepted-read z Anything h a b d .good)
+
+  well-1 : Well (step (command 1 a b v) z .next)
+  unfolding step commandDue accepted writeDone
+  well-1 =
+      well-unless (accessDue (sramOf (z .rec)) (z .rec .extlen) a b v) (writeDone a b v z)
+      (λ d. accepted-write z Anything h a b Anything v (record { inside = λ _ _ _. refl; outside = λ _ _ _ _. refl }) d .good)
+
+  well-6 : Well (step (command 6 a b v) z .next)
+  unfolding step commandDue accepted commandState
+  well-6 = well-unless (blockDue a b) (carriedOut (l2InvalidateBlock a b z)) (λ _. l2InvalidateBlock-well z h a b .good)
+
+  well-8 : Well (step (command 8 a b v) z .next)
+  unfolding step commandDue accepted commandState
+  well-8 = well-unless (blockDue a b) (carriedOut (l1dInvalidateBlock a b z)) (λ _. l1dInvalidateBlock-well z h a b .good)
+
+  well-9 : Well (step (command 9 a b v) z .next)
+  unfolding step commandDue accepted commandState
+  well-9 = l1dInvalidateAll-well z h .good
+
+  well-10 : Well (step (command 10 a b v) z .next)
+  unfolding step commandDue accepted commandState changeMode
+  well-10 =
+      well-unless (modeDue (z .rec .l2len) a) (carriedOut (changeMode a z))
+      (λ d. let o = flush-good z Anything h in
+      let m = mode-tells (z .rec .l2len) a d in
+      newMode-good (flushL2 (flushL1d z)) Anything Anything (o .step .good) a (m .0) (rw (o .step .kept .l2len) (m .1)) (o .l1dNone) (o .l2Clean)
+      (λ _ _ _ _ _. refl) (λ _ _ _. refl) (λ _ _ _ _. refl))
+
+both-false : (b : Bool) → both b false ≡ false
+both-false true = refl
+both-false false = refl
+
+-- a code that the trace lacks does nothing
+pub other-code : (k a b v : ℕ) (z : State) → 12 ≤ k → step (command k a b v) z ≡ carriedOut z
+unfolding step commandDue accepted commandState
+other-code k a b v z h =
+    rw (
+      ne-eqb k 0 (omega arith),
+      ne-eqb k 1 (omega arith),
+      lt-leb k 8 (omega arith),
+      both-false (leb 4 k),
+      ne-eqb k 10 (omega arith),
+      ne-eqb k 11 (omega arith),
+      ne-eqb k 2 (omega arith),
+      ne-eqb k 3 (omega arith),
+      ne-eqb k 4 (omega arith),
+      ne-eqb k 5 (omega arith),
+      ne-eqb k 6 (omega arith),
+      ne-eqb k 7 (omega arith),
+      ne-eqb k 8 (omega arith),
+      ne-eqb k 9 (omega arith),
+    ) refl
+
+pub step-well : (c : Command) (z : State) → Well z → Well (step c z .next)
+step-well c z h =
+    let a = c .first in let b = c .second in let v = c .value in
+    codes (λ (k : ℕ). Well (step (command k a b v) z .next))
+    (well-0 z h a b v) (well-1 z h a b v) (quiet-2 z Anything h a b v .good) (quiet-3 z Anything h a b v .good) (quiet-4 z Anything h a b v .good)
+    (quiet-5 z Anything h a b v .good) (well-6 z h a b v) (quiet-7 z Anything h a b v .good) (well-8 z h a b v) (well-9 z h a b v) (well-10 z h a b v)
+    (quiet-11 z Anything h a b v .good)
+    (λ k l. let e = other-code k a b v z l in rw e h)
+    (c .code)

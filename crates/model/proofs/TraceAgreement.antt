@@ -1,0 +1,140 @@
+-- Runs over traces: a run on a well-formed state is its commands called one after another (`run-calls`), and from an accepted fresh start its answers are flat
+-- memory's, in one piece or in several (`trace-demand3`).
+-- Why: the run carries out `step` where a call does `call`, and on a well-formed state they are the same; an answer, once put, is not touched by later ones, which lie
+-- behind it. The rest is `step-answered`, command by command.
+use Prim.Native.Nat.{ℕ, zero, suc, _+_, _*_, _-_, _≤_, _<_}
+use mathlib.Core.Bool.{true}
+use mathlib.Core.Path.{_≡_, refl, sym, _∙_}
+use mathlib.Core.List.{List, [], _∷_, _++_}
+use native.Mathlib.Omega.{arith}
+use lib.ListN.{length, getD, drop}
+use lib.Seq.{ext-getD}
+use lib.Dec.{ltb, leb}
+use borrow.Author.Tests.{leb-true}
+use Rattle.model.specs.Basics.{bool, both-true}
+use Rattle.model.specs.Bytes.{part, stored, littleBytes, length-part, length-stored, length-littleBytes, part-at}
+use Rattle.model.specs.Records.{State, freshState}
+use Rattle.model.specs.Trace.{Decoded, decode}
+use Rattle.model.specs.Flat.{Flat, freshFlat, flatStep}
+use Rattle.model.specs.Calls.{Reply, Run, ran, step, call, putAnswer, runFrom, runCall}
+use Rattle.model.specs.declared.Command.{Command}
+use Rattle.model.proofs.Memory.{stored-at, stored-elsewhere}
+use Rattle.model.proofs.Good.{Well, good-well}
+use Rattle.model.proofs.Steps.{step-well}
+use Rattle.model.proofs.Tested.{well-due, call-step}
+use Rattle.model.proofs.Demand.{listedCode, listed, compared}
+use Rattle.model.proofs.Agreement.{Is, Matches, step-answered, fresh-matches}
+use Rattle.model.proofs.Traces.{carriedFrom, carried, after, flatAfter, AnswersAre, RunIsCalls, AnswersAgree, Piece, pieceCommands, allCommands, RunsAgree, TraceDemand3}
+use Rattle.model.proofs.Traces as T
+
+-- ---- the ten bytes of an answer
+abbrev answerBytes : Reply → List ℕ
+answerBytes r = r .number ∷ r .server ∷ littleBytes (r .value) 8
+
+ten : (r : Reply) → length (answerBytes r) ≡ 10
+ten r = let e = length-littleBytes (r .value) 8 in rw e refl
+
+-- ---- what a run that began at answer k, with the answer bytes o, is known to give
+record RanCalls (r : Run) (cs : List Command) (z : State) (k : ℕ) (o : List ℕ) : Type 0 where
+  next : r .next ≡ after cs z
+  count : r .count ≡ k + length cs
+  long : length (r .answers) ≡ length o
+  before : (j : ℕ) → j < k * 10 → getD (r .answers) j 0 ≡ getD o j 0
+  answers-are : AnswersAre (r .answers) k cs z
+
+ran-none : (z : State) (i k n : ℕ) (o : List ℕ) → RanCalls (ran z i k n o) [] z k o
+unfolding after
+ran-none z i k n o = record { next = refl; count = omega arith; long = refl; before = λ _ _. refl; answers-are = T.end }
+
+ran-next : (r : Run) (cs : List Command) (z : State) (k : ℕ) (o : List ℕ) (c : Command) → call c z ≡ step c z → k * 10 + 10 ≤ length o →
+    RanCalls r cs (step c z .next) (suc k) (putAnswer o k (step c z .number) (step c z .server) (step c z .value)) → RanCalls r (c ∷ cs) z k o
+unfolding putAnswer after
+ran-next r cs z k o c e f h =
+    let a = step c z in
+    let bs = answerBytes a in
+    let n = ten a in
+    let o′ = stored o (k * 10) bs in
+    let l = length-stored o bs (k * 10) in
+    let long = h .long in
+    let fits : k * 10 + length bs ≤ length o = omega arith in
+    let same : part (r .answers) (k * 10) 10 ≡ bs =
+    ext-getD 0 (part (r .answers) (k * 10) 10) bs (length-part (r .answers) (k * 10) 10 (omega arith) ∙ sym n)
+    (λ j g. let p = length-part (r .answers) (k * 10) 10 (omega arith) in
+    let j′ : k * 10 + j - k * 10 ≡ j = omega arith in
+    part-at (r .answers) (k * 10) 10 j (omega arith) (omega arith)
+    ∙ h .before (k * 10 + j) (omega arith)
+    ∙ stored-at o bs (k * 10) fits (k * 10 + j) (omega arith) (omega arith)
+    ∙ rw j′ refl) in
+    let rest : AnswersAre (r .answers) (suc k) cs (call c z .next) = rw e (h .answers-are) in
+    let here : part (r .answers) (k * 10) 10 ≡ call c z .number ∷ call c z .server ∷ littleBytes (call c z .value) 8 = rw e same in
+    record {
+      next = rw e (h .next);
+      count = let d = h .count in omega arith;
+      long = h .long ∙ l;
+      before = λ j g. h .before j (omega arith) ∙ stored-elsewhere o bs (k * 10) fits j (λ b. absurd (omega arith));
+      answers-are = T.next here rest;
+    }
+
+run-from : (source : ℕ → Decoded) (end room turns i : ℕ) (z : State) (k : ℕ) (o : List ℕ) → Well z → length o ≡ room →
+    RanCalls (runFrom source end turns i z k o) (carriedFrom source end room turns i k) z k o
+unfolding runFrom carriedFrom putAnswer
+run-from source end room zero i z k o w e = ran-none z i k 0 o
+run-from source end room (suc turns) i z k o w e =
+    bool (ltb i end)
+    (λ t₁. bool (source i .ok)
+    (λ t₂. bool (leb (k * 10 + 10) room)
+    (λ t₃. let c = source i .found in let a = step c z in
+    let f = leb-true (k * 10 + 10) room t₃ in
+    let o′ = putAnswer o k (a .number) (a .server) (a .value) in
+    let l : length o′ ≡ room = length-stored o (answerBytes a) (k * 10) ∙ e in
+    let h = run-from source end room turns (i + source i .used) (a .next) (suc k) o′ (step-well c z w) l in
+    rw (t₁, t₂, e, t₃) (ran-next (runFrom source end turns (i + source i .used) (a .next) (suc k) o′)
+    (carriedFrom source end room turns (i + source i .used) (suc k)) z k o c (call-step c z w) (omega arith) h))
+    (λ t₃. rw (t₁, t₂, e, t₃) (ran-none z i k 12 o)))
+    (λ t₂. rw (t₁, t₂) (ran-none z i k 11 o)))
+    (λ t₁. rw t₁ (ran-none z i k 0 o))
+
+-- ---- a run is its commands, called one after another
+pub run-calls : (t o : List ℕ) (z : State) → Well z → RunIsCalls t o z
+unfolding runCall carried
+run-calls t o z w =
+    let h = run-from (λ i. decode (drop i t)) (length t) (length o) (length t) 0 z 0 o w refl in
+    let d = well-due z w in
+    let n : 0 + length (carried t (length o)) ≡ length (carried t (length o)) = omega arith in
+    record { next = rw d (h .next); count = rw d (h .count ∙ n); answers-are = rw d (h .answers-are) }
+
+-- ---- calls that match flat memory, one after another
+module _ (o : List ℕ) where
+  pub calls-agree : (cs : List Command) (k : ℕ) (z : State) (f : Flat) → Matches z f → listed cs ≡ true → AnswersAre o k cs z →
+      AnswersAgree o k cs f × Matches (after cs z) (flatAfter cs f)
+  unfolding listed after flatAfter
+  calls-agree [] k z f m y a = (T.end, m)
+  calls-agree (c ∷ cs) k z f m y (T.next e a) =
+      let p = both-true (listedCode (c .code)) (listed cs) y in
+      let s = call-step c z (good-well z (Is f) (m .good)) in
+      let r = step-answered c z f m (p .0) in
+      let m′ : Matches (call c z .next) (flatStep c f .next) = rw s (r .matches) in
+      let h = calls-agree cs (suc k) (call c z .next) (flatStep c f .next) m′ (p .1) a in
+      let here : compared c ≡ true → (server : ℕ) × (part o (k * 10) 10 ≡ flatStep c f .number ∷ server ∷ littleBytes (flatStep c f .value) 8) =
+      λ g. (call c z .server, e ∙ rw (s, r .number g, r .value g) refl) in
+      (T.next here (h .0), h .1)
+
+listed-append : (cs ds : List Command) → listed (cs ++ ds) ≡ true → (listed cs ≡ true) × (listed ds ≡ true)
+unfolding listed
+listed-append [] ds y = (refl, y)
+listed-append (c ∷ cs) ds y =
+    let p = both-true (listedCode (c .code)) (listed (cs ++ ds)) y in let q = listed-append cs ds (p .1) in (rw (p .0) (q .0), q .1)
+
+pub runs-agree : (ps : List Piece) (z : State) (f : Flat) → Matches z f → listed (allCommands ps) ≡ true → RunsAgree ps z f
+unfolding allCommands
+runs-agree [] z f m y = T.end
+runs-agree (p ∷ ps) z f m y =
+    let l = listed-append (pieceCommands p) (allCommands ps) y in
+    let r = run-calls (p .trace) (p .answers) z (good-well z (Is f) (m .good)) in
+    let a = calls-agree (runCall (p .trace) (p .answers) z .answers) (pieceCommands p) 0 z f m (l .0) (r .answers-are) in
+    let m′ : Matches (runCall (p .trace) (p .answers) z .next) (flatAfter (pieceCommands p) f) = rw (r .next) (a .1) in
+    let rest = runs-agree ps (runCall (p .trace) (p .answers) z .next) (flatAfter (pieceCommands p) f) m′ (l .1) in
+    T.next (a .0) rest
+
+pub trace-demand3 : TraceDemand3
+trace-demand3 l e hl he ps y = runs-agree ps (freshState l e) (freshFlat l e) (fresh-matches l e hl he) y

@@ -1,0 +1,78 @@
+-- Demand 3 for runs over traces, what it says; `TraceAgreement` proves it. First for every well-formed state and every trace: a run is its commands called one
+-- after another (`RunIsCalls`), all twelve codes, damaged traces and too few answer bytes included. Then from an accepted fresh start: the answers of a run, or
+-- of runs over the pieces of a trace, are flat memory's for reads, writes and mode changes (`TraceDemand3`).
+use Prim.Native.Nat.{ℕ, zero, suc, _+_, _*_}
+use mathlib.Core.Bool.{true}
+use mathlib.Core.Path.{_≡_}
+use mathlib.Core.List.{List, [], _∷_, _++_}
+use lib.ListN.{length, drop}
+use lib.Dec.{ltb, leb}
+use Rattle.model.specs.Basics.{pick}
+use Rattle.model.specs.Bytes.{part, littleBytes}
+use Rattle.model.specs.Memories.{legalL2, legalExternal}
+use Rattle.model.specs.Records.{State, freshState}
+use Rattle.model.specs.Trace.{Decoded, decode}
+use Rattle.model.specs.Flat.{Flat, freshFlat, flatStep}
+use Rattle.model.specs.Calls.{call, runCall}
+use Rattle.model.specs.declared.Command.{Command}
+use Rattle.model.proofs.Demand.{compared, listed}
+
+-- ---- the commands that a run carries out: those of the trace in their order, up to its end, to damage, or to where fewer than 10 answer bytes are left
+unfoldable pub carriedFrom : (ℕ → Decoded) → ℕ → ℕ → ℕ → ℕ → ℕ → List Command
+carriedFrom source end room zero i k = []
+carriedFrom source end room (suc turns) i k =
+    pick (ltb i end)
+    (pick (source i .ok) (pick (leb (k * 10 + 10) room) (source i .found ∷ carriedFrom source end room turns (i + source i .used) (suc k)) []) []) []
+
+unfoldable pub carried : List ℕ → ℕ → List Command
+carried trace room = carriedFrom (λ i. decode (drop i trace)) (length trace) room (length trace) 0 0
+
+-- ---- the state after commands called one after another; flat memory's likewise
+unfoldable pub after : List Command → State → State
+after [] z = z
+after (c ∷ cs) z = after cs (call c z .next)
+
+unfoldable pub flatAfter : List Command → Flat → Flat
+flatAfter [] f = f
+flatAfter (c ∷ cs) f = flatAfter cs (flatStep c f .next)
+
+-- ---- the answers from the k-th on are those of the calls: ten bytes each, number, server, value
+pub data AnswersAre (o : List ℕ) : ℕ → List Command → State → Type 0 where
+  end : {k : ℕ} {z : State} → AnswersAre o k [] z
+  next : {k : ℕ} {c : Command} {cs : List Command} {z : State} →
+      part o (k * 10) 10 ≡ call c z .number ∷ call c z .server ∷ littleBytes (call c z .value) 8 → AnswersAre o (suc k) cs (call c z .next) → AnswersAre o k (c ∷ cs) z
+
+pub record RunIsCalls (trace answers : List ℕ) (z : State) : Type 0 where
+  pub next : runCall trace answers z .next ≡ after (carried trace (length answers)) z
+  pub count : runCall trace answers z .count ≡ length (carried trace (length answers))
+  pub answers-are : AnswersAre (runCall trace answers z .answers) 0 (carried trace (length answers)) z
+
+-- ---- the answers from the k-th on agree with flat memory's: for reads, writes and mode changes its number and its value, whatever the server
+pub data AnswersAgree (o : List ℕ) : ℕ → List Command → Flat → Type 0 where
+  end : {k : ℕ} {f : Flat} → AnswersAgree o k [] f
+  next : {k : ℕ} {c : Command} {cs : List Command} {f : Flat} →
+      (compared c ≡ true → (server : ℕ) × (part o (k * 10) 10 ≡ flatStep c f .number ∷ server ∷ littleBytes (flatStep c f .value) 8)) →
+      AnswersAgree o (suc k) cs (flatStep c f .next) → AnswersAgree o k (c ∷ cs) f
+
+-- ---- a trace in pieces, each run with answer bytes of its own; all their commands
+pub record Piece : Type 0 where
+  pub trace : List ℕ
+  pub answers : List ℕ
+
+abbrev pub pieceCommands : Piece → List Command
+pieceCommands p = carried (p .trace) (length (p .answers))
+
+unfoldable pub allCommands : List Piece → List Command
+allCommands [] = []
+allCommands (p ∷ ps) = pieceCommands p ++ allCommands ps
+
+pub data RunsAgree : List Piece → State → Flat → Type 0 where
+  end : {z : State} {f : Flat} → RunsAgree [] z f
+  next : {p : Piece} {ps : List Piece} {z : State} {f : Flat} →
+      AnswersAgree (runCall (p .trace) (p .answers) z .answers) 0 (pieceCommands p) f →
+      RunsAgree ps (runCall (p .trace) (p .answers) z .next) (flatAfter (pieceCommands p) f) → RunsAgree (p ∷ ps) z f
+
+abbrev pub TraceDemand3 : Type 0
+TraceDemand3 =
+    (l : ℕ) (e : List ℕ) → legalL2 l ≡ true → legalExternal (length e) ≡ true →
+    (ps : List Piece) → listed (allCommands ps) ≡ true → RunsAgree ps (freshState l e) (freshFlat l e)

@@ -1,0 +1,122 @@
+-- Paper 01: the calls, the run over a trace, the technician's view. What every contract of an exported call cites.
+use Prim.Native.Nat.{ℕ, zero, suc, _+_, _*_, _-_, _/_, _%_}
+use mathlib.Core.Bool.{Bool, true, false}
+use mathlib.Core.List.{List, [], _∷_}
+use lib.ListN.{length, getD, drop, replicate}
+use lib.Dec.{ltb, leb, eqb}
+use Rattle.model.specs.Basics.{pick, both}
+use Rattle.model.specs.Bytes.{part, stored, little, littleBytes}
+use Rattle.model.specs.Memories.{l1dLength, legalL2, legalExternal, externalBase}
+use Rattle.model.specs.Records.{State, state, sramOf, freshRecord, freshState}
+use Rattle.model.specs.Access.{memoryPart, readAccess, writeAccess}
+use Rattle.model.specs.Modes.{changeMode, changeMar}
+use Rattle.model.specs.Commands.{l2WritebackAll, l2WritebackInvalidateAll, l2WritebackBlock, l2WritebackInvalidateBlock, l2InvalidateBlock, l1dWritebackInvalidateBlock, l1dInvalidateBlock, l1dInvalidateAll}
+use Rattle.model.specs.Refusals.{lentDue, viewDue, accessDue, blockDue, modeDue, marDue}
+use Rattle.model.specs.Trace.{Decoded, decode}
+use Rattle.model.specs.declared.Command.{Command}
+use Rattle.model.specs.declared.Record.{Record}
+
+-- what a call gives: number, server, value, and the state after it
+pub record Reply : Type 0 where
+  pub number : ℕ
+  pub server : ℕ
+  pub value : ℕ
+  pub next : State
+
+abbrev pub reply : ℕ → ℕ → ℕ → State → Reply
+reply n k v z = record { number = n; server = k; value = v; next = z }
+
+-- "Value and server are 0 with it; the record comes back as given, and a refused direct call changes no lent byte."
+abbrev pub refused : ℕ → State → Reply
+refused n z = reply n 0 0 z
+
+-- "0 for calls that aren't reads or writes. The value is 0 for all but accepted reads."
+abbrev pub carriedOut : State → Reply
+carriedOut z = reply 0 0 0 z
+
+-- ---- one command: the number due by its code, and what it does when none is
+unfoldable pub commandDue : Command → State → ℕ
+commandDue c z =
+    pick (eqb (c .code) 0) (accessDue (sramOf (z .rec)) (z .rec .extlen) (c .first) (c .second) 0)
+    (pick (eqb (c .code) 1) (accessDue (sramOf (z .rec)) (z .rec .extlen) (c .first) (c .second) (c .value))
+    (pick (both (leb 4 (c .code)) (leb (c .code) 8)) (blockDue (c .first) (c .second))
+    (pick (eqb (c .code) 10) (modeDue (z .rec .l2len) (c .first))
+    (pick (eqb (c .code) 11) (marDue (z .rec) (c .first) (c .second)) 0))))
+
+unfoldable pub readDone : ℕ → ℕ → State → Reply
+readDone n a z = reply 0 (readAccess n a z .server) (little (readAccess n a z .bytes)) (readAccess n a z .next)
+
+unfoldable pub writeDone : ℕ → ℕ → ℕ → State → Reply
+writeDone n a v z = reply 0 (writeAccess a (littleBytes v n) z .server) 0 (writeAccess a (littleBytes v n) z .next)
+
+-- the state after an accepted command that is neither a read nor a write; a code that the trace lacks does nothing
+unfoldable pub commandState : Command → State → State
+commandState c z =
+    pick (eqb (c .code) 2) (l2WritebackAll z)
+    (pick (eqb (c .code) 3) (l2WritebackInvalidateAll z)
+    (pick (eqb (c .code) 4) (l2WritebackBlock (c .first) (c .second) z)
+    (pick (eqb (c .code) 5) (l2WritebackInvalidateBlock (c .first) (c .second) z)
+    (pick (eqb (c .code) 6) (l2InvalidateBlock (c .first) (c .second) z)
+    (pick (eqb (c .code) 7) (l1dWritebackInvalidateBlock (c .first) (c .second) z)
+    (pick (eqb (c .code) 8) (l1dInvalidateBlock (c .first) (c .second) z)
+    (pick (eqb (c .code) 9) (l1dInvalidateAll z)
+    (pick (eqb (c .code) 10) (changeMode (c .first) z)
+    (pick (eqb (c .code) 11) (changeMar (c .first) (c .second) z) z)))))))))
+
+unfoldable pub accepted : Command → State → Reply
+accepted c z =
+    pick (eqb (c .code) 0) (readDone (c .first) (c .second) z)
+    (pick (eqb (c .code) 1) (writeDone (c .first) (c .second) (c .value) z) (carriedOut (commandState c z)))
+
+-- one command on a state that passed checks 1 and 2
+unfoldable pub step : Command → State → Reply
+step c z = pick (eqb (commandDue c z) 0) (accepted c z) (refused (commandDue c z) z)
+
+-- ---- a direct call: "The lowest due number wins"
+unfoldable pub call : Command → State → Reply
+call c z = pick (eqb (lentDue z) 0) (step c z) (refused (lentDue z) z)
+
+-- ---- the fresh start: "A fresh start can meet only 1, and then returns the record of L = 32,768, E = 128."
+unfoldable pub freshOk : List ℕ → List ℕ → List ℕ → Bool
+freshOk d m e = both (eqb (length d) l1dLength) (both (legalL2 (length m)) (legalExternal (length e)))
+
+unfoldable pub freshCall : List ℕ → List ℕ → List ℕ → Reply
+freshCall d m e = pick (freshOk d m e) (carriedOut (freshState (length m) e)) (refused 1 (state (freshRecord 32768 128) d m e))
+
+-- ---- the run: "It returns the record, bytes consumed, the count of answers, stop number (0 at the end). Later answer bytes are unchanged."
+pub record Run : Type 0 where
+  pub next : State
+  pub consumed : ℕ
+  pub count : ℕ
+  pub stop : ℕ
+  pub answers : List ℕ
+
+abbrev pub ran : State → ℕ → ℕ → ℕ → List ℕ → Run
+ran z i k n o = record { next = z; consumed = i; count = k; stop = n; answers = o }
+
+-- "Each answer is 10 bytes: number, server, value (8 bytes, little-endian).": the k-th answer
+unfoldable pub putAnswer : List ℕ → ℕ → ℕ → ℕ → ℕ → List ℕ
+putAnswer o k n s v = stored o (k * 10) (n ∷ s ∷ littleBytes v 8)
+
+-- "Then it carries out commands. .. Refusals 3 to 10 are answered and the run goes on. 11, then 12, stop it before that command".
+-- `source i` is the command at byte i, `end` where the trace ends; each command takes a byte at least, so that `end` turns are enough.
+unfoldable pub runFrom : (ℕ → Decoded) → ℕ → ℕ → ℕ → State → ℕ → List ℕ → Run
+runFrom source end zero i z k o = ran z i k 0 o
+runFrom source end (suc turns) i z k o =
+    pick (ltb i end)
+    (pick (source i .ok)
+    (pick (leb (k * 10 + 10) (length o))
+    (runFrom source end turns (i + source i .used) (step (source i .found) z .next) (suc k)
+    (putAnswer o k (step (source i .found) z .number) (step (source i .found) z .server) (step (source i .found) z .value)))
+    (ran z i k 12 o))
+    (ran z i k 11 o))
+    (ran z i k 0 o)
+
+-- "A run checks 1 and 2 first; either one stops it with nothing consumed, answered or changed."
+unfoldable pub runCall : List ℕ → List ℕ → State → Run
+runCall t o z =
+    pick (eqb (lentDue z) 0) (runFrom (λ i. decode (drop i t)) (length t) (length t) 0 z 0 o) (ran z 0 0 (lentDue z) o)
+
+-- ---- "Looking behind L1D": "the bytes of SRAM or of external memory themselves .. A refusal returns the empty part"
+unfoldable pub viewCall : Record → List ℕ → List ℕ → ℕ → List ℕ
+viewCall r m e a = pick (eqb (viewDue r m e a) 0) (memoryPart a 64 (state r [] m e)) []

@@ -1,0 +1,12 @@
+pub mod Basics
+pub mod Bytes
+pub mod Memories
+pub mod Lines
+pub mod Records
+pub mod Access
+pub mod Modes
+pub mod Commands
+pub mod Flat
+pub mod Refusals
+pub mod Trace
+pub mod Calls

@@ -1,0 +1,68 @@
+-- Paper 01, "Modes and MAR".
+use Prim.Native.Nat.{ℕ, zero, suc, _+_, _*_, _-_, _/_, _%_}
+use mathlib.Core.Bool.{Bool, true, false}
+use mathlib.Core.List.{List, [], _∷_}
+use lib.ListN.{length, replicate}
+use lib.Dec.{leb, eqb}
+use Rattle.model.specs.Basics.{pick, both, either, each, any}
+use Rattle.model.specs.Bytes.{zeroFrom}
+use Rattle.model.specs.Memories.{sramLength}
+use Rattle.model.specs.Records.{State, state, sramOf, l2SetsOf, freshL1dSet, freshL2Set}
+use Rattle.model.specs.Access.{evictL1d, writeOutL2}
+use Rattle.model.specs.declared.Line.{Line}
+use Rattle.model.specs.declared.L1dSet.{L1dSet}
+use Rattle.model.specs.declared.L2Set.{L2Set}
+use Rattle.model.specs.declared.Record.{Record}
+
+unfoldable pub smaller : ℕ → ℕ → ℕ
+smaller a b = pick (leb a b) a b
+
+-- "An accepted mode change, even to the same mode, writes back all dirty lines of L1D, then of L2,": set by set and way by way.
+-- (An L1D line that went home is empty at once; the change empties them all.)
+unfoldable pub flushL1d : State → State
+flushL1d z = each (λ k. evictL1d (k / 2) (k % 2)) 256 z
+
+unfoldable pub flushL2 : State → State
+flushL2 z = each (λ k. writeOutL2 (k / 4) (k % 4)) (l2SetsOf (z .rec) * 4) z
+
+-- ".. makes every line invalid and every order fresh, and sets zero every L2 byte from the smaller of old and new S on."
+unfoldable pub newMode : ℕ → State → State
+newMode m z =
+    state
+    (record {
+      l2len = z .rec .l2len;
+      extlen = z .rec .extlen;
+      mode = m;
+      mar128 = z .rec .mar128;
+      mar129 = z .rec .mar129;
+      l1d = replicate 128 freshL1dSet;
+      l2 = replicate 512 freshL2Set;
+    })
+    (z .l1d)
+    (zeroFrom (smaller (sramOf (z .rec)) (sramLength (z .rec .l2len) m)) (z .l2) (length (z .l2)))
+    (z .ext)
+
+unfoldable pub changeMode : ℕ → State → State
+changeMode m z = newMode m (flushL2 (flushL1d z))
+
+-- "A MAR bit may be set at any time.", n: 128 or 129, b: 0 or 1
+unfoldable pub changeMar : ℕ → ℕ → State → State
+changeMar n b z =
+    state
+    (record {
+      l2len = z .rec .l2len;
+      extlen = z .rec .extlen;
+      mode = z .rec .mode;
+      mar128 = pick (eqb n 128) (eqb b 1) (z .rec .mar128);
+      mar129 = pick (eqb n 129) (eqb b 1) (z .rec .mar129);
+      l1d = z .rec .l1d;
+      l2 = z .rec .l2;
+    })
+    (z .l1d) (z .l2) (z .ext)
+
+-- "either cache holds a line of that range" (refusal 10): a valid line with an address from n × 1000000h on
+unfoldable pub inRange : ℕ → Line → Bool
+inRange n x = both (x .valid) (eqb (x .address / 16777216) n)
+
+unfoldable pub holdsRange : ℕ → Record → Bool
+holdsRange n r = either (any (λ (v : L1dSet). any (inRange n) (v .lines)) (r .l1d)) (any (λ (v : L2Set). any (inRange n) (v .lines)) (r .l2))

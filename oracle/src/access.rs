@@ -1,0 +1,89 @@
+//! "CPU reads and writes". The checks have been passed.
+
+use crate::geometry::{external_offset, L1d};
+use crate::machine::{Home, Machine, SERVER_EXTERNAL, SERVER_L1D};
+use crate::record::{victim_way, Line};
+
+/// "1, 2, 4 or 8 bytes, little-endian": the number that stands there.
+pub fn load(memory: &[u8], offset: usize, size: u32) -> u64 {
+    let bytes = &memory[offset..offset + size as usize];
+    bytes.iter().rev().fold(0, |value, &byte| value << 8 | u64::from(byte))
+}
+
+/// "1, 2, 4 or 8 bytes, little-endian": the number put there.
+pub fn store(memory: &mut [u8], offset: usize, size: u32, value: u64) {
+    let bytes = &mut memory[offset..offset + size as usize];
+    bytes.copy_from_slice(&value.to_le_bytes()[..size as usize]);
+}
+
+/// A CPU read; gives back the server number and the value.
+pub fn read(machine: &mut Machine, size: u32, address: u32) -> (u8, u64) {
+    // "External memory with MAR bit 0 is reached directly, touching no line."
+    if machine.is_reached_directly(address) {
+        return (SERVER_EXTERNAL, load(machine.ext, external_offset(address), size));
+    }
+    // "read hit in L1D: its bytes, the way used."
+    if let Some((set, way)) = machine.record.find_l1d(address) {
+        machine.use_l1d_way(set, way);
+        return (SERVER_L1D, load(machine.l1d, l1d_byte(set, way, address), size));
+    }
+    // "Read miss: the way is the lowest invalid one, else the last in order; a
+    // dirty line there is written back to its home and the way emptied; then
+    // the line is fetched from its home, the way filled clean and used."
+    let set = L1d::set_of(address);
+    let way = victim_way(&machine.record.l1d[set].lines, &machine.record.l1d[set].order);
+    machine.write_back_l1d_line(set, way);
+    machine.empty_l1d_way(set, way);
+    let line_address = L1d::line_address(address);
+    let (home, server) = machine.reach_home(line_address);
+    fill_l1d_way(machine, set, way, home);
+    machine.record.l1d[set].lines[way] = Line { valid: true, dirty: false, address: line_address };
+    machine.use_l1d_way(set, way);
+    (server, load(machine.l1d, l1d_byte(set, way, address), size))
+}
+
+/// A CPU write; gives back the server number.
+pub fn write(machine: &mut Machine, size: u32, address: u32, value: u64) -> u8 {
+    // "External memory with MAR bit 0 is reached directly, touching no line."
+    if machine.is_reached_directly(address) {
+        store(machine.ext, external_offset(address), size, value);
+        return SERVER_EXTERNAL;
+    }
+    // "Write hit: bytes changed, line dirty, way used."
+    if let Some((set, way)) = machine.record.find_l1d(address) {
+        store(machine.l1d, l1d_byte(set, way, address), size, value);
+        machine.record.l1d[set].lines[way].dirty = true;
+        machine.use_l1d_way(set, way);
+        return SERVER_L1D;
+    }
+    // "Write miss: L1D is neither filled nor used, the bytes go to the home
+    // (an L2 line that leaves for them still takes its halves out of L1D, as
+    // below)." and "A write then makes the L2 line dirty."
+    let (home, server) = machine.reach_home(address);
+    match home {
+        Home::Sram { offset } => store(machine.l2, offset, size, value),
+        Home::External { offset } => store(machine.ext, offset, size, value),
+        Home::L2Line { set, way, offset } => {
+            store(machine.l2, offset, size, value);
+            machine.record.l2[set].lines[way].dirty = true;
+        }
+    }
+    server
+}
+
+/// "Data of set s, way w, at (w × 128 + s) × 64.": the offset of one byte of
+/// the line held there.
+fn l1d_byte(set: usize, way: usize, address: u32) -> usize {
+    L1d::offset(set, way) + (address % L1d::LINE) as usize
+}
+
+/// "then the line is fetched from its home": the bytes alone.
+fn fill_l1d_way(machine: &mut Machine, set: usize, way: usize, home: Home) {
+    let length = L1d::LINE as usize;
+    let to = L1d::offset(set, way);
+    let from = match home {
+        Home::Sram { offset } | Home::L2Line { offset, .. } => &machine.l2[offset..offset + length],
+        Home::External { offset } => &machine.ext[offset..offset + length],
+    };
+    machine.l1d[to..to + length].copy_from_slice(from);
+}

@@ -1,0 +1,1338 @@
+//! Random records, memories, calls and traces for comparing models. Nothing
+//! here is part of the model. Equal seeds give equal things.
+
+use crate::calls;
+use crate::geometry::{mar_number, mode_is_legal, L1d, EXTERNAL_BASE, L1D_BYTES, L2};
+use crate::modes::{change_mar, holds_a_line_of};
+use crate::record::{Line, Record};
+use crate::trace::{run, Command, RunResult};
+use crate::wellformed::{broken_clauses, Clause};
+use crate::Answer;
+
+/// The legal values of L: "a multiple of 32,768, from 32,768 to 262,144".
+pub const LEGAL_L: [u32; 8] = [32_768, 65_536, 98_304, 131_072, 163_840, 196_608, 229_376, 262_144];
+
+/// The legal modes.
+pub const LEGAL_MODES: [u32; 5] = [0, 1, 2, 3, 7];
+
+/// An E with 65,536 bytes of external memory in the range of MAR 129.
+pub const E_BOTH_RANGES: u32 = 16_777_216 + 65_536;
+
+// ---------------------------------------------------------------- numbers
+
+/// The generator xorshift64*.
+#[derive(Clone, Debug)]
+pub struct Rng {
+    state: u64,
+}
+
+impl Rng {
+    /// A generator for a seed; neighbouring seeds give unlike sequences.
+    pub fn new(seed: u64) -> Rng {
+        let mut mixed = seed.wrapping_add(0x9E37_79B9_7F4A_7C15);
+        mixed = (mixed ^ (mixed >> 30)).wrapping_mul(0xBF58_476D_1CE4_E5B9);
+        mixed = (mixed ^ (mixed >> 27)).wrapping_mul(0x94D0_49BB_1331_11EB);
+        mixed ^= mixed >> 31;
+        Rng { state: if mixed == 0 { 1 } else { mixed } }
+    }
+
+    /// The next 64 bits.
+    pub fn next_u64(&mut self) -> u64 {
+        self.state ^= self.state >> 12;
+        self.state ^= self.state << 25;
+        self.state ^= self.state >> 27;
+        self.state.wrapping_mul(0x2545_F491_4F6C_DD1D)
+    }
+
+    /// The next 32 bits.
+    pub fn next_u32(&mut self) -> u32 {
+        (self.next_u64() >> 32) as u32
+    }
+
+    /// A number below `bound`, 0 if the bound is 0.
+    pub fn below(&mut self, bound: u32) -> u32 {
+        (u64::from(self.next_u32()) * u64::from(bound) >> 32) as u32
+    }
+
+    /// True `part` times out of `whole`.
+    pub fn chance(&mut self, part: u32, whole: u32) -> bool {
+        self.below(whole) < part
+    }
+
+    /// One of the things.
+    pub fn pick<T: Copy>(&mut self, things: &[T]) -> T {
+        things[self.below(things.len() as u32) as usize]
+    }
+
+    /// Random bytes.
+    pub fn fill(&mut self, bytes: &mut [u8]) {
+        for chunk in bytes.chunks_mut(8) {
+            chunk.copy_from_slice(&self.next_u64().to_le_bytes()[..chunk.len()]);
+        }
+    }
+
+    /// A random permutation of the ways.
+    pub fn permutation<const N: usize>(&mut self) -> [u8; N] {
+        let mut order = std::array::from_fn(|way| way as u8);
+        for place in (1..N).rev() {
+            order.swap(place, self.below(place as u32 + 1) as usize);
+        }
+        order
+    }
+}
+
+// ----------------------------------------------------------------- setups
+
+/// A record with its memories, owned.
+#[derive(Clone, PartialEq, Eq, Debug)]
+pub struct Setup {
+    pub record: Box<Record>,
+    pub l1d: Vec<u8>,
+    pub l2: Vec<u8>,
+    pub ext: Vec<u8>,
+}
+
+impl Setup {
+    /// A fresh start over external memory of zeros.
+    pub fn fresh(l: u32, e: u32) -> Setup {
+        Setup::fresh_over(l, vec![0; e as usize])
+    }
+
+    /// A fresh start over this external memory.
+    pub fn fresh_over(l: u32, mut ext: Vec<u8>) -> Setup {
+        let mut l1d = vec![0; L1D_BYTES];
+        let mut l2 = vec![0; l as usize];
+        let (record, _) = calls::fresh_start(&mut l1d, &mut l2, &mut ext);
+        Setup { record, l1d, l2, ext }
+    }
+
+    /// A random well-formed record of these sizes over random memories.
+    pub fn random(rng: &mut Rng, l: u32, e: u32) -> Setup {
+        let mut setup = Setup {
+            record: well_formed_record(rng, l, e),
+            l1d: vec![0; L1D_BYTES],
+            l2: vec![0; l as usize],
+            ext: vec![0; e as usize],
+        };
+        rng.fill(&mut setup.l1d);
+        rng.fill(&mut setup.l2);
+        rng.fill(&mut setup.ext);
+        setup
+    }
+
+    /// Another random well-formed record of the same sizes over the memories
+    /// as they are (quicker than new memories when E is large).
+    pub fn redraw_record(&mut self, rng: &mut Rng) {
+        self.record = well_formed_record(rng, self.l2.len() as u32, self.ext.len() as u32);
+    }
+
+    /// The direct call of this command.
+    pub fn call(&mut self, command: &Command) -> Answer {
+        let (record, l1d, l2, ext) =
+            (&mut *self.record, &mut *self.l1d, &mut *self.l2, &mut *self.ext);
+        match *command {
+            Command::Read { size, address } => calls::read(record, l1d, l2, ext, size, address),
+            Command::Write { size, address, value } => {
+                calls::write(record, l1d, l2, ext, size, address, value)
+            }
+            Command::L2WritebackAll => calls::l2_writeback_all(record, l1d, l2, ext),
+            Command::L2WritebackInvalidateAll => {
+                calls::l2_writeback_invalidate_all(record, l1d, l2, ext)
+            }
+            Command::L2BlockWriteback { base, count } => {
+                calls::l2_block_writeback(record, l1d, l2, ext, base, count)
+            }
+            Command::L2BlockWritebackInvalidate { base, count } => {
+                calls::l2_block_writeback_invalidate(record, l1d, l2, ext, base, count)
+            }
+            Command::L2BlockInvalidate { base, count } => {
+                calls::l2_block_invalidate(record, l1d, l2, ext, base, count)
+            }
+            Command::L1dBlockWritebackInvalidate { base, count } => {
+                calls::l1d_block_writeback_invalidate(record, l1d, l2, ext, base, count)
+            }
+            Command::L1dBlockInvalidate { base, count } => {
+                calls::l1d_block_invalidate(record, l1d, l2, ext, base, count)
+            }
+            Command::L1dInvalidateAll => calls::l1d_invalidate_all(record, l1d, l2, ext),
+            Command::Mode { mode } => calls::mode_change(record, l1d, l2, ext, mode),
+            Command::Mar { number, bit } => calls::mar_change(record, l1d, l2, ext, number, bit),
+        }
+    }
+
+    /// A direct read.
+    pub fn read(&mut self, size: u32, address: u32) -> Answer {
+        self.call(&Command::Read { size, address })
+    }
+
+    /// A direct write.
+    pub fn write(&mut self, size: u32, address: u32, value: u64) -> Answer {
+        self.call(&Command::Write { size, address, value })
+    }
+
+    /// A direct mode change.
+    pub fn mode(&mut self, mode: u32) -> Answer {
+        self.call(&Command::Mode { mode })
+    }
+
+    /// A direct MAR change.
+    pub fn mar(&mut self, number: u32, bit: u32) -> Answer {
+        self.call(&Command::Mar { number, bit })
+    }
+
+    /// A trace run.
+    pub fn run(&mut self, trace: &[u8], answers: &mut [u8]) -> RunResult {
+        run(&mut self.record, &mut self.l1d, &mut self.l2, &mut self.ext, trace, answers)
+    }
+
+    /// The technician's call.
+    pub fn look(&self, address: u32) -> &[u8] {
+        calls::look(&self.record, &self.l2, &self.ext, address)
+    }
+
+    /// The number of the technician's call.
+    pub fn look_number(&self, address: u32) -> u8 {
+        calls::look_number(&self.record, &self.l2, &self.ext, address)
+    }
+
+    /// The L1D line that holds this address.
+    pub fn l1d_line(&self, address: u32) -> Option<Line> {
+        self.record.find_l1d(address).map(|(set, way)| self.record.l1d[set].lines[way])
+    }
+
+    /// The L2 line that holds this address.
+    pub fn l2_line(&self, address: u32) -> Option<Line> {
+        self.record.find_l2(address).map(|(set, way)| self.record.l2[set].lines[way])
+    }
+}
+
+/// Random legal L and E. A large E comes up one time in sixteen.
+pub fn sizes(rng: &mut Rng) -> (u32, u32) {
+    let l = rng.pick(&LEGAL_L);
+    let e = if rng.chance(1, 16) {
+        match rng.below(4) {
+            0 => 33_554_432,
+            1 => 16_777_216,
+            2 => E_BOTH_RANGES,
+            _ => 128 * (1 + rng.below(262_144)),
+        }
+    } else {
+        match rng.below(6) {
+            0 => 128,
+            1 => 128 * (1 + rng.below(8)),
+            2 => 65_536,
+            3 => 6 * 65_536,
+            4 => 8_192 * (1 + rng.below(16)),
+            _ => 128 * (1 + rng.below(4_096)),
+        }
+    };
+    (l, e)
+}
+
+// ----------------------------------------------------- well-formed records
+
+/// A random well-formed record of these legal sizes, reachable or not: any
+/// mode, MAR bits, densities, dirty marks and orders.
+pub fn well_formed_record(rng: &mut Rng, l: u32, e: u32) -> Box<Record> {
+    let modes: Vec<u32> = LEGAL_MODES.into_iter().filter(|&mode| mode_is_legal(l, mode)).collect();
+    let mode = rng.pick(&modes);
+    well_formed_record_in_mode(rng, l, e, mode)
+}
+
+/// The same in a given legal mode.
+pub fn well_formed_record_in_mode(rng: &mut Rng, l: u32, e: u32, mode: u32) -> Box<Record> {
+    let mut record = Record::fresh(l, e);
+    record.mode = mode;
+    record.mar128 = u32::from(rng.chance(4, 5));
+    record.mar129 = u32::from(rng.chance(4, 5));
+
+    // How many of 16 ways are filled, and how many of 16 lines are dirty.
+    let l2_density = rng.pick(&[0, 1, 4, 8, 15, 16]);
+    let l1d_density = rng.pick(&[0, 1, 4, 8, 15, 16]);
+    let dirty = rng.pick(&[0, 4, 8, 16]);
+    let fresh_orders = rng.chance(1, 8);
+
+    let sets = L2::sets(mode);
+    for set in 0..sets {
+        for way in 0..L2::WAYS {
+            if !rng.chance(l2_density, 16) {
+                continue;
+            }
+            let Some(address) = external_line(rng, &record, L2::LINE, sets, set) else { continue };
+            if record.find_l2(address).is_none() {
+                record.l2[set].lines[way] =
+                    Line { valid: true, dirty: rng.chance(dirty, 16), address };
+            }
+        }
+        if !fresh_orders {
+            record.l2[set].order = rng.permutation();
+        }
+    }
+
+    let mut l2_halves: Vec<Vec<u32>> = vec![Vec::new(); L1d::SETS];
+    for line in record.l2.iter().flat_map(|set| set.lines).filter(|line| line.valid) {
+        for half in [line.address, line.address + L1d::LINE] {
+            l2_halves[L1d::set_of(half)].push(half);
+        }
+    }
+
+    for set in 0..L1d::SETS {
+        for way in 0..L1d::WAYS {
+            if !rng.chance(l1d_density, 16) {
+                continue;
+            }
+            let address = if rng.chance(1, 3) {
+                sram_line(rng, &record, set)
+            } else if mode == 0 {
+                external_line(rng, &record, L1d::LINE, L1d::SETS, set)
+            } else if l2_halves[set].is_empty() {
+                None
+            } else {
+                Some(rng.pick(&l2_halves[set]))
+            };
+            let Some(address) = address else { continue };
+            if record.find_l1d(address).is_none() {
+                record.l1d[set].lines[way] =
+                    Line { valid: true, dirty: rng.chance(dirty, 16), address };
+            }
+        }
+        if !fresh_orders {
+            record.l1d[set].order = rng.permutation();
+        }
+    }
+    record
+}
+
+/// A random line address of this set in external memory with MAR bit 1, more
+/// often near the beginning, the border of the MAR ranges and the end. `None`
+/// if there is no such line or the MAR bit there is 0.
+fn external_line(
+    rng: &mut Rng,
+    record: &Record,
+    line: u32,
+    sets: usize,
+    set: usize,
+) -> Option<u32> {
+    let (sets, set) = (sets as u32, set as u32);
+    let lines = record.e / line;
+    if set >= lines {
+        return None;
+    }
+    let places = (lines - set - 1) / sets + 1;
+    let border = 0x0100_0000 / (line * sets);
+    let turn = match rng.below(4) {
+        0 => rng.below(places.min(6)),
+        1 if places > border + 1 => (border - 2 + rng.below(6)).min(places - 1),
+        2 => places - 1 - rng.below(places.min(4)),
+        _ => rng.below(places),
+    };
+    let address = EXTERNAL_BASE + (set + turn * sets) * line;
+    if record.mar_bit(address) == 1 {
+        Some(address)
+    } else {
+        None
+    }
+}
+
+/// A random L1D line address of this set in SRAM, if there is SRAM.
+fn sram_line(rng: &mut Rng, record: &Record, set: usize) -> Option<u32> {
+    let bytes_of_all_sets = L1d::LINE * L1d::SETS as u32;
+    let places = record.sram_size() / bytes_of_all_sets;
+    if places == 0 {
+        return None;
+    }
+    let turn = if rng.chance(1, 2) { rng.below(places.min(3)) } else { rng.below(places) };
+    Some(set as u32 * L1d::LINE + turn * bytes_of_all_sets)
+}
+
+// ------------------------------------------------------ ill-formed records
+
+/// The ways in which one clause of the paragraph can be broken.
+#[derive(Clone, Copy, PartialEq, Eq, Debug)]
+pub enum Fault {
+    IllegalMode,
+    CacheAboveL,
+    Mar128NoBit,
+    Mar129NoBit,
+    L1dOrder,
+    L2Order,
+    L1dInvalidDirty,
+    L1dInvalidAddress,
+    L2InvalidDirty,
+    L2InvalidAddress,
+    L1dNoMultiple,
+    L2NoMultiple,
+    L1dOtherSet,
+    L2OtherSet,
+    L1dTwice,
+    L2Twice,
+    L1dOutside,
+    L1dMarZero,
+    L2InSram,
+    L2Outside,
+    L2MarZero,
+    UnusedSetOrder,
+    UnusedSetMark,
+    UnusedSetLine,
+    L1dNotInL2,
+}
+
+/// All faults.
+pub const FAULTS: [Fault; 25] = [
+    Fault::IllegalMode,
+    Fault::CacheAboveL,
+    Fault::Mar128NoBit,
+    Fault::Mar129NoBit,
+    Fault::L1dOrder,
+    Fault::L2Order,
+    Fault::L1dInvalidDirty,
+    Fault::L1dInvalidAddress,
+    Fault::L2InvalidDirty,
+    Fault::L2InvalidAddress,
+    Fault::L1dNoMultiple,
+    Fault::L2NoMultiple,
+    Fault::L1dOtherSet,
+    Fault::L2OtherSet,
+    Fault::L1dTwice,
+    Fault::L2Twice,
+    Fault::L1dOutside,
+    Fault::L1dMarZero,
+    Fault::L2InSram,
+    Fault::L2Outside,
+    Fault::L2MarZero,
+    Fault::UnusedSetOrder,
+    Fault::UnusedSetMark,
+    Fault::UnusedSetLine,
+    Fault::L1dNotInL2,
+];
+
+impl Fault {
+    /// The clause that the fault breaks.
+    pub fn clause(self) -> Clause {
+        match self {
+            Fault::IllegalMode | Fault::CacheAboveL => Clause::SizesAndMode,
+            Fault::Mar128NoBit | Fault::Mar129NoBit => Clause::MarBits,
+            Fault::L1dOrder | Fault::L2Order => Clause::Orders,
+            Fault::L1dInvalidDirty
+            | Fault::L1dInvalidAddress
+            | Fault::L2InvalidDirty
+            | Fault::L2InvalidAddress => Clause::InvalidWays,
+            Fault::L1dNoMultiple | Fault::L2NoMultiple => Clause::LineMultiples,
+            Fault::L1dOtherSet | Fault::L2OtherSet => Clause::OwnSets,
+            Fault::L1dTwice | Fault::L2Twice => Clause::NoLineTwice,
+            Fault::L1dOutside | Fault::L1dMarZero => Clause::L1dPlaces,
+            Fault::L2InSram | Fault::L2Outside | Fault::L2MarZero => Clause::L2Places,
+            Fault::UnusedSetOrder | Fault::UnusedSetMark | Fault::UnusedSetLine => {
+                Clause::UnusedSets
+            }
+            Fault::L1dNotInL2 => Clause::Inclusion,
+        }
+    }
+}
+
+/// A random record of these legal sizes in which this fault alone stands: no
+/// clause but the fault's own is broken. With lent memories of the record's
+/// lengths a call gets 2. `None` if the sizes leave no room for the fault (in
+/// 200 tries).
+pub fn ill_formed_record(rng: &mut Rng, l: u32, e: u32, fault: Fault) -> Option<Box<Record>> {
+    for _ in 0..200 {
+        let mut record = well_formed_record(rng, l, e);
+        let done = put_fault(rng, &mut record, fault);
+        if done.is_some() && broken_clauses(&record) == [fault.clause()] {
+            return Some(record);
+        }
+    }
+    None
+}
+
+/// A random fault in a random record of these legal sizes, and which it is.
+pub fn any_ill_formed_record(rng: &mut Rng, l: u32, e: u32) -> (Box<Record>, Fault) {
+    loop {
+        let fault = rng.pick(&FAULTS);
+        if let Some(record) = ill_formed_record(rng, l, e, fault) {
+            return (record, fault);
+        }
+    }
+}
+
+/// Puts the fault into a well-formed record; `None` if it has no place there.
+fn put_fault(rng: &mut Rng, record: &mut Record, fault: Fault) -> Option<()> {
+    match fault {
+        Fault::IllegalMode => {
+            *record = *Record::fresh(record.l, record.e);
+            record.mode = rng.pick(&[4, 5, 6, 8, 9, 15, 255, 256, 257, 65_536, u32::MAX]);
+        }
+        Fault::CacheAboveL => {
+            *record = *Record::fresh(record.l, record.e);
+            record.mode = rng.pick(&[1, 2, 3, 7]);
+        }
+        Fault::Mar128NoBit => {
+            // No line may lie there: its MAR bit would not be 1 any more.
+            drop_range(record, 128);
+            record.mar128 = rng.pick(&[2, 3, 128, 255, 256, u32::MAX]);
+        }
+        Fault::Mar129NoBit => {
+            drop_range(record, 129);
+            record.mar129 = rng.pick(&[2, 3, 129, 255, 256, u32::MAX]);
+        }
+        Fault::L1dOrder => {
+            let set = rng.below(L1d::SETS as u32) as usize;
+            record.l1d[set].order[rng.below(2) as usize] = rng.pick(&[0, 1, 2, 3, 200, 255]);
+        }
+        Fault::L2Order => {
+            let sets = L2::sets(record.mode) as u32;
+            if sets == 0 {
+                return None;
+            }
+            let set = rng.below(sets) as usize;
+            record.l2[set].order[rng.below(4) as usize] = rng.pick(&[0, 1, 2, 3, 4, 5, 200, 255]);
+        }
+        Fault::L1dInvalidDirty => {
+            let (set, way) = l1d_way(rng, record, false)?;
+            record.l1d[set].lines[way].dirty = true;
+        }
+        Fault::L1dInvalidAddress => {
+            let (set, way) = l1d_way(rng, record, false)?;
+            record.l1d[set].lines[way].address = any_address(rng, record);
+        }
+        Fault::L2InvalidDirty => {
+            let (set, way) = l2_way(rng, record, false)?;
+            record.l2[set].lines[way].dirty = true;
+        }
+        Fault::L2InvalidAddress => {
+            let (set, way) = l2_way(rng, record, false)?;
+            record.l2[set].lines[way].address = any_address(rng, record);
+        }
+        Fault::L1dNoMultiple => {
+            let (set, way) = l1d_way(rng, record, true)?;
+            record.l1d[set].lines[way].address += 1 + rng.below(L1d::LINE - 1);
+        }
+        Fault::L2NoMultiple => {
+            let (set, way) = l2_way(rng, record, true)?;
+            drop_l1d_halves(record, record.l2[set].lines[way].address);
+            record.l2[set].lines[way].address += 1 + rng.below(L2::LINE - 1);
+        }
+        Fault::L1dOtherSet => {
+            // The other half of the 128 bytes lies in a set next to this one.
+            let (set, way) = l1d_way(rng, record, true)?;
+            let other_half = record.l1d[set].lines[way].address ^ L1d::LINE;
+            drop_l1d_line(record, other_half);
+            record.l1d[set].lines[way].address = other_half;
+        }
+        Fault::L2OtherSet => {
+            let (set, way) = l2_way(rng, record, true)?;
+            let address = record.l2[set].lines[way].address;
+            let neighbour = address ^ L2::LINE;
+            drop_l1d_halves(record, address);
+            drop_l1d_halves(record, neighbour);
+            if let Some((set, way)) = record.find_l2(neighbour) {
+                record.l2[set].lines[way] = Line::EMPTY;
+            }
+            record.l2[set].lines[way].address = neighbour;
+        }
+        Fault::L1dTwice => {
+            let (set, way) = l1d_way(rng, record, true)?;
+            record.l1d[set].lines[1 - way] = record.l1d[set].lines[way];
+            record.l1d[set].lines[1 - way].dirty = rng.chance(1, 2);
+        }
+        Fault::L2Twice => {
+            let (set, way) = l2_way(rng, record, true)?;
+            let other = (way + 1 + rng.below(3) as usize) % L2::WAYS;
+            if record.l2[set].lines[other].valid {
+                drop_l1d_halves(record, record.l2[set].lines[other].address);
+            }
+            record.l2[set].lines[other] = record.l2[set].lines[way];
+            record.l2[set].lines[other].dirty = rng.chance(1, 2);
+        }
+        Fault::L1dOutside => {
+            let set = rng.below(L1d::SETS as u32);
+            let way = rng.below(2) as usize;
+            let first = first_outside(rng, record).next_multiple_of(8_192);
+            let turn = if rng.chance(1, 2) { 0 } else { rng.below(64) };
+            let address = first.checked_add(set * L1d::LINE + turn * 8_192)?;
+            record.l1d[set as usize].lines[way] =
+                Line { valid: true, dirty: rng.chance(1, 2), address };
+        }
+        Fault::L1dMarZero => {
+            let number = rng.pick(&[128, 129]);
+            if !holds_a_line_of(record, number) {
+                return None;
+            }
+            change_mar(record, number, 0);
+        }
+        Fault::L2InSram => {
+            if record.sram_size() == 0 {
+                return None;
+            }
+            let address = rng.below(record.sram_size() / L2::LINE) * L2::LINE;
+            put_l2_line(rng, record, address)?;
+        }
+        Fault::L2Outside => {
+            let turn = if rng.chance(1, 2) { rng.below(4) } else { rng.below(4_096) };
+            let address = first_outside(rng, record).checked_add(turn * L2::LINE)?;
+            put_l2_line(rng, record, address)?;
+        }
+        Fault::L2MarZero => {
+            let number = rng.pick(&[128, 129]);
+            drop_l1d_range(record, number);
+            if !holds_a_line_of(record, number) {
+                return None;
+            }
+            change_mar(record, number, 0);
+        }
+        Fault::UnusedSetOrder => {
+            let set = unused_set(rng, record)?;
+            record.l2[set].order = rng.permutation();
+            if rng.chance(1, 4) {
+                record.l2[set].order[rng.below(4) as usize] = rng.pick(&[0, 3, 4, 200]);
+            }
+        }
+        Fault::UnusedSetMark => {
+            let set = unused_set(rng, record)?;
+            let way = rng.below(4) as usize;
+            if rng.chance(1, 2) {
+                record.l2[set].lines[way].dirty = true;
+            } else {
+                record.l2[set].lines[way].address = any_address(rng, record);
+            }
+        }
+        Fault::UnusedSetLine => {
+            let set = unused_set(rng, record)?;
+            let address = external_line(rng, record, L2::LINE, L2::SETS_HELD, set)?;
+            record.l2[set].lines[rng.below(4) as usize] =
+                Line { valid: true, dirty: rng.chance(1, 2), address };
+        }
+        Fault::L1dNotInL2 => {
+            let set = rng.below(L1d::SETS as u32) as usize;
+            let address = external_line(rng, record, L1d::LINE, L1d::SETS, set)?;
+            drop_l1d_halves(record, L2::line_address(address));
+            if let Some((set, way)) = record.find_l2(address) {
+                record.l2[set].lines[way] = Line::EMPTY;
+            }
+            record.l1d[set].lines[rng.below(2) as usize] =
+                Line { valid: true, dirty: rng.chance(1, 2), address };
+        }
+    }
+    Some(())
+}
+
+/// A random valid (or invalid) way of L1D.
+fn l1d_way(rng: &mut Rng, record: &Record, valid: bool) -> Option<(usize, usize)> {
+    let mut ways = Vec::new();
+    for (number, set) in record.l1d.iter().enumerate() {
+        for (way, line) in set.lines.iter().enumerate() {
+            if line.valid == valid {
+                ways.push((number, way));
+            }
+        }
+    }
+    if ways.is_empty() {
+        None
+    } else {
+        Some(rng.pick(&ways))
+    }
+}
+
+/// A random valid (or invalid) way of an L2 set in use.
+fn l2_way(rng: &mut Rng, record: &Record, valid: bool) -> Option<(usize, usize)> {
+    let mut ways = Vec::new();
+    for (number, set) in record.l2.iter().enumerate().take(L2::sets(record.mode)) {
+        for (way, line) in set.lines.iter().enumerate() {
+            if line.valid == valid {
+                ways.push((number, way));
+            }
+        }
+    }
+    if ways.is_empty() {
+        None
+    } else {
+        Some(rng.pick(&ways))
+    }
+}
+
+/// Puts a line in place of another, in the set of its address; `None` in mode
+/// 0.
+fn put_l2_line(rng: &mut Rng, record: &mut Record, address: u32) -> Option<()> {
+    let set = L2::set_of(record.mode, address)?;
+    let way = rng.below(L2::WAYS as u32) as usize;
+    if record.l2[set].lines[way].valid {
+        drop_l1d_halves(record, record.l2[set].lines[way].address);
+    }
+    record.l2[set].lines[way] = Line { valid: true, dirty: rng.chance(1, 2), address };
+    Some(())
+}
+
+/// A random L2 set not in use.
+fn unused_set(rng: &mut Rng, record: &Record) -> Option<usize> {
+    let sets = L2::sets(record.mode);
+    if sets == L2::SETS_HELD {
+        return None;
+    }
+    let any = rng.below((L2::SETS_HELD - sets) as u32) as usize;
+    Some(rng.pick(&[sets, L2::SETS_HELD - 1, sets + any]))
+}
+
+/// An address at which one of the memories has just ended, or a far one
+/// outside both.
+fn first_outside(rng: &mut Rng, record: &Record) -> u32 {
+    match rng.below(4) {
+        0 => record.sram_size(),
+        1 => EXTERNAL_BASE + record.e,
+        2 => 0x7FFF_E000,
+        _ => 0xFFF0_0000,
+    }
+}
+
+/// Empties the L1D ways that hold a half of this L2 line.
+fn drop_l1d_halves(record: &mut Record, l2_line: u32) {
+    drop_l1d_line(record, l2_line);
+    drop_l1d_line(record, l2_line + L1d::LINE);
+}
+
+/// Empties the L1D way that holds this line.
+fn drop_l1d_line(record: &mut Record, address: u32) {
+    if let Some((set, way)) = record.find_l1d(address) {
+        record.l1d[set].lines[way] = Line::EMPTY;
+    }
+}
+
+/// Empties all ways of L1D that hold a line of this MAR range.
+fn drop_l1d_range(record: &mut Record, number: u32) {
+    for line in record.l1d.iter_mut().flat_map(|set| set.lines.iter_mut()) {
+        if mar_number(line.address) == number {
+            *line = Line::EMPTY;
+        }
+    }
+}
+
+/// Empties all ways of either cache that hold a line of this MAR range.
+fn drop_range(record: &mut Record, number: u32) {
+    drop_l1d_range(record, number);
+    for line in record.l2.iter_mut().flat_map(|set| set.lines.iter_mut()) {
+        if mar_number(line.address) == number {
+            *line = Line::EMPTY;
+        }
+    }
+}
+
+/// An address other than 0, in memory or not.
+fn any_address(rng: &mut Rng, record: &Record) -> u32 {
+    match rng.below(4) {
+        0 => 1,
+        1 => EXTERNAL_BASE + rng.below(record.e),
+        2 => 64 + rng.below(record.l),
+        _ => rng.next_u32() | 1,
+    }
+}
+
+/// A record of no sense at all: random numbers in every field, with a bias to
+/// small ones, so that a test of the paragraph sees any content.
+pub fn senseless_record(rng: &mut Rng, l: u32, e: u32) -> Box<Record> {
+    let mut record = Record::fresh(l, e);
+    record.mode = if rng.chance(1, 2) { rng.below(9) } else { rng.next_u32() };
+    record.mar128 = rng.below(3);
+    record.mar129 = if rng.chance(1, 2) { rng.below(3) } else { rng.next_u32() };
+    let density = rng.pick(&[1, 8, 16]);
+    for set in record.l1d.iter_mut() {
+        if rng.chance(density, 16) {
+            set.order = rng.next_u32().to_le_bytes()[..2].try_into().unwrap();
+            for line in set.lines.iter_mut() {
+                *line = senseless_line(rng, e);
+            }
+        }
+    }
+    for set in record.l2.iter_mut() {
+        if rng.chance(density, 16) {
+            set.order = rng.next_u32().to_le_bytes();
+            for line in set.lines.iter_mut() {
+                *line = senseless_line(rng, e);
+            }
+        }
+    }
+    record
+}
+
+/// A line of no sense.
+fn senseless_line(rng: &mut Rng, e: u32) -> Line {
+    let address = match rng.below(4) {
+        0 => rng.next_u32(),
+        1 => EXTERNAL_BASE.wrapping_add(rng.below(e)),
+        2 => rng.below(300_000),
+        _ => u32::MAX - rng.below(200),
+    };
+    Line { valid: rng.chance(1, 2), dirty: rng.chance(1, 2), address }
+}
+
+// ---------------------------------------------------------- wrong lengths
+
+/// What is wrong with the lengths; all of them get 1.
+#[derive(Clone, Copy, PartialEq, Eq, Debug)]
+pub enum WrongLength {
+    /// A lent length illegal.
+    L1d,
+    L2Illegal,
+    ExternalIllegal,
+    /// A lent length legal, but unlike the record's.
+    L2Unlike,
+    ExternalUnlike,
+    /// The record's own length illegal, the lent one legal.
+    RecordL,
+    RecordE,
+    /// The record's and the lent length alike and illegal.
+    BothL,
+    BothE,
+}
+
+/// All wrong lengths.
+pub const WRONG_LENGTHS: [WrongLength; 9] = [
+    WrongLength::L1d,
+    WrongLength::L2Illegal,
+    WrongLength::ExternalIllegal,
+    WrongLength::L2Unlike,
+    WrongLength::ExternalUnlike,
+    WrongLength::RecordL,
+    WrongLength::RecordE,
+    WrongLength::BothL,
+    WrongLength::BothE,
+];
+
+/// Makes one length wrong. The fault is not seen by the technician's call if
+/// it is `L1d`, nor by a fresh start if it is one of `L2Unlike`,
+/// `ExternalUnlike`, `RecordL` and `RecordE`.
+pub fn make_length_wrong(rng: &mut Rng, setup: &mut Setup, wrong: WrongLength) {
+    match wrong {
+        WrongLength::L1d => {
+            let length = rng.pick(&[0, 1, 64, 8_192, 16_320, 16_383, 16_385, 16_448, 32_768]);
+            setup.l1d.resize(length, 0xA5);
+        }
+        WrongLength::L2Illegal => setup.l2.resize(illegal_l(rng) as usize, 0xA5),
+        WrongLength::ExternalIllegal => {
+            let length = illegal_e(rng, setup.ext.len() as u32);
+            setup.ext.resize(length as usize, 0xA5);
+        }
+        WrongLength::L2Unlike => {
+            let others: Vec<u32> =
+                LEGAL_L.into_iter().filter(|&l| l as usize != setup.l2.len()).collect();
+            setup.l2.resize(rng.pick(&others) as usize, 0xA5);
+        }
+        WrongLength::ExternalUnlike => {
+            let length = setup.ext.len();
+            let others = [128, 256, length - 128, length + 128];
+            let legal: Vec<usize> = others
+                .into_iter()
+                .filter(|&e| e != length && (128..=33_554_432).contains(&e))
+                .collect();
+            setup.ext.resize(rng.pick(&legal), 0xA5);
+        }
+        WrongLength::RecordL => setup.record.l = illegal_l(rng),
+        WrongLength::RecordE => setup.record.e = illegal_e(rng, setup.record.e),
+        WrongLength::BothL => {
+            setup.record.l = illegal_l(rng);
+            setup.l2.resize(setup.record.l as usize, 0xA5);
+        }
+        WrongLength::BothE => {
+            setup.record.e = illegal_e(rng, setup.record.e);
+            setup.ext.resize(setup.record.e as usize, 0xA5);
+        }
+    }
+}
+
+/// An illegal L.
+fn illegal_l(rng: &mut Rng) -> u32 {
+    rng.pick(&[0, 1, 128, 16_384, 32_767, 32_769, 65_535, 81_920, 262_143, 262_145, 294_912])
+}
+
+/// An illegal E, never far from the legal one but for 0 and the upper end.
+fn illegal_e(rng: &mut Rng, e: u32) -> u32 {
+    match rng.below(16) {
+        0 => 33_554_432 + 128,
+        1..=4 => 0,
+        5..=8 => e + 1 + rng.below(127),
+        9..=12 => e - 1 - rng.below(127),
+        _ => 64,
+    }
+}
+
+// ------------------------------------------------------------ random calls
+
+/// Addresses that calls come back to again and again: lines that compete for
+/// the same L1D and L2 sets, in SRAM and on both sides of the border of the
+/// MAR ranges (as far as E reaches), and the ends of the memories.
+#[derive(Clone, Debug)]
+pub struct Hot {
+    pub l: u32,
+    pub e: u32,
+    pub lines: Vec<u32>,
+}
+
+/// A handful of hot lines for these sizes.
+pub fn hot(rng: &mut Rng, l: u32, e: u32) -> Hot {
+    let first = 64 * rng.below(128);
+    let mut external = Vec::new();
+    for turn in 0..8 {
+        external.push(first + turn * 8_192);
+        external.push(first + turn * 65_536);
+        external.push(0x0100_0000 + first + turn * 8_192);
+        external.push(0x0100_0000 - 65_536 + first + turn * 8_192);
+        external.push(0x0100_0000 + first + turn * 65_536);
+    }
+    external.push(first ^ 64);
+    external.push(0x0100_0000 - 64);
+    external.push(0x0100_0000);
+    external.push(e - 64);
+    external.push(e - 128);
+    external.retain(|&offset| offset < e);
+
+    let mut sram = Vec::new();
+    for turn in 0..4 {
+        sram.push(first + turn * 8_192);
+    }
+    for c in [0, 32_768, 65_536, 131_072, 262_144] {
+        if c < l {
+            sram.push(l - c - 64);
+        }
+        if c > 0 && c <= l {
+            sram.push(l - c);
+        }
+    }
+
+    let wanted = rng.pick(&[6, 12, 24]);
+    let mut lines = Vec::new();
+    while lines.len() < wanted {
+        let line =
+            if rng.chance(1, 4) { rng.pick(&sram) } else { EXTERNAL_BASE + rng.pick(&external) };
+        lines.push(line);
+        if rng.chance(1, 3) {
+            lines.push(line ^ 64);
+        }
+    }
+    Hot { l, e, lines }
+}
+
+/// Hot lines for a record: some that it holds, and a handful of others.
+pub fn hot_for(rng: &mut Rng, record: &Record) -> Hot {
+    let mut hot = hot(rng, record.l, record.e);
+    for _ in 0..hot.lines.len() {
+        if let Some((set, way)) = l1d_way(rng, record, true) {
+            hot.lines.push(record.l1d[set].lines[way].address);
+        }
+        if let Some((set, way)) = l2_way(rng, record, true) {
+            hot.lines.push(record.l2[set].lines[way].address + 64 * rng.below(2));
+        }
+    }
+    hot
+}
+
+/// How often each kind of command comes up, in parts of the sum.
+#[derive(Clone, Copy, Debug)]
+pub struct Mix {
+    pub read: u32,
+    pub write: u32,
+    pub l2_all: u32,
+    pub l2_block_writeback: u32,
+    pub l2_block_invalidate: u32,
+    pub l1d_block_writeback: u32,
+    pub l1d_block_invalidate: u32,
+    pub l1d_invalidate_all: u32,
+    pub mode: u32,
+    pub mar: u32,
+}
+
+impl Mix {
+    /// Everything.
+    pub const ALL: Mix = Mix {
+        read: 400,
+        write: 300,
+        l2_all: 20,
+        l2_block_writeback: 60,
+        l2_block_invalidate: 20,
+        l1d_block_writeback: 40,
+        l1d_block_invalidate: 20,
+        l1d_invalidate_all: 5,
+        mode: 15,
+        mar: 40,
+    };
+
+    /// Everything that flat memory agrees with: nothing is dropped unwritten.
+    pub const NO_DROPS: Mix =
+        Mix { l2_block_invalidate: 0, l1d_block_invalidate: 0, l1d_invalidate_all: 0, ..Mix::ALL };
+
+    /// The sum of the parts.
+    fn sum(&self) -> u32 {
+        self.read
+            + self.write
+            + self.l2_all
+            + self.l2_block_writeback
+            + self.l2_block_invalidate
+            + self.l1d_block_writeback
+            + self.l1d_block_invalidate
+            + self.l1d_invalidate_all
+            + self.mode
+            + self.mar
+    }
+}
+
+/// A random command; most of them pass the checks.
+pub fn command(rng: &mut Rng, hot: &Hot, mix: &Mix) -> Command {
+    let mut part = rng.below(mix.sum());
+    let mut is_in = |share: u32| {
+        let found = part < share;
+        part = part.wrapping_sub(share);
+        found
+    };
+    if is_in(mix.read) {
+        let size = access_size(rng);
+        Command::Read { size, address: access_address(rng, hot, size) }
+    } else if is_in(mix.write) {
+        let size = access_size(rng);
+        let address = access_address(rng, hot, size);
+        Command::Write { size, address, value: written_value(rng, size) }
+    } else if is_in(mix.l2_all) {
+        if rng.chance(1, 2) {
+            Command::L2WritebackAll
+        } else {
+            Command::L2WritebackInvalidateAll
+        }
+    } else if is_in(mix.l2_block_writeback) {
+        let (base, count) = block(rng, hot);
+        if rng.chance(1, 2) {
+            Command::L2BlockWriteback { base, count }
+        } else {
+            Command::L2BlockWritebackInvalidate { base, count }
+        }
+    } else if is_in(mix.l2_block_invalidate) {
+        let (base, count) = block(rng, hot);
+        Command::L2BlockInvalidate { base, count }
+    } else if is_in(mix.l1d_block_writeback) {
+        let (base, count) = block(rng, hot);
+        Command::L1dBlockWritebackInvalidate { base, count }
+    } else if is_in(mix.l1d_block_invalidate) {
+        let (base, count) = block(rng, hot);
+        Command::L1dBlockInvalidate { base, count }
+    } else if is_in(mix.l1d_invalidate_all) {
+        Command::L1dInvalidateAll
+    } else if is_in(mix.mode) {
+        let legal = rng.chance(7, 8);
+        let mode = if legal {
+            rng.pick(&LEGAL_MODES)
+        } else {
+            rng.pick(&[4, 5, 6, 8, 255, 256, 263, u32::MAX])
+        };
+        Command::Mode { mode }
+    } else {
+        let number = if rng.chance(15, 16) {
+            rng.pick(&[128, 129])
+        } else {
+            rng.pick(&[0, 127, 130, 384, u32::MAX])
+        };
+        let bit = if rng.chance(15, 16) {
+            u32::from(rng.chance(3, 4))
+        } else {
+            rng.pick(&[2, 3, 256, u32::MAX])
+        };
+        Command::Mar { number, bit }
+    }
+}
+
+/// An access size, seldom an illegal one.
+fn access_size(rng: &mut Rng) -> u32 {
+    if rng.chance(1, 64) {
+        rng.pick(&[0, 3, 5, 6, 7, 9, 16, 256, u32::MAX])
+    } else {
+        rng.pick(&[1, 2, 4, 8])
+    }
+}
+
+/// An access address: mostly in or next to a hot line and aligned, seldom
+/// anywhere.
+fn access_address(rng: &mut Rng, hot: &Hot, size: u32) -> u32 {
+    let address = match rng.below(64) {
+        0 => rng.next_u32(),
+        1 => EXTERNAL_BASE.wrapping_add(hot.e).wrapping_sub(64).wrapping_add(rng.below(128)),
+        2 => rng.below(hot.l + 64),
+        3 => EXTERNAL_BASE + rng.below(hot.e),
+        4..=10 => rng.pick(&hot.lines).wrapping_add(rng.below(256)).wrapping_sub(64),
+        _ => rng.pick(&hot.lines).wrapping_add(rng.below(64)),
+    };
+    if size == 0 || rng.chance(1, 48) {
+        address
+    } else {
+        address - address % size
+    }
+}
+
+/// A value that fits the size, seldom one that does not.
+fn written_value(rng: &mut Rng, size: u32) -> u64 {
+    let value = rng.next_u64();
+    if size >= 8 {
+        return value;
+    }
+    let bound = 1u64 << (8 * size);
+    match rng.below(32) {
+        0 => value,
+        1 => bound,
+        2 => bound - 1,
+        _ => value % bound,
+    }
+}
+
+/// A block near a hot line, now and then a long one, one of no legal form, or
+/// one that passes FFFFFFFFh.
+fn block(rng: &mut Rng, hot: &Hot) -> (u32, u32) {
+    let near = rng.pick(&hot.lines).wrapping_add(rng.below(256)).wrapping_sub(128);
+    let base = match rng.below(32) {
+        0 => rng.next_u32(),
+        1 => u32::MAX - rng.below(512),
+        2 => EXTERNAL_BASE - rng.below(1_024),
+        _ => near,
+    };
+    let base = if rng.chance(1, 24) { base } else { base - base % 4 };
+    let count = match rng.below(32) {
+        0 => rng.pick(&[65_535, 65_536, 65_537, 1 << 30, u32::MAX]),
+        1 | 2 => rng.below(65_536),
+        3..=6 => rng.below(2_048),
+        7 => 0,
+        _ => rng.below(80),
+    };
+    (base, count)
+}
+
+/// A random address for the technician's call.
+pub fn look_address(rng: &mut Rng, hot: &Hot) -> u32 {
+    let address = access_address(rng, hot, 1);
+    if rng.chance(1, 16) {
+        address
+    } else {
+        address - address % L1d::LINE
+    }
+}
+
+/// Any call.
+#[derive(Clone, PartialEq, Eq, Debug)]
+pub enum Call {
+    FreshStart,
+    Direct(Command),
+    Run { trace: Vec<u8>, answer_bytes: usize },
+    Look { address: u32 },
+}
+
+/// A random call of any kind; fresh starts are seldom.
+pub fn call(rng: &mut Rng, hot: &Hot, mix: &Mix) -> Call {
+    match rng.below(512) {
+        0 => Call::FreshStart,
+        1..=24 => {
+            let kind = rng.pick(&TRACE_KINDS);
+            let commands = rng.below(24) as usize;
+            let made = trace(rng, hot, mix, commands, kind);
+            let answer_bytes = match rng.below(4) {
+                0 => rng.below(300) as usize,
+                1 => 10 * commands,
+                _ => 10 * commands + 20,
+            };
+            Call::Run { trace: made.bytes, answer_bytes }
+        }
+        25..=64 => Call::Look { address: look_address(rng, hot) },
+        _ => Call::Direct(command(rng, hot, mix)),
+    }
+}
+
+// ------------------------------------------------------------------ traces
+
+/// The code of a command.
+pub fn code(command: &Command) -> u8 {
+    match command {
+        Command::Read { .. } => 0,
+        Command::Write { .. } => 1,
+        Command::L2WritebackAll => 2,
+        Command::L2WritebackInvalidateAll => 3,
+        Command::L2BlockWriteback { .. } => 4,
+        Command::L2BlockWritebackInvalidate { .. } => 5,
+        Command::L2BlockInvalidate { .. } => 6,
+        Command::L1dBlockWritebackInvalidate { .. } => 7,
+        Command::L1dBlockInvalidate { .. } => 8,
+        Command::L1dInvalidateAll => 9,
+        Command::Mode { .. } => 10,
+        Command::Mar { .. } => 11,
+    }
+}
+
+/// The numbers of a command, in the order of the trace.
+pub fn numbers(command: &Command) -> Vec<u64> {
+    match *command {
+        Command::Read { size, address } => vec![size.into(), address.into()],
+        Command::Write { size, address, value } => vec![size.into(), address.into(), value],
+        Command::L2WritebackAll | Command::L2WritebackInvalidateAll | Command::L1dInvalidateAll => {
+            vec![]
+        }
+        Command::L2BlockWriteback { base, count }
+        | Command::L2BlockWritebackInvalidate { base, count }
+        | Command::L2BlockInvalidate { base, count }
+        | Command::L1dBlockWritebackInvalidate { base, count }
+        | Command::L1dBlockInvalidate { base, count } => vec![base.into(), count.into()],
+        Command::Mode { mode } => vec![mode.into()],
+        Command::Mar { number, bit } => vec![number.into(), bit.into()],
+    }
+}
+
+/// "numbers in groups of seven bits, low group first, top bit set on all but
+/// the last, shortest form only."
+pub fn encode_number(mut value: u128, bytes: &mut Vec<u8>) {
+    while value >= 0x80 {
+        bytes.push(0x80 | (value & 0x7F) as u8);
+        value >>= 7;
+    }
+    bytes.push(value as u8);
+}
+
+/// "A command is a code byte and numbers".
+pub fn encode(command: &Command, bytes: &mut Vec<u8>) {
+    bytes.push(code(command));
+    for number in numbers(command) {
+        encode_number(number.into(), bytes);
+    }
+}
+
+/// What kind of trace it is.
+#[derive(Clone, Copy, PartialEq, Eq, Debug)]
+pub enum TraceKind {
+    /// Whole commands only.
+    Valid,
+    /// The last command is cut off.
+    CutOff,
+    /// A command with an unknown code follows, then more.
+    UnknownCode,
+    /// A command with an overlong number follows, then more.
+    Overlong,
+    /// A command with a too wide number follows, then more.
+    TooWide,
+    /// A valid trace with one byte changed.
+    ByteChanged,
+    /// Random bytes.
+    Noise,
+}
+
+/// All kinds of traces.
+pub const TRACE_KINDS: [TraceKind; 7] = [
+    TraceKind::Valid,
+    TraceKind::CutOff,
+    TraceKind::UnknownCode,
+    TraceKind::Overlong,
+    TraceKind::TooWide,
+    TraceKind::ByteChanged,
+    TraceKind::Noise,
+];
+
+/// A trace with what is known of it.
+#[derive(Clone, Debug)]
+pub struct MadeTrace {
+    pub kind: TraceKind,
+    pub bytes: Vec<u8>,
+    /// The whole commands in front, and their length. Nothing is known of a
+    /// changed or random trace; then there are none.
+    pub commands: Vec<Command>,
+    pub good_bytes: usize,
+    /// The stop number with answer bytes for all, where it is known.
+    pub stop: Option<u8>,
+}
+
+/// A random trace of `count` commands, and damage of this kind behind them.
+pub fn trace(rng: &mut Rng, hot: &Hot, mix: &Mix, count: usize, kind: TraceKind) -> MadeTrace {
+    let commands: Vec<Command> = (0..count).map(|_| command(rng, hot, mix)).collect();
+    let mut bytes = Vec::new();
+    for command in &commands {
+        encode(command, &mut bytes);
+    }
+    let good_bytes = bytes.len();
+    let mut made = MadeTrace { kind, bytes, commands, good_bytes, stop: Some(11) };
+    match kind {
+        TraceKind::Valid => made.stop = Some(0),
+        TraceKind::CutOff => {
+            let mut whole = Vec::new();
+            encode(&command_with_numbers(rng, hot, mix), &mut whole);
+            let kept = 1 + rng.below(whole.len() as u32 - 1) as usize;
+            made.bytes.extend_from_slice(&whole[..kept]);
+        }
+        TraceKind::UnknownCode => {
+            made.bytes.push(12 + rng.below(244) as u8);
+            push_more(rng, hot, mix, &mut made.bytes);
+        }
+        TraceKind::Overlong => {
+            let command = command_with_numbers(rng, hot, mix);
+            let numbers = numbers(&command);
+            let bad = rng.below(numbers.len() as u32) as usize;
+            made.bytes.push(code(&command));
+            for (place, &number) in numbers.iter().enumerate() {
+                encode_number(number.into(), &mut made.bytes);
+                if place == bad {
+                    *made.bytes.last_mut().unwrap() |= 0x80;
+                    for _ in 0..rng.pick(&[0, 0, 0, 1, 2, 8, 12]) {
+                        made.bytes.push(0x80);
+                    }
+                    made.bytes.push(0);
+                }
+            }
+            push_more(rng, hot, mix, &mut made.bytes);
+        }
+        TraceKind::TooWide => {
+            let command = command_with_numbers(rng, hot, mix);
+            let numbers = numbers(&command);
+            let bad = rng.below(numbers.len() as u32) as usize;
+            made.bytes.push(code(&command));
+            for (place, &number) in numbers.iter().enumerate() {
+                let is_value = matches!(command, Command::Write { .. }) && place == 2;
+                let width = if is_value { 64 } else { 32 };
+                let mut number = u128::from(number);
+                if place == bad {
+                    number += match rng.below(3) {
+                        0 => 1u128 << width,
+                        1 => (1 + u128::from(rng.next_u32())) << width,
+                        _ => 1u128 << (width + rng.below(28)),
+                    };
+                }
+                encode_number(number, &mut made.bytes);
+            }
+            push_more(rng, hot, mix, &mut made.bytes);
+        }
+        TraceKind::ByteChanged => {
+            if !made.bytes.is_empty() {
+                let place = rng.below(made.bytes.len() as u32) as usize;
+                made.bytes[place] = rng.next_u32() as u8;
+            }
+            made.commands.clear();
+            made.good_bytes = 0;
+            made.stop = None;
+        }
+        TraceKind::Noise => {
+            let length = rng.below(200) as usize;
+            made.bytes.resize(length, 0);
+            rng.fill(&mut made.bytes);
+            for byte in made.bytes.iter_mut() {
+                // Small bytes are codes and ends of numbers.
+                if rng.chance(3, 4) {
+                    *byte %= 16;
+                }
+            }
+            made.commands.clear();
+            made.good_bytes = 0;
+            made.stop = None;
+        }
+    }
+    made
+}
+
+/// A random command that has numbers.
+fn command_with_numbers(rng: &mut Rng, hot: &Hot, mix: &Mix) -> Command {
+    loop {
+        let command = command(rng, hot, mix);
+        if !numbers(&command).is_empty() {
+            return command;
+        }
+    }
+}
+
+/// Whole commands behind the damage.
+fn push_more(rng: &mut Rng, hot: &Hot, mix: &Mix, bytes: &mut Vec<u8>) {
+    for _ in 0..rng.below(4) {
+        encode(&command(rng, hot, mix), bytes);
+    }
+}

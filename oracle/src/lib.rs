@@ -1,0 +1,22 @@
+//! A reference model of the two-level data memory of paper 01, "The C64x data
+//! memory in two levels". It is written from the sentences of that paper
+//! alone, for obviousness. The sentence a function carries out is quoted
+//! above it.
+
+pub mod access;
+pub mod bench;
+pub mod calls;
+pub mod commands;
+pub mod flat;
+pub mod gen;
+pub mod geometry;
+pub mod machine;
+pub mod modes;
+pub mod record;
+pub mod trace;
+pub mod view;
+pub mod wellformed;
+
+pub use calls::Answer;
+pub use record::{L1dSet, L2Set, Line, Record};
+pub use trace::{Command, RunResult};

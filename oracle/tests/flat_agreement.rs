@@ -1,0 +1,133 @@
+//! Long lists of calls from fresh agree with the flat memory of the paper, and
+//! every accepted call keeps the record well formed.
+
+use oracle::flat::Flat;
+use oracle::gen::{command, hot, Mix, Rng, Setup, E_BOTH_RANGES, LEGAL_L};
+use oracle::wellformed::broken_clauses;
+use oracle::Command;
+
+/// What a list met, to see that it was worth running.
+#[derive(Default, Debug)]
+struct Met {
+    servers: [u32; 5],
+    numbers: [u32; 13],
+    modes: [u32; 8],
+    compared: u32,
+    bypassed_in: [u32; 2],
+}
+
+/// Runs a list of calls from fresh. Without drops, reads and refusals are
+/// compared with flat memory, and external memory after each accepted global
+/// L2 writeback in a mode other than 0.
+fn run_list(seed: u64, l: u32, e: u32, calls: u32, mix: &Mix, met: &mut Met) {
+    let mut rng = Rng::new(seed);
+    let mut ext = vec![0; e as usize];
+    rng.fill(&mut ext);
+    let mut flat = Flat::fresh(l, &ext);
+    let mut setup = Setup::fresh_over(l, ext);
+    let drops = mix.l2_block_invalidate + mix.l1d_block_invalidate + mix.l1d_invalidate_all > 0;
+    let mut lines = hot(&mut rng, l, e);
+    for turn in 0..calls {
+        if rng.chance(1, 1_000) {
+            lines = hot(&mut rng, l, e);
+        }
+        let command = command(&mut rng, &lines, mix);
+        let answer = setup.call(&command);
+        met.numbers[answer.number as usize] += 1;
+        met.servers[answer.server as usize] += 1;
+        if answer.number != 0 {
+            assert_eq!((answer.server, answer.value), (0, 0), "{seed} {turn} {command:?}");
+        }
+        // Every call begins by testing the record that the last one left.
+        assert!(answer.number != 1 && answer.number != 2, "{seed} {turn} {command:?}");
+        met.modes[setup.record.mode as usize] += 1;
+        if let (0, Command::Read { address, .. }) = (answer.number, &command) {
+            let range = (address >> 24) as usize;
+            if range >= 128 && setup.record.mar_bit(*address) == 0 {
+                met.bypassed_in[range - 128] += 1;
+            }
+        }
+        if let Some((number, value)) = flat.apply(&command) {
+            assert_eq!(answer.number, number, "{seed} {turn} {command:?}");
+            if !drops {
+                assert_eq!(answer.value, value, "{seed} {turn} {command:?}");
+            }
+        }
+        let global = matches!(command, Command::L2WritebackAll | Command::L2WritebackInvalidateAll);
+        if !drops && global && answer.number == 0 && setup.record.mode != 0 {
+            assert!(setup.ext == flat.ext, "{seed} {turn} {command:?}");
+            met.compared += 1;
+        }
+    }
+    assert_eq!(broken_clauses(&setup.record), []);
+    if !drops {
+        // A last mode change brings everything home.
+        setup.mode(0);
+        flat.change_mode(0);
+        assert!(setup.ext == flat.ext, "{seed} external memory at the end");
+        assert!(setup.l2 == flat.sram, "{seed} SRAM at the end");
+    }
+}
+
+/// Every legal L with external memory in both MAR ranges.
+#[test]
+fn lists_agree_with_flat_memory_in_both_mar_ranges() {
+    let mix = Mix { l2_all: 4, mode: 6, ..Mix::NO_DROPS };
+    let mut met = Met::default();
+    for (number, l) in LEGAL_L.into_iter().enumerate() {
+        run_list(100 + number as u64, l, E_BOTH_RANGES, 12_000, &mix, &mut met);
+    }
+    check_met(&met);
+    assert!(met.bypassed_in.iter().all(|&count| count > 100), "{met:?}");
+}
+
+/// Many lists with smaller external memories, the smallest one too.
+#[test]
+fn lists_agree_with_flat_memory_in_small_memories() {
+    let mut met = Met::default();
+    for (number, l) in LEGAL_L.into_iter().enumerate() {
+        for (turn, e) in [128, 8_192, 65_536, 6 * 65_536].into_iter().enumerate() {
+            let seed = 1_000 + 10 * number as u64 + turn as u64;
+            run_list(seed, l, e, 6_000, &Mix::NO_DROPS, &mut met);
+        }
+    }
+    check_met(&met);
+}
+
+/// Few mode changes, so that the caches fill up.
+#[test]
+fn lists_agree_with_flat_memory_with_full_caches() {
+    let mix =
+        Mix { mode: 1, l2_all: 1, l2_block_writeback: 5, l1d_block_writeback: 5, ..Mix::NO_DROPS };
+    let mut met = Met::default();
+    for (number, l) in LEGAL_L.into_iter().enumerate() {
+        run_list(2_000 + number as u64, l, 12 * 65_536, 20_000, &mix, &mut met);
+    }
+    check_met(&met);
+}
+
+/// With drops, values may differ from flat memory; refusals do not, and the
+/// record stays well formed.
+#[test]
+fn lists_with_drops_keep_the_record_well_formed() {
+    let mut met = Met::default();
+    for (number, l) in LEGAL_L.into_iter().enumerate() {
+        for (turn, e) in [256, 65_536, 8 * 65_536].into_iter().enumerate() {
+            let seed = 3_000 + 10 * number as u64 + turn as u64;
+            run_list(seed, l, e, 6_000, &Mix::ALL, &mut met);
+        }
+    }
+    assert!(met.numbers[..=10].iter().enumerate().all(|(n, &met)| met > 0 || n == 1 || n == 2));
+}
+
+/// Every server, refusal and mode was met.
+fn check_met(met: &Met) {
+    assert!(met.servers.iter().all(|&count| count > 1_000), "{met:?}");
+    for number in [0, 3, 4, 5, 6, 7, 8, 9, 10] {
+        assert!(met.numbers[number] > 20, "{met:?}");
+    }
+    for mode in [0, 1, 2, 3, 7] {
+        assert!(met.modes[mode] > 500, "{met:?}");
+    }
+    assert!(met.compared > 50, "{met:?}");
+}
