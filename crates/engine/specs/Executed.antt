@@ -149,3 +149,19 @@ First {A} {B} x = A
 
 abbrev pub Second : {A B : Type 0} → A ⊎ B → Type 0
 Second {A} {B} x = B
+
+-- what is known of a command that the run goes on with: it takes a byte at least, ends before the end, and its answer has room
+pub record Going (end at k : ℕ) (d : Next) (o : List ℕ) : Type 0 where
+  pub none : stopOf (d .ok) (length o) k ≡ 0
+  pub more : 1 ≤ d .used
+  pub to : at + d .used ≤ end
+  pub up : k + 1 ≤ at + d .used
+  pub room : k * 10 + 10 ≤ length o
+
+pub goes-on : (single : Bool) (c : Command) (t : List ℕ) (end at k : ℕ) (d : Next) (o : List ℕ) (s : ℕ) → end ≡ endOf single t → NextAt single c t at d → at < end → k ≤ at →
+    s ≡ stopOf (d .ok) (length o) k → s ≡ 0 → Going end at k d o
+goes-on single c t end at k d o s ee n h le es z =
+    let none : stopOf (d .ok) (length o) k ≡ 0 = sym es ∙ z in
+    let w = n .within (stop-ok (d .ok) (length o) k none) (rw ee at h) in
+    let w0 = w .0 in let w1 = w .1 in
+    record { none = none; more = w0; to = omega arith; up = omega arith; room = stop-none (d .ok) (length o) k none }

@@ -62,7 +62,7 @@ module _ (r : Record) (l m e : List ℕ) (c : Command) (two : c .code < 2) (i du
   abbrev a : ℕ
   a = c .second
 
-  pub front-step : f .out .done ≡ true →
+  front-step : f .out .done ≡ true →
       reply (f .out .answer .number) (f .out .answer .server) (f .out .answer .value) (state (withL1dSet r i (f .out .set)) (f .l1d) m (f .ext)) ≡ step c (state r l m e)
   front-step dn = front-done r l m e c i due cached f two ei ed ec ef dn
 
@@ -105,10 +105,10 @@ module _ (r : Record) (l m e : List ℕ) (c : Command) (two : c .code < 2) (i du
       place-is : at ≡ l2Data r₁ t (ch .way)
       place-is = rw (es, er) at ea
 
-      pub unhomed-step : h ≡ false → z₁ ≡ ready write a z₁
+      unhomed-step : h ≡ false → z₁ ≡ ready write a z₁
       unhomed-step k = unhomed r₁ (f .l1d) (s .l2) (s .ext) write a (sym home-is ∙ k)
 
-      pub homed-step : h ≡ true → (x y up : ℕ) (h₁ h₂ : Taken) (d : Bool) (b : Brought) →
+      homed-step : h ≡ true → (x y up : ℕ) (h₁ h₂ : Taken) (d : Bool) (b : Brought) →
           x ≡ l1dSetOf (ch .old .address) → h₁ ≡ takeHalf (l1dSetAt r₁ x) (ch .old .valid) (ch .old .address) at (f .l1d) (s .l2) →
           up ≡ upperHalf (ch .old .address) → y ≡ l1dSetOf up →
           h₂ ≡ takeHalf (l1dSetAt (withL1dSet r₁ x (h₁ .out .set)) y) (ch .old .valid) up at (f .l1d) (h₁ .l2) →
@@ -118,7 +118,7 @@ module _ (r : Record) (l m e : List ℕ) (c : Command) (two : c .code < 2) (i du
           homed-ready r₁ (f .l1d) (s .l2) (s .ext) write a t ch (set-is (sym home-is ∙ k)) (sym home-is ∙ k) (rw k at ech)
           at x y up h₁ h₂ d b place-is ex e₁ eu ey e₂ eg′ eb
 
-      pub miss-step : (r₂ : Record) (m₂ e₂ : List ℕ) → r₂ .mode ≡ r₁ .mode → r₂ .l2len ≡ r₁ .l2len → state r₂ (f .l1d) m₂ e₂ ≡ ready write a z₁ →
+      miss-step : (r₂ : Record) (m₂ e₂ : List ℕ) → r₂ .mode ≡ r₁ .mode → r₂ .l2len ≡ r₁ .l2len → state r₂ (f .l1d) m₂ e₂ ≡ ready write a z₁ →
           (n : Finished) (k : ℕ) → n ≡ finish (l1dSetAt r₂ i) i (g .way) h at c (f .l1d) m₂ e₂ → k ≡ serverOf ch a →
           reply 0 k (n .out .value) (state (withL1dSet r₂ i (n .out .set)) (n .l1d) (n .l2) (n .ext)) ≡ step c (state r l m e)
       miss-step r₂ m₂ e₂ md ln rd n k en ek =
@@ -132,8 +132,94 @@ module _ (r : Record) (l m e : List ℕ) (c : Command) (two : c .code < 2) (i du
           ∙ done ∙ ap (performed c) same ∙ access-accepted c (state r l m e) two (missed .due)
 
       -- what the access itself needs: a size that is one of the four
-      pub miss-size : sizeOk (c .first) ≡ true
+      miss-size : sizeOk (c .first) ≡ true
       miss-size = size-known (sramOf r) (r .extlen) (c .first) a (checked c) (access-due c (state r l m e) two ∙ missed .due)
+
+-- ---- the same, as the loop has it: what it knows of an access once the front is done ..
+pub record Asked : Type 0 where
+  pub r : Record
+  pub l : List ℕ
+  pub m : List ℕ
+  pub e : List ℕ
+  pub c : Command
+  pub i : ℕ
+  pub due : ℕ
+  pub cached : Bool
+  pub write : Bool
+  pub f : Fronted
+  pub sets : ℕ
+  pub sram : ℕ
+  pub two : c .code < 2
+  pub ew : write ≡ isWrite c
+  pub es : sets ≡ l2SetsOf r
+  pub er : sram ≡ sramOf r
+  pub ei : i ≡ l1dSetOf (c .second)
+  pub ed : due ≡ commandDue c (state r l m e)
+  pub ec : cached ≡ cacheable r (c .second)
+  pub ef : f ≡ frontOut (l1dSetAt r i) i due cached c l e
+
+-- .. and of a miss once a way of L2 is chosen
+pub record Missing (q : Asked) : Type 0 where
+  pub dn : q .f .out .done ≡ false
+  pub th : ℕ
+  pub g : Departure
+  pub s : Sent
+  pub emptiedSet : L1dSet
+  pub eg : g ≡ leaving (l1dSetAt (q .r) (q .i)) (q .write)
+  pub et : q .sets ≢ 0 → th ≡ l2SetIn (q .sets) (g .line .address)
+  pub ss : s ≡ sendHome (l2SetAt (q .r) th) (q .sram) (q .sets) th (q .i) (g .way) (g .line) (q .f .l1d) (q .m) (q .f .ext)
+  pub eq : emptiedSet ≡ emptied (l1dSetAt (q .r) (q .i)) g
+  pub h : Bool
+  pub t : ℕ
+  pub at : ℕ
+  pub ch : Choice
+  pub eh : h ≡ homed (q .sets) (q .c .second)
+  pub et₂ : q .sets ≢ 0 → t ≡ l2SetIn (q .sets) (q .c .second)
+  pub ech : ch ≡ choose (l2SetAt (withL1dSet (withL2Set (q .r) th (s .set)) (q .i) emptiedSet) t) h (q .c .second)
+  pub ea : at ≡ l2DataIn (q .sram) (q .sets) t (ch .way)
+
+-- the record and the state in which L1D has room
+abbrev pub roomRecord : (q : Asked) → Missing q → Record
+roomRecord q n = withL1dSet (withL2Set (q .r) (n .th) (n .s .set)) (q .i) (n .emptiedSet)
+
+abbrev pub roomState : (q : Asked) → Missing q → State
+roomState q n = state (roomRecord q n) (q .f .l1d) (n .s .l2) (n .s .ext)
+
+module _ (q : Asked) where
+  pub front-of : q .f .out .done ≡ true →
+      reply (q .f .out .answer .number) (q .f .out .answer .server) (q .f .out .answer .value) (state (withL1dSet (q .r) (q .i) (q .f .out .set)) (q .f .l1d) (q .m) (q .f .ext))
+      ≡ step (q .c) (state (q .r) (q .l) (q .m) (q .e))
+  front-of dn =
+      front-step (q .r) (q .l) (q .m) (q .e) (q .c) (q .two) (q .i) (q .due) (q .cached) (q .write) (q .f) (q .sets) (q .sram) (q .ew) (q .es) (q .er) (q .ei) (q .ed) (q .ec) (q .ef) dn
+
+  module _ (n : Missing q) where
+    pub unhomed-of : n .h ≡ false → roomState q n ≡ ready (q .write) (q .c .second) (roomState q n)
+    unhomed-of k =
+        unhomed-step (q .r) (q .l) (q .m) (q .e) (q .c) (q .two) (q .i) (q .due) (q .cached) (q .write) (q .f) (q .sets) (q .sram) (q .ew) (q .es) (q .er) (q .ei) (q .ed) (q .ec) (q .ef)
+        (n .dn) (n .th) (n .g) (n .s) (n .emptiedSet) (n .eg) (n .et) (n .ss) (n .eq) (n .h) (n .t) (n .at) (n .ch) (n .eh) (n .et₂) (n .ech) (n .ea) k
+
+    pub homed-of : n .h ≡ true → (x y up : ℕ) (h₁ h₂ : Taken) (d : Bool) (b : Brought) →
+        x ≡ l1dSetOf (n .ch .old .address) → h₁ ≡ takeHalf (l1dSetAt (roomRecord q n) x) (n .ch .old .valid) (n .ch .old .address) (n .at) (q .f .l1d) (n .s .l2) →
+        up ≡ upperHalf (n .ch .old .address) → y ≡ l1dSetOf up →
+        h₂ ≡ takeHalf (l1dSetAt (withL1dSet (roomRecord q n) x (h₁ .out .set)) y) (n .ch .old .valid) up (n .at) (q .f .l1d) (h₁ .l2) →
+        d ≡ goesOut (n .ch .old) (h₁ .out .dirty) (h₂ .out .dirty) → b ≡ bring (l2SetAt (roomRecord q n) (n .t)) (n .ch) d (q .write) (q .c .second) (n .at) (h₂ .l2) (n .s .ext) →
+        state (withL2Set (withL1dSet (withL1dSet (roomRecord q n) x (h₁ .out .set)) y (h₂ .out .set)) (n .t) (b .set)) (q .f .l1d) (b .l2) (b .ext)
+        ≡ ready (q .write) (q .c .second) (roomState q n)
+    homed-of =
+        homed-step (q .r) (q .l) (q .m) (q .e) (q .c) (q .two) (q .i) (q .due) (q .cached) (q .write) (q .f) (q .sets) (q .sram) (q .ew) (q .es) (q .er) (q .ei) (q .ed) (q .ec) (q .ef)
+        (n .dn) (n .th) (n .g) (n .s) (n .emptiedSet) (n .eg) (n .et) (n .ss) (n .eq) (n .h) (n .t) (n .at) (n .ch) (n .eh) (n .et₂) (n .ech) (n .ea)
+
+    pub miss-of : (r₂ : Record) (m₂ e₂ : List ℕ) → r₂ .mode ≡ q .r .mode → r₂ .l2len ≡ q .r .l2len → state r₂ (q .f .l1d) m₂ e₂ ≡ ready (q .write) (q .c .second) (roomState q n) →
+        (x : Finished) (k : ℕ) → x ≡ finish (l1dSetAt r₂ (q .i)) (q .i) (n .g .way) (n .h) (n .at) (q .c) (q .f .l1d) m₂ e₂ → k ≡ serverOf (n .ch) (q .c .second) →
+        reply 0 k (x .out .value) (state (withL1dSet r₂ (q .i) (x .out .set)) (x .l1d) (x .l2) (x .ext)) ≡ step (q .c) (state (q .r) (q .l) (q .m) (q .e))
+    miss-of =
+        miss-step (q .r) (q .l) (q .m) (q .e) (q .c) (q .two) (q .i) (q .due) (q .cached) (q .write) (q .f) (q .sets) (q .sram) (q .ew) (q .es) (q .er) (q .ei) (q .ed) (q .ec) (q .ef)
+        (n .dn) (n .th) (n .g) (n .s) (n .emptiedSet) (n .eg) (n .et) (n .ss) (n .eq) (n .h) (n .t) (n .at) (n .ch) (n .eh) (n .et₂) (n .ech) (n .ea)
+
+    pub size-of : sizeOk (q .c .first) ≡ true
+    size-of =
+        miss-size (q .r) (q .l) (q .m) (q .e) (q .c) (q .two) (q .i) (q .due) (q .cached) (q .write) (q .f) (q .sets) (q .sram) (q .ew) (q .es) (q .er) (q .ei) (q .ed) (q .ec) (q .ef)
+        (n .dn) (n .th) (n .g) (n .s) (n .emptiedSet) (n .eg) (n .et) (n .ss) (n .eq) (n .h) (n .t) (n .at) (n .ch) (n .eh) (n .et₂) (n .ech) (n .ea)
 
 -- ---- a command that is neither a read nor a write
 module _ (c : Command) (z : State) (h : 2 ≤ c .code) where

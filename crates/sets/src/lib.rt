@@ -11,14 +11,10 @@ use model::L1dSet;
 use model::L2Set;
 use model::Line;
 
-// The kinds of the two caches: line length, ways and sets are theirs. (A struct without fields would do; the language asks for one.)
-pub struct L1d {
-    pub way: u8,
-}
+// The kinds of the two caches: line length, ways and sets are theirs.
+pub struct L1d {}
 
-pub struct L2 {
-    pub way: u8,
-}
+pub struct L2 {}
 
 impl L1d {
     pub const LINE: usize = 64;

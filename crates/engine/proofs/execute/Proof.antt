@@ -1,16 +1,18 @@
 -- `engine::execute` meets its contract: what is left to do gives the whole. Each way through a turn is one step of the model (specs/Turn), and a turn keeps the invariant (specs/Executed `turn`).
-use Rattle.engine.specs.Executed.{sourceOf, endOf, stopOf, noAnswer, executes, turn, stopped, at-end, stop-none, stop-ok, First, Second}
-use Rattle.engine.specs.Turn.{size-known, cached-is, due-is, front-step, unhomed-step, homed-step, miss-step, miss-size}
+use Rattle.engine.specs.Turn.{size-known, cached-is, due-is, Asked, Missing, roomState, front-of, unhomed-of, homed-of, miss-of, size-of}
+use Rattle.engine.specs.Executed.{sourceOf, endOf, noAnswer, answerOf, executes, turn, stopped, at-end, Going, goes-on, First, Second}
+use Rattle.model.specs.Calls.{Reply, reply, step, putAnswer}
+use mathlib.Core.List.{List}
+use lib.ListN.{length}
+use Prim.Native.Nat.{ℕ, _+_, _-_, _≤_}
+-- `engine::execute` meets its contract: what is left to do gives the whole. Each way through a turn is one step of the model (specs/Turn), and a turn keeps the invariant (specs/Executed `turn`).
 use Rattle.joins.specs.Miss.{ready}
 use Rattle.stages.specs.Stages.{frontAs, sentAs, takenAs, broughtAs, finishedAs}
 use Rattle.model.specs.declared.Record.{Record}
-use Rattle.model.specs.Calls.{reply, step}
-use Rattle.model.specs.Records.{state, withL1dSet, withL2Set}
+use Rattle.model.specs.Records.{state, withL1dSet}
 use mathlib.Core.Logic.{⊎-elim}
-use lib.ListN.{length}
 use native.Mathlib.Omega.{arith}
 use mathlib.Core.Path.{_≡_, refl, sym, ap, _∙_}
-use Prim.Native.Nat.{_+_, _-_, _≤_}
 use borrow.Author.Needs.{needs}
 use Rattle.engine.proofs.execute.Statement.{statement}
 use Rattle.engine.proofs.execute.Tie as tie
@@ -25,20 +27,38 @@ abbrev μ-loop : tie.MeasureT-loop
 μ-loop single given trace l1d₀ l2₀ ext₀ answers₀ r₀ at₀ count₀ last₀ end l1d l2 ext answers r at count last =
     end - at
 
--- where the two arms meet: what each leaves is L2 made ready, in the mode and with the lengths that stood before
-homed-arm : (c : tie.Joined4 Inv-loop μ-loop) → First (c .if4 .came) →
-    state (c .if4 .r) (c .before .before .before .before .before .before .before .before .before .before .before .before .before .before .before .before .before .before .before .before .before .before .before .before .before .front .last .1 .1 .1 .1 .1 .0) (c .if4 .l2) (c .if4 .ext)
-    ≡ ready (c .before .before .before .before .before .before .before .before .before .before .before .before .before .before .before .before .before .before .before .before .before .before .before .before .before .before .before .before .before .before .before .before .before .before .before .is-write .result) (c .before .before .before .before .before .before .before .before .before .before .before .before .before .before .before .before .before .before .before .before .before .before .before .before .before .before .before .before .before .before .before .before .before .before .before .before .before .before .before .before .before .next .result .command .second) (state (withL1dSet (withL2Set (c .before .before .before .before .before .before .before .before .before .before .before .before .before .before .before .before .before .before .before .before .before .before .before .before .before .before .before .before .before .before .before .before .before .before .before .before .before .before .before .before .before .before .before .loop .r) (c .before .before .before .before .before .before .before .before .before .before .before .before .before .before .before .before .before .set-of2 .result) (c .before .before .before .before .before .before .before .before .before .before .before .before .send-home .result)) (c .before .before .before .before .before .before .before .before .before .before .before .before .before .before .before .before .before .before .before .before .before .before .before .before .before .before .before .before .before .before .set-of .result) (c .before .before .before .before .before .before .before .emptied .result)) (c .before .before .before .before .before .before .before .before .before .before .before .before .before .before .before .before .before .before .before .before .before .before .before .before .before .front .last .1 .1 .1 .1 .1 .0) (c .before .before .before .before .before .before .before .before .before .before .before .before .send-home .last .1 .1 .1 .1 .1 .1 .1 .1 .0) (c .before .before .before .before .before .before .before .before .before .before .before .before .send-home .last .1 .1 .1 .1 .1 .1 .1 .1 .1 .0))
-homed-arm c w = let p-data-at = c .before in
-    let p-choose = p-data-at .before .before in
-    let p-set-of3 = p-choose .before .before in
-    let p-homed = p-set-of3 .before in
-    let p-emptied = p-homed .before in
-    let p-send-home = p-emptied .before .before .before .before .before in
-    let p-set-of2 = p-send-home .before .before .before .before .before in
-    let p-leaving = p-set-of2 .before .before in
-    let p-if3 = p-leaving .before in
-    let p-front = p-if3 .before .before .before .before .before in
+-- ---- what is known at the places that many needs go by
+going : (c : tie.Else1 Inv-loop μ-loop) → Going (c .before .before .before .before .before .end-of .result) (c .before .before .before .before .loop .at) (c .before .before .before .before .loop .count) (c .before .before .next .result) (c .before .before .before .before .loop .answers)
+going c =
+    let p-stop-of = c .before in
+    let p-next = p-stop-of .before in
+    let p-loop-test = p-next .before in
+    let p-loop = p-loop-test .before in
+    let p-end-of = p-loop .before in
+    let p-args = p-end-of .before .before .before .before .before .before .before in
+    let l = p-loop .loop in let a = p-args .args in
+    goes-on (a .single) (a .given) (a .trace .now) (p-end-of .end-of .result) (l .at) (l .count) (p-next .next .result) (l .answers) (p-stop-of .stop-of .result) (p-end-of .end-of .ensures) (p-next .next .ensures) (p-loop-test .loop-test .taken) (l .inv .0) (p-stop-of .stop-of .ensures) (c .if1 .left)
+
+-- a command carried out: the rest gives the whole
+onward : (c : tie.Else1 Inv-loop μ-loop) (x : Reply) → x ≡ step (c .before .before .next .result .command) (state (c .before .before .before .before .loop .r) (c .before .before .before .before .loop .l1d) (c .before .before .before .before .loop .l2) (c .before .before .before .before .loop .ext)) →
+    (o : List ℕ) → o ≡ putAnswer (c .before .before .before .before .loop .answers) (c .before .before .before .before .loop .count) (x .number) (x .server) (x .value) →
+    executes (sourceOf (c .before .before .before .before .before .before .before .before .before .before .before .before .args .single) (c .before .before .before .before .before .before .before .before .before .before .before .before .args .given) (c .before .before .before .before .before .before .before .before .before .before .before .before .args .trace .now)) (c .before .before .before .before .before .end-of .result) (c .before .before .before .before .before .end-of .result - (c .before .before .before .before .loop .count + 1)) (c .before .before .before .before .loop .at + c .before .before .next .result .used) (x .next) (c .before .before .before .before .loop .count + 1) o (answerOf x)
+    ≡ executes (sourceOf (c .before .before .before .before .before .before .before .before .before .before .before .before .args .single) (c .before .before .before .before .before .before .before .before .before .before .before .before .args .given) (c .before .before .before .before .before .before .before .before .before .before .before .before .args .trace .now)) (c .before .before .before .before .before .end-of .result) (c .before .before .before .before .before .end-of .result) 0 (state (c .before .before .before .before .before .before .before .before .before .before .before .before .args .r0) (c .before .before .before .before .before .before .before .before .before .before .before .before .args .l1d .now) (c .before .before .before .before .before .before .before .before .before .before .before .before .args .l2 .now) (c .before .before .before .before .before .before .before .before .before .before .before .before .args .ext .now)) 0 (c .before .before .before .before .before .before .before .before .before .before .before .before .args .answers .now) (c .before .before .before .before .before .before .no-answer .result)
+onward c x ex o eo =
+    let p-next = c .before .before in
+    let p-loop-test = p-next .before in
+    let p-loop = p-loop-test .before in
+    let p-end-of = p-loop .before in
+    let p-no-answer = p-end-of .before in
+    let p-args = p-no-answer .before .before .before .before .before .before in
+    let l = p-loop .loop in let a = p-args .args in
+    turn (sourceOf (a .single) (a .given) (a .trace .now)) (p-end-of .end-of .result) (l .at) (l .count) (state (l .r) (l .l1d) (l .l2) (l .ext)) (l .answers) (l .last)
+    (executes (sourceOf (p-args .args .single) (p-args .args .given) (p-args .args .trace .now)) (p-end-of .end-of .result) (p-end-of .end-of .result) 0 (state (p-args .args .r0) (p-args .args .l1d .now) (p-args .args .l2 .now) (p-args .args .ext .now)) 0 (p-args .args .answers .now) (p-no-answer .no-answer .result)) (p-loop-test .loop-test .taken) (l .inv .0) (p-next .next .result) (p-next .next .ensures .same) (going c .none) x ex o eo (l .inv .6)
+
+-- a read or write, once the front is done
+abbrev asked : (c : tie.After-slice-known9 Inv-loop μ-loop) → Asked
+asked c =
+    let p-front = c .before .before .before .before in
     let p-is-cached = p-front .before .before .before in
     let p-set-of = p-is-cached .before .before in
     let p-access-due = p-set-of .before in
@@ -49,60 +69,78 @@ homed-arm c w = let p-data-at = c .before in
     let p-if2 = p-is-write .before in
     let p-next = p-if2 .before .before .before .before .before in
     let p-loop = p-next .before .before in
-    let p-args = p-loop .before .before .before .before .before .before .before .before in
-    let l = p-loop .loop in let a = p-args .args in let d = p-next .next .result in
-    let cm = d .command in
-    let lr = l .r in
-    let write = p-is-write .is-write .result in let sets = p-sets .sets .result in let sram = p-sram .sram .result in let i = p-set-of .set-of .result in
-    let F = frontAs (p-front .front .result) (p-front .front .last .1 .1 .1 .1 .1 .0) (p-front .front .last .1 .1 .1 .1 .1 .1 .0) in
-    let ed = due-is lr (l .l1d) (l .l2) (l .ext) cm (p-access-due .access-due .result) sram (p-checked .checked .result) (p-if2 .if2 .left) (p-sram .sram .ensures .0) (p-checked .checked .ensures) (p-access-due .access-due .ensures) in
-    let ec = p-is-cached .is-cached .ensures ∙ cached-is lr (cm .second) in
-    let g = p-leaving .leaving .result in let S = sentAs (p-send-home .send-home .result) (p-send-home .send-home .last .1 .1 .1 .1 .1 .1 .1 .1 .0) (p-send-home .send-home .last .1 .1 .1 .1 .1 .1 .1 .1 .1 .0) in
-    let th = p-set-of2 .set-of2 .result in let q = p-emptied .emptied .result in let t = p-set-of3 .set-of3 .result in let pl = p-data-at .data-at .result in let ch = p-choose .choose .result in
+    let l = p-loop .loop in let cm = p-next .next .result .command in
+    record {
+      r = l .r;
+      l = l .l1d;
+      m = l .l2;
+      e = l .ext;
+      c = cm;
+      i = p-set-of .set-of .result;
+      due = p-access-due .access-due .result;
+      cached = p-is-cached .is-cached .result;
+      write = p-is-write .is-write .result;
+      f = frontAs (p-front .front .result) (p-front .front .last .1 .1 .1 .1 .1 .0) (p-front .front .last .1 .1 .1 .1 .1 .1 .0);
+      sets = p-sets .sets .result;
+      sram = p-sram .sram .result;
+      two = p-if2 .if2 .left;
+      ew = p-is-write .is-write .ensures;
+      es = p-sets .sets .ensures .0;
+      er = p-sram .sram .ensures .0;
+      ei = p-set-of .set-of .ensures .0;
+      ed = due-is (l .r) (l .l1d) (l .l2) (l .ext) cm (p-access-due .access-due .result) (p-sram .sram .result) (p-checked .checked .result) (p-if2 .if2 .left) (p-sram .sram .ensures .0) (p-checked .checked .ensures) (p-access-due .access-due .ensures);
+      ec = p-is-cached .is-cached .ensures ∙ cached-is (l .r) (cm .second);
+      ef = p-front .front .ensures;
+    }
+
+-- a miss, once a way of L2 is chosen
+abbrev missing : (c : tie.After-data-at Inv-loop μ-loop) → Missing (asked (c .before .before .before .before .before .before .before .before .before .before .before .before .before .before .before .before .before .before .before .before))
+missing c =
+    let p-choose = c .before .before in
+    let p-set-of3 = p-choose .before .before in
+    let p-homed = p-set-of3 .before in
+    let p-emptied = p-homed .before in
+    let p-send-home = p-emptied .before .before .before .before .before in
+    let p-set-of2 = p-send-home .before .before .before .before .before in
+    let p-leaving = p-set-of2 .before .before in
+    let p-if3 = p-leaving .before in
+    record {
+      dn = p-if3 .if3 .left;
+      th = p-set-of2 .set-of2 .result;
+      g = p-leaving .leaving .result;
+      s = sentAs (p-send-home .send-home .result) (p-send-home .send-home .last .1 .1 .1 .1 .1 .1 .1 .1 .0) (p-send-home .send-home .last .1 .1 .1 .1 .1 .1 .1 .1 .1 .0);
+      emptiedSet = p-emptied .emptied .result;
+      eg = p-leaving .leaving .ensures .0;
+      et = p-set-of2 .set-of2 .ensures .0;
+      ss = p-send-home .send-home .ensures;
+      eq = p-emptied .emptied .ensures;
+      h = p-homed .homed .result;
+      t = p-set-of3 .set-of3 .result;
+      at = c .data-at .result;
+      ch = p-choose .choose .result;
+      eh = p-homed .homed .ensures;
+      et₂ = p-set-of3 .set-of3 .ensures .0;
+      ech = p-choose .choose .ensures .0;
+      ea = c .data-at .ensures .0;
+    }
+
+-- where the two arms meet: what each leaves is L2 made ready, in the mode and with the lengths that stood before
+homed-arm : (c : tie.Joined4 Inv-loop μ-loop) → First (c .if4 .came) → state (c .if4 .r) (c .before .before .before .before .before .before .before .before .before .before .before .before .before .before .before .before .before .before .before .before .before .before .before .before .before .front .last .1 .1 .1 .1 .1 .0) (c .if4 .l2) (c .if4 .ext) ≡ ready (c .before .before .before .before .before .before .before .before .before .before .before .before .before .before .before .before .before .before .before .before .before .before .before .before .before .before .before .before .before .before .before .before .before .before .before .is-write .result) (c .before .before .before .before .before .before .before .before .before .before .before .before .before .before .before .before .before .before .before .before .before .before .before .before .before .before .before .before .before .before .before .before .before .before .before .before .before .before .before .before .before .next .result .command .second) (roomState (asked (c .before .before .before .before .before .before .before .before .before .before .before .before .before .before .before .before .before .before .before .before .before)) (missing (c .before)))
+homed-arm c w =
+    let p-front = c .before .before .before .before .before .before .before .before .before .before .before .before .before .before .before .before .before .before .before .before .before .before .before .before .before in
     let h1 = takenAs (w .5 .result) (w .5 .last .1 .1 .1 .1 .1 .0) in
     let h2 = takenAs (w .14 .result) (w .14 .last .1 .1 .1 .1 .1 .0) in
-    let bb = broughtAs (w .21 .result) (w .21 .last .1 .1 .1 .1 .1 .1 .0) (w .21 .last .1 .1 .1 .1 .1 .1 .1 .0) in
-    (λ j. state ((w .28) j) (F .l1d) ((w .26) j) ((w .27) j))
-    ∙ homed-step lr (l .l1d) (l .l2) (l .ext) cm (p-if2 .if2 .left) i (p-access-due .access-due .result) (p-is-cached .is-cached .result) write F sets sram (p-is-write .is-write .ensures) (p-sets .sets .ensures .0) (p-sram .sram .ensures .0) (p-set-of .set-of .ensures .0) ed ec (p-front .front .ensures) (p-if3 .if3 .left) th g S q (p-leaving .leaving .ensures .0) (p-set-of2 .set-of2 .ensures .0) (p-send-home .send-home .ensures) (p-emptied .emptied .ensures) (p-homed .homed .result) t pl ch (p-homed .homed .ensures) (p-set-of3 .set-of3 .ensures .0) (p-choose .choose .ensures .0) (p-data-at .data-at .ensures .0) (w .0 .taken) (w .1 .result) (w .10 .result) (w .9 .result) h1 h2 (w .18 .result) bb (w .1 .ensures .0) (w .5 .ensures) (w .9 .ensures) (w .10 .ensures .0) (w .14 .ensures) (w .18 .ensures) (w .21 .ensures)
+    let b = broughtAs (w .21 .result) (w .21 .last .1 .1 .1 .1 .1 .1 .0) (w .21 .last .1 .1 .1 .1 .1 .1 .1 .0) in
+    (λ j. state ((w .28) j) (p-front .front .last .1 .1 .1 .1 .1 .0) ((w .26) j) ((w .27) j))
+    ∙ homed-of (asked (c .before .before .before .before .before .before .before .before .before .before .before .before .before .before .before .before .before .before .before .before .before)) (missing (c .before)) (w .0 .taken) (w .1 .result) (w .10 .result) (w .9 .result) h1 h2 (w .18 .result) b (w .1 .ensures .0) (w .5 .ensures)
+    (w .9 .ensures) (w .10 .ensures .0) (w .14 .ensures) (w .18 .ensures) (w .21 .ensures)
 
-other-arm : (c : tie.Joined4 Inv-loop μ-loop) → Second (c .if4 .came) →
-    state (c .if4 .r) (c .before .before .before .before .before .before .before .before .before .before .before .before .before .before .before .before .before .before .before .before .before .before .before .before .before .front .last .1 .1 .1 .1 .1 .0) (c .if4 .l2) (c .if4 .ext)
-    ≡ ready (c .before .before .before .before .before .before .before .before .before .before .before .before .before .before .before .before .before .before .before .before .before .before .before .before .before .before .before .before .before .before .before .before .before .before .before .is-write .result) (c .before .before .before .before .before .before .before .before .before .before .before .before .before .before .before .before .before .before .before .before .before .before .before .before .before .before .before .before .before .before .before .before .before .before .before .before .before .before .before .before .before .next .result .command .second) (state (withL1dSet (withL2Set (c .before .before .before .before .before .before .before .before .before .before .before .before .before .before .before .before .before .before .before .before .before .before .before .before .before .before .before .before .before .before .before .before .before .before .before .before .before .before .before .before .before .before .before .loop .r) (c .before .before .before .before .before .before .before .before .before .before .before .before .before .before .before .before .before .set-of2 .result) (c .before .before .before .before .before .before .before .before .before .before .before .before .send-home .result)) (c .before .before .before .before .before .before .before .before .before .before .before .before .before .before .before .before .before .before .before .before .before .before .before .before .before .before .before .before .before .before .set-of .result) (c .before .before .before .before .before .before .before .emptied .result)) (c .before .before .before .before .before .before .before .before .before .before .before .before .before .before .before .before .before .before .before .before .before .before .before .before .before .front .last .1 .1 .1 .1 .1 .0) (c .before .before .before .before .before .before .before .before .before .before .before .before .send-home .last .1 .1 .1 .1 .1 .1 .1 .1 .0) (c .before .before .before .before .before .before .before .before .before .before .before .before .send-home .last .1 .1 .1 .1 .1 .1 .1 .1 .1 .0))
-other-arm c w = let p-data-at = c .before in
-    let p-choose = p-data-at .before .before in
-    let p-set-of3 = p-choose .before .before in
-    let p-homed = p-set-of3 .before in
-    let p-emptied = p-homed .before in
-    let p-send-home = p-emptied .before .before .before .before .before in
-    let p-set-of2 = p-send-home .before .before .before .before .before in
-    let p-leaving = p-set-of2 .before .before in
-    let p-if3 = p-leaving .before in
-    let p-front = p-if3 .before .before .before .before .before in
-    let p-is-cached = p-front .before .before .before in
-    let p-set-of = p-is-cached .before .before in
-    let p-access-due = p-set-of .before in
-    let p-checked = p-access-due .before in
-    let p-sram = p-checked .before in
-    let p-sets = p-sram .before in
-    let p-is-write = p-sets .before in
-    let p-if2 = p-is-write .before in
-    let p-next = p-if2 .before .before .before .before .before in
-    let p-loop = p-next .before .before in
-    let p-args = p-loop .before .before .before .before .before .before .before .before in
-    let l = p-loop .loop in let a = p-args .args in let d = p-next .next .result in
-    let cm = d .command in
-    let lr = l .r in
-    let write = p-is-write .is-write .result in let sets = p-sets .sets .result in let sram = p-sram .sram .result in let i = p-set-of .set-of .result in
-    let F = frontAs (p-front .front .result) (p-front .front .last .1 .1 .1 .1 .1 .0) (p-front .front .last .1 .1 .1 .1 .1 .1 .0) in
-    let ed = due-is lr (l .l1d) (l .l2) (l .ext) cm (p-access-due .access-due .result) sram (p-checked .checked .result) (p-if2 .if2 .left) (p-sram .sram .ensures .0) (p-checked .checked .ensures) (p-access-due .access-due .ensures) in
-    let ec = p-is-cached .is-cached .ensures ∙ cached-is lr (cm .second) in
-    let g = p-leaving .leaving .result in let S = sentAs (p-send-home .send-home .result) (p-send-home .send-home .last .1 .1 .1 .1 .1 .1 .1 .1 .0) (p-send-home .send-home .last .1 .1 .1 .1 .1 .1 .1 .1 .1 .0) in
-    let th = p-set-of2 .set-of2 .result in let q = p-emptied .emptied .result in let t = p-set-of3 .set-of3 .result in let pl = p-data-at .data-at .result in let ch = p-choose .choose .result in
-    (λ j. state (w .3 j) (F .l1d) (w .1 j) (w .2 j)) ∙ unhomed-step lr (l .l1d) (l .l2) (l .ext) cm (p-if2 .if2 .left) i (p-access-due .access-due .result) (p-is-cached .is-cached .result) write F sets sram (p-is-write .is-write .ensures) (p-sets .sets .ensures .0) (p-sram .sram .ensures .0) (p-set-of .set-of .ensures .0) ed ec (p-front .front .ensures) (p-if3 .if3 .left) th g S q (p-leaving .leaving .ensures .0) (p-set-of2 .set-of2 .ensures .0) (p-send-home .send-home .ensures) (p-emptied .emptied .ensures) (p-homed .homed .result) t pl ch (p-homed .homed .ensures) (p-set-of3 .set-of3 .ensures .0) (p-choose .choose .ensures .0) (p-data-at .data-at .ensures .0) (w .0 .left)
+other-arm : (c : tie.Joined4 Inv-loop μ-loop) → Second (c .if4 .came) → state (c .if4 .r) (c .before .before .before .before .before .before .before .before .before .before .before .before .before .before .before .before .before .before .before .before .before .before .before .before .before .front .last .1 .1 .1 .1 .1 .0) (c .if4 .l2) (c .if4 .ext) ≡ ready (c .before .before .before .before .before .before .before .before .before .before .before .before .before .before .before .before .before .before .before .before .before .before .before .before .before .before .before .before .before .before .before .before .before .before .before .is-write .result) (c .before .before .before .before .before .before .before .before .before .before .before .before .before .before .before .before .before .before .before .before .before .before .before .before .before .before .before .before .before .before .before .before .before .before .before .before .before .before .before .before .before .next .result .command .second) (roomState (asked (c .before .before .before .before .before .before .before .before .before .before .before .before .before .before .before .before .before .before .before .before .before)) (missing (c .before)))
+other-arm c w =
+    let p-front = c .before .before .before .before .before .before .before .before .before .before .before .before .before .before .before .before .before .before .before .before .before .before .before .before .before in
+    (λ j. state (w .3 j) (p-front .front .last .1 .1 .1 .1 .1 .0) (w .1 j) (w .2 j)) ∙ unhomed-of (asked (c .before .before .before .before .before .before .before .before .before .before .before .before .before .before .before .before .before .before .before .before .before)) (missing (c .before)) (w .0 .left)
 
-met : (c : tie.Joined4 Inv-loop μ-loop) →
-    state (c .if4 .r) (c .before .before .before .before .before .before .before .before .before .before .before .before .before .before .before .before .before .before .before .before .before .before .before .before .before .front .last .1 .1 .1 .1 .1 .0) (c .if4 .l2) (c .if4 .ext)
-    ≡ ready (c .before .before .before .before .before .before .before .before .before .before .before .before .before .before .before .before .before .before .before .before .before .before .before .before .before .before .before .before .before .before .before .before .before .before .before .is-write .result) (c .before .before .before .before .before .before .before .before .before .before .before .before .before .before .before .before .before .before .before .before .before .before .before .before .before .before .before .before .before .before .before .before .before .before .before .before .before .before .before .before .before .next .result .command .second) (state (withL1dSet (withL2Set (c .before .before .before .before .before .before .before .before .before .before .before .before .before .before .before .before .before .before .before .before .before .before .before .before .before .before .before .before .before .before .before .before .before .before .before .before .before .before .before .before .before .before .before .loop .r) (c .before .before .before .before .before .before .before .before .before .before .before .before .before .before .before .before .before .set-of2 .result) (c .before .before .before .before .before .before .before .before .before .before .before .before .send-home .result)) (c .before .before .before .before .before .before .before .before .before .before .before .before .before .before .before .before .before .before .before .before .before .before .before .before .before .before .before .before .before .before .set-of .result) (c .before .before .before .before .before .before .before .emptied .result)) (c .before .before .before .before .before .before .before .before .before .before .before .before .before .before .before .before .before .before .before .before .before .before .before .before .before .front .last .1 .1 .1 .1 .1 .0) (c .before .before .before .before .before .before .before .before .before .before .before .before .send-home .last .1 .1 .1 .1 .1 .1 .1 .1 .0) (c .before .before .before .before .before .before .before .before .before .before .before .before .send-home .last .1 .1 .1 .1 .1 .1 .1 .1 .1 .0))
+met : (c : tie.Joined4 Inv-loop μ-loop) → state (c .if4 .r) (c .before .before .before .before .before .before .before .before .before .before .before .before .before .before .before .before .before .before .before .before .before .before .before .before .before .front .last .1 .1 .1 .1 .1 .0) (c .if4 .l2) (c .if4 .ext) ≡ ready (c .before .before .before .before .before .before .before .before .before .before .before .before .before .before .before .before .before .before .before .before .before .before .before .before .before .before .before .before .before .before .before .before .before .before .before .is-write .result) (c .before .before .before .before .before .before .before .before .before .before .before .before .before .before .before .before .before .before .before .before .before .before .before .before .before .before .before .before .before .before .before .before .before .before .before .before .before .before .before .before .before .next .result .command .second) (roomState (asked (c .before .before .before .before .before .before .before .before .before .before .before .before .before .before .before .before .before .before .before .before .before)) (missing (c .before)))
 met c = ⊎-elim (homed-arm c) (other-arm c) (c .if4 .came)
 
 met-mode : (c : tie.Joined4 Inv-loop μ-loop) → c .if4 .r .mode ≡ c .before .before .before .before .before .before .before .before .before .before .before .before .before .before .before .before .before .before .before .before .before .before .before .before .before .before .before .before .before .before .before .before .before .before .before .before .before .before .before .before .before .before .before .loop .r .mode
@@ -175,89 +213,41 @@ carry-out-requires c κs =
 
 put-answer-requires : tie.Need-put-answer-requires Inv-loop μ-loop
 put-answer-requires c κs =
-    let p-if1 = c .before .before .before .before .before .before .before .before .before .before .before .before .before in
-    let p-stop-of = p-if1 .before in
-    let p-next = p-stop-of .before in
-    let p-loop = p-next .before .before in
-    let l = p-loop .loop in let d = p-next .next .result in
-    stop-none (d .ok) (length (l .answers)) (l .count) (sym (p-stop-of .stop-of .ensures) ∙ p-if1 .if1 .left)
+    let p-before = c .before .before .before .before .before .before .before .before .before .before .before .before in
+    going (p-before .before) .room
 
 add-at : tie.Need-add-at Inv-loop μ-loop
 add-at c =
-    let p-if1 = c .before .before .before .before .before .before .before .before .before .before .before .before .before .before .before .before .before in
-    let p-stop-of = p-if1 .before in
-    let p-next = p-stop-of .before in
-    let p-loop-test = p-next .before in
-    let p-loop = p-loop-test .before in
-    let p-end-of = p-loop .before in
-    let p-args = p-end-of .before .before .before .before .before .before .before in
-    let l = p-loop .loop in let a = p-args .args in let d = p-next .next .result in let ee = p-end-of .end-of .ensures in
-    let st : stopOf (d .ok) (length (l .answers)) (l .count) ≡ 0 = sym (p-stop-of .stop-of .ensures) ∙ p-if1 .if1 .left in
-    let h = p-loop-test .loop-test .taken in
-    let wi = p-next .next .ensures .within (stop-ok (d .ok) (length (l .answers)) (l .count) st) (rw ee at h) in
-    let w0 = wi .0 in let w1 = wi .1 in let i0 = l .inv .0 in let i1 = l .inv .1 in
-    omega arith
+    let p-before = c .before .before .before .before .before .before .before .before .before .before .before .before .before .before .before .before in
+    let p-loop = p-before .before .before .before .before .before in
+    let g = going (p-before .before) in let g0 = g .more in let g1 = g .to in let i0 = p-loop .loop .inv .0 in omega arith
 
 add-count : tie.Need-add-count Inv-loop μ-loop
 add-count c =
-    let p-if1 = c .before .before .before .before .before .before .before .before .before .before .before .before .before .before .before .before .before in
-    let p-stop-of = p-if1 .before in
-    let p-next = p-stop-of .before in
-    let p-loop-test = p-next .before in
-    let p-loop = p-loop-test .before in
-    let p-end-of = p-loop .before in
-    let p-args = p-end-of .before .before .before .before .before .before .before in
-    let l = p-loop .loop in let a = p-args .args in let d = p-next .next .result in let ee = p-end-of .end-of .ensures in
-    let st : stopOf (d .ok) (length (l .answers)) (l .count) ≡ 0 = sym (p-stop-of .stop-of .ensures) ∙ p-if1 .if1 .left in
-    let h = p-loop-test .loop-test .taken in
-    let wi = p-next .next .ensures .within (stop-ok (d .ok) (length (l .answers)) (l .count) st) (rw ee at h) in
-    let w0 = wi .0 in let w1 = wi .1 in let i0 = l .inv .0 in let i1 = l .inv .1 in
-    omega arith
+    let p-before = c .before .before .before .before .before .before .before .before .before .before .before .before .before .before .before .before in
+    let g = going (p-before .before) in let g0 = g .up in let g1 = g .to in omega arith
 
 loop-less : tie.Need-loop-less Inv-loop μ-loop
 loop-less c =
-    let p-if1 = c .before .before .before .before .before .before .before .before .before .before .before .before .before .before .before .before .before in
-    let p-stop-of = p-if1 .before in
-    let p-next = p-stop-of .before in
-    let p-loop-test = p-next .before in
-    let p-loop = p-loop-test .before in
-    let p-end-of = p-loop .before in
-    let p-args = p-end-of .before .before .before .before .before .before .before in
-    let l = p-loop .loop in let a = p-args .args in let d = p-next .next .result in let ee = p-end-of .end-of .ensures in
-    let st : stopOf (d .ok) (length (l .answers)) (l .count) ≡ 0 = sym (p-stop-of .stop-of .ensures) ∙ p-if1 .if1 .left in
-    let h = p-loop-test .loop-test .taken in
-    let wi = p-next .next .ensures .within (stop-ok (d .ok) (length (l .answers)) (l .count) st) (rw ee at h) in
-    let w0 = wi .0 in let w1 = wi .1 in let i0 = l .inv .0 in let i1 = l .inv .1 in
-    omega arith
+    let p-before = c .before .before .before .before .before .before .before .before .before .before .before .before .before .before .before .before in
+    let p-loop = p-before .before .before .before .before .before in
+    let g = going (p-before .before) in let g0 = g .more in let g1 = g .to in let i0 = p-loop .loop .inv .0 in omega arith
 
 loop-again : tie.Need-loop-again Inv-loop μ-loop
 loop-again c =
     let p-put-answer = c .before .before .before in
     let p-carry-out = p-put-answer .before .before .before .before .before .before .before in
     let p-if1 = p-carry-out .before .before .before .before .before .before .before in
-    let p-stop-of = p-if1 .before in
-    let p-next = p-stop-of .before in
-    let p-loop-test = p-next .before in
-    let p-loop = p-loop-test .before in
-    let p-end-of = p-loop .before in
-    let p-no-answer = p-end-of .before in
-    let p-args = p-no-answer .before .before .before .before .before .before in
-    let l = p-loop .loop in let a = p-args .args in let d = p-next .next .result in let ee = p-end-of .end-of .ensures in
-    let st : stopOf (d .ok) (length (l .answers)) (l .count) ≡ 0 = sym (p-stop-of .stop-of .ensures) ∙ p-if1 .if1 .left in
-    let h = p-loop-test .loop-test .taken in
-    let wi = p-next .next .ensures .within (stop-ok (d .ok) (length (l .answers)) (l .count) st) (rw ee at h) in
-    let w0 = wi .0 in let w1 = wi .1 in let i0 = l .inv .0 in let i1 = l .inv .1 in
-    let E = p-end-of .end-of .result in let cm = d .command in
-    let z = state (l .r) (l .l1d) (l .l2) (l .ext) in
-    let src = sourceOf (a .single) (a .given) (a .trace .now) in
-    let whole = executes src E E 0 (state (a .r0) (a .l1d .now) (a .l2 .now) (a .ext .now)) 0 (a .answers .now) (p-no-answer .no-answer .result) in
-    let go = turn src E (l .at) (l .count) z (l .answers) (l .last) whole h i0 d (p-next .next .ensures .same) st in
-    let up : l .count + 1 ≤ l .at + d .used = omega arith in
-    let to : l .at + d .used ≤ E = omega arith in
-    let o = p-carry-out .carry-out .result in
-    let l2 = p-carry-out .carry-out .last .1 .1 .1 .0 in let ex = p-carry-out .carry-out .last .1 .1 .1 .1 .0 in
-    let x = go (reply (o .number) 0 0 (state (o .«record») (l .l1d) l2 ex)) (p-carry-out .carry-out .ensures) (p-put-answer .put-answer .last .0) (p-put-answer .put-answer .ensures) (l .inv .6) in
-    (up, to, l .inv .2, p-carry-out .carry-out .kept .1 .1 .1 .0 ∙ l .inv .3, p-carry-out .carry-out .kept .1 .1 .1 .1 .0 ∙ l .inv .4, p-put-answer .put-answer .kept .0 ∙ l .inv .5, x)
+    let p-loop = p-if1 .before .before .before .before in
+    let l = p-loop .loop in let g = going p-if1 in let o = p-carry-out .carry-out .result in (
+      g .up,
+      g .to,
+      l .inv .2,
+      p-carry-out .carry-out .kept .1 .1 .1 .0 ∙ l .inv .3,
+      p-carry-out .carry-out .kept .1 .1 .1 .1 .0 ∙ l .inv .4,
+      p-put-answer .put-answer .kept .0 ∙ l .inv .5,
+      onward p-if1 (reply (o .number) 0 0 (state (o .«record») (l .l1d) (p-carry-out .carry-out .last .1 .1 .1 .0) (p-carry-out .carry-out .last .1 .1 .1 .1 .0))) (p-carry-out .carry-out .ensures) (p-put-answer .put-answer .last .0) (p-put-answer .put-answer .ensures),
+    )
 
 is-write-requires : tie.Need-is-write-requires Inv-loop μ-loop
 is-write-requires c κs = search needs
@@ -307,102 +297,45 @@ element-set-from-fs c =
 
 put-answer-requires-2 : tie.Need-put-answer-requires-2 Inv-loop μ-loop
 put-answer-requires-2 c κs =
-    let p-if1 = c .before .before .before .before .before .before .before .before .before .before .before .before .before .before .before .before .before .before .before .before .before .before in
-    let p-stop-of = p-if1 .before in
-    let p-next = p-stop-of .before in
-    let p-loop = p-next .before .before in
-    let l = p-loop .loop in let d = p-next .next .result in
-    stop-none (d .ok) (length (l .answers)) (l .count) (sym (p-stop-of .stop-of .ensures) ∙ p-if1 .if1 .left)
+    let p-before = c .before .before .before .before .before .before .before .before .before .before .before .before .before .before .before .before .before .before .before .before .before in
+    going (p-before .before) .room
 
 add-at-2 : tie.Need-add-at-2 Inv-loop μ-loop
 add-at-2 c =
-    let p-if1 = c .before .before .before .before .before .before .before .before .before .before .before .before .before .before .before .before .before .before .before .before .before .before .before .before .before .before in
-    let p-stop-of = p-if1 .before in
-    let p-next = p-stop-of .before in
-    let p-loop-test = p-next .before in
-    let p-loop = p-loop-test .before in
-    let p-end-of = p-loop .before in
-    let p-args = p-end-of .before .before .before .before .before .before .before in
-    let l = p-loop .loop in let a = p-args .args in let d = p-next .next .result in let ee = p-end-of .end-of .ensures in
-    let st : stopOf (d .ok) (length (l .answers)) (l .count) ≡ 0 = sym (p-stop-of .stop-of .ensures) ∙ p-if1 .if1 .left in
-    let h = p-loop-test .loop-test .taken in
-    let wi = p-next .next .ensures .within (stop-ok (d .ok) (length (l .answers)) (l .count) st) (rw ee at h) in
-    let w0 = wi .0 in let w1 = wi .1 in let i0 = l .inv .0 in let i1 = l .inv .1 in
-    omega arith
+    let p-before = c .before .before .before .before .before .before .before .before .before .before .before .before .before .before .before .before .before .before .before .before .before .before .before .before .before in
+    let p-loop = p-before .before .before .before .before .before in
+    let g = going (p-before .before) in let g0 = g .more in let g1 = g .to in let i0 = p-loop .loop .inv .0 in omega arith
 
 add-count-2 : tie.Need-add-count-2 Inv-loop μ-loop
 add-count-2 c =
-    let p-if1 = c .before .before .before .before .before .before .before .before .before .before .before .before .before .before .before .before .before .before .before .before .before .before .before .before .before .before in
-    let p-stop-of = p-if1 .before in
-    let p-next = p-stop-of .before in
-    let p-loop-test = p-next .before in
-    let p-loop = p-loop-test .before in
-    let p-end-of = p-loop .before in
-    let p-args = p-end-of .before .before .before .before .before .before .before in
-    let l = p-loop .loop in let a = p-args .args in let d = p-next .next .result in let ee = p-end-of .end-of .ensures in
-    let st : stopOf (d .ok) (length (l .answers)) (l .count) ≡ 0 = sym (p-stop-of .stop-of .ensures) ∙ p-if1 .if1 .left in
-    let h = p-loop-test .loop-test .taken in
-    let wi = p-next .next .ensures .within (stop-ok (d .ok) (length (l .answers)) (l .count) st) (rw ee at h) in
-    let w0 = wi .0 in let w1 = wi .1 in let i0 = l .inv .0 in let i1 = l .inv .1 in
-    omega arith
+    let p-before = c .before .before .before .before .before .before .before .before .before .before .before .before .before .before .before .before .before .before .before .before .before .before .before .before .before in
+    let g = going (p-before .before) in let g0 = g .up in let g1 = g .to in omega arith
 
 loop-less-2 : tie.Need-loop-less-2 Inv-loop μ-loop
 loop-less-2 c =
-    let p-if1 = c .before .before .before .before .before .before .before .before .before .before .before .before .before .before .before .before .before .before .before .before .before .before .before .before .before .before in
-    let p-stop-of = p-if1 .before in
-    let p-next = p-stop-of .before in
-    let p-loop-test = p-next .before in
-    let p-loop = p-loop-test .before in
-    let p-end-of = p-loop .before in
-    let p-args = p-end-of .before .before .before .before .before .before .before in
-    let l = p-loop .loop in let a = p-args .args in let d = p-next .next .result in let ee = p-end-of .end-of .ensures in
-    let st : stopOf (d .ok) (length (l .answers)) (l .count) ≡ 0 = sym (p-stop-of .stop-of .ensures) ∙ p-if1 .if1 .left in
-    let h = p-loop-test .loop-test .taken in
-    let wi = p-next .next .ensures .within (stop-ok (d .ok) (length (l .answers)) (l .count) st) (rw ee at h) in
-    let w0 = wi .0 in let w1 = wi .1 in let i0 = l .inv .0 in let i1 = l .inv .1 in
-    omega arith
+    let p-before = c .before .before .before .before .before .before .before .before .before .before .before .before .before .before .before .before .before .before .before .before .before .before .before .before .before in
+    let p-loop = p-before .before .before .before .before .before in
+    let g = going (p-before .before) in let g0 = g .more in let g1 = g .to in let i0 = p-loop .loop .inv .0 in omega arith
 
 loop-again-2 : tie.Need-loop-again-2 Inv-loop μ-loop
 loop-again-2 c =
     let p-put-answer2 = c .before .before .before in
     let p-if3 = p-put-answer2 .before .before .before .before in
-    let p-front = p-if3 .before .before .before .before .before in
-    let p-is-cached = p-front .before .before .before in
-    let p-set-of = p-is-cached .before .before in
-    let p-access-due = p-set-of .before in
-    let p-checked = p-access-due .before in
-    let p-sram = p-checked .before in
-    let p-sets = p-sram .before in
-    let p-is-write = p-sets .before in
-    let p-if2 = p-is-write .before in
-    let p-if1 = p-if2 .before .before .before in
-    let p-stop-of = p-if1 .before in
-    let p-next = p-stop-of .before in
-    let p-loop-test = p-next .before in
-    let p-loop = p-loop-test .before in
-    let p-end-of = p-loop .before in
-    let p-no-answer = p-end-of .before in
-    let p-args = p-no-answer .before .before .before .before .before .before in
-    let l = p-loop .loop in let a = p-args .args in let d = p-next .next .result in let ee = p-end-of .end-of .ensures in
-    let st : stopOf (d .ok) (length (l .answers)) (l .count) ≡ 0 = sym (p-stop-of .stop-of .ensures) ∙ p-if1 .if1 .left in
-    let h = p-loop-test .loop-test .taken in
-    let wi = p-next .next .ensures .within (stop-ok (d .ok) (length (l .answers)) (l .count) st) (rw ee at h) in
-    let w0 = wi .0 in let w1 = wi .1 in let i0 = l .inv .0 in let i1 = l .inv .1 in
-    let E = p-end-of .end-of .result in let cm = d .command in
-    let z = state (l .r) (l .l1d) (l .l2) (l .ext) in
-    let src = sourceOf (a .single) (a .given) (a .trace .now) in
-    let whole = executes src E E 0 (state (a .r0) (a .l1d .now) (a .l2 .now) (a .ext .now)) 0 (a .answers .now) (p-no-answer .no-answer .result) in
-    let go = turn src E (l .at) (l .count) z (l .answers) (l .last) whole h i0 d (p-next .next .ensures .same) st in
-    let up : l .count + 1 ≤ l .at + d .used = omega arith in
-    let to : l .at + d .used ≤ E = omega arith in
-    let lr = l .r in
-    let write = p-is-write .is-write .result in let sets = p-sets .sets .result in let sram = p-sram .sram .result in let i = p-set-of .set-of .result in
-    let F = frontAs (p-front .front .result) (p-front .front .last .1 .1 .1 .1 .1 .0) (p-front .front .last .1 .1 .1 .1 .1 .1 .0) in
-    let ed = due-is lr (l .l1d) (l .l2) (l .ext) cm (p-access-due .access-due .result) sram (p-checked .checked .result) (p-if2 .if2 .left) (p-sram .sram .ensures .0) (p-checked .checked .ensures) (p-access-due .access-due .ensures) in
-    let ec = p-is-cached .is-cached .ensures ∙ cached-is lr (cm .second) in
-    let f = p-front .front .result in
-    let x = go (reply (f .answer .number) (f .answer .server) (f .answer .value) (state (withL1dSet lr i (f .set)) (F .l1d) (l .l2) (F .ext))) (front-step lr (l .l1d) (l .l2) (l .ext) cm (p-if2 .if2 .left) i (p-access-due .access-due .result) (p-is-cached .is-cached .result) write F sets sram (p-is-write .is-write .ensures) (p-sets .sets .ensures .0) (p-sram .sram .ensures .0) (p-set-of .set-of .ensures .0) ed ec (p-front .front .ensures) (p-if3 .if3 .taken)) (p-put-answer2 .put-answer2 .last .0) (p-put-answer2 .put-answer2 .ensures) (l .inv .6) in
-    (up, to, p-front .front .kept .1 .1 .1 .1 .1 .0 ∙ l .inv .2, l .inv .3, p-front .front .kept .1 .1 .1 .1 .1 .1 .0 ∙ l .inv .4, p-put-answer2 .put-answer2 .kept .0 ∙ l .inv .5, x)
+    let p-slice-known9 = p-if3 .before in
+    let p-front = p-slice-known9 .before .before .before .before in
+    let p-set-of = p-front .before .before .before .before .before in
+    let p-if1 = p-set-of .before .before .before .before .before .before .before .before .before in
+    let p-loop = p-if1 .before .before .before .before in
+    let l = p-loop .loop in let g = going p-if1 in let f = p-front .front .result in (
+      g .up,
+      g .to,
+      p-front .front .kept .1 .1 .1 .1 .1 .0 ∙ l .inv .2,
+      l .inv .3,
+      p-front .front .kept .1 .1 .1 .1 .1 .1 .0 ∙ l .inv .4,
+      p-put-answer2 .put-answer2 .kept .0 ∙ l .inv .5,
+      onward p-if1 (reply (f .answer .number) (f .answer .server) (f .answer .value) (state (withL1dSet (l .r) (p-set-of .set-of .result) (f .set)) (p-front .front .last .1 .1 .1 .1 .1 .0) (l .l2) (p-front .front .last .1 .1 .1 .1 .1 .1 .0)))
+          (front-of (asked p-slice-known9) (p-if3 .if3 .taken)) (p-put-answer2 .put-answer2 .last .0) (p-put-answer2 .put-answer2 .ensures),
+    )
 
 leaving-requires : tie.Need-leaving-requires Inv-loop μ-loop
 leaving-requires c κs = search needs
@@ -558,45 +491,12 @@ element-copy-out-v c =
 
 finish-requires : tie.Need-finish-requires Inv-loop μ-loop
 finish-requires c κs =
-    let p-data-at = c .before .before .before .before .before in
-    let p-choose = p-data-at .before .before in
-    let p-set-of3 = p-choose .before .before in
-    let p-homed = p-set-of3 .before in
-    let p-emptied = p-homed .before in
-    let p-send-home = p-emptied .before .before .before .before .before in
-    let p-set-of2 = p-send-home .before .before .before .before .before in
-    let p-leaving = p-set-of2 .before .before in
-    let p-if3 = p-leaving .before in
-    let p-front = p-if3 .before .before .before .before .before in
-    let p-is-cached = p-front .before .before .before in
-    let p-set-of = p-is-cached .before .before in
-    let p-access-due = p-set-of .before in
-    let p-checked = p-access-due .before in
-    let p-sram = p-checked .before in
-    let p-sets = p-sram .before in
-    let p-is-write = p-sets .before in
-    let p-if2 = p-is-write .before in
-    let p-if1 = p-if2 .before .before .before in
-    let p-stop-of = p-if1 .before in
-    let p-next = p-stop-of .before in
-    let p-loop-test = p-next .before in
-    let p-loop = p-loop-test .before in
-    let p-end-of = p-loop .before in
-    let p-args = p-end-of .before .before .before .before .before .before .before in
-    let l = p-loop .loop in let a = p-args .args in let d = p-next .next .result in let ee = p-end-of .end-of .ensures in
-    let st : stopOf (d .ok) (length (l .answers)) (l .count) ≡ 0 = sym (p-stop-of .stop-of .ensures) ∙ p-if1 .if1 .left in
-    let h = p-loop-test .loop-test .taken in
-    let wi = p-next .next .ensures .within (stop-ok (d .ok) (length (l .answers)) (l .count) st) (rw ee at h) in
-    let w0 = wi .0 in let w1 = wi .1 in let i0 = l .inv .0 in let i1 = l .inv .1 in
-    let cm = d .command in
-    let lr = l .r in
-    let write = p-is-write .is-write .result in let sets = p-sets .sets .result in let sram = p-sram .sram .result in let i = p-set-of .set-of .result in
-    let F = frontAs (p-front .front .result) (p-front .front .last .1 .1 .1 .1 .1 .0) (p-front .front .last .1 .1 .1 .1 .1 .1 .0) in
-    let ed = due-is lr (l .l1d) (l .l2) (l .ext) cm (p-access-due .access-due .result) sram (p-checked .checked .result) (p-if2 .if2 .left) (p-sram .sram .ensures .0) (p-checked .checked .ensures) (p-access-due .access-due .ensures) in
-    let ec = p-is-cached .is-cached .ensures ∙ cached-is lr (cm .second) in
-    let g = p-leaving .leaving .result in let S = sentAs (p-send-home .send-home .result) (p-send-home .send-home .last .1 .1 .1 .1 .1 .1 .1 .1 .0) (p-send-home .send-home .last .1 .1 .1 .1 .1 .1 .1 .1 .1 .0) in
-    let th = p-set-of2 .set-of2 .result in let q = p-emptied .emptied .result in let t = p-set-of3 .set-of3 .result in let pl = p-data-at .data-at .result in let ch = p-choose .choose .result in
-    (p-set-of .set-of .ensures .1, (p-leaving .leaving .ensures .1, (p-data-at .data-at .ensures .1, miss-size lr (l .l1d) (l .l2) (l .ext) cm (p-if2 .if2 .left) i (p-access-due .access-due .result) (p-is-cached .is-cached .result) write F sets sram (p-is-write .is-write .ensures) (p-sets .sets .ensures .0) (p-sram .sram .ensures .0) (p-set-of .set-of .ensures .0) ed ec (p-front .front .ensures) (p-if3 .if3 .left) th g S q (p-leaving .leaving .ensures .0) (p-set-of2 .set-of2 .ensures .0) (p-send-home .send-home .ensures) (p-emptied .emptied .ensures) (p-homed .homed .result) t pl ch (p-homed .homed .ensures) (p-set-of3 .set-of3 .ensures .0) (p-choose .choose .ensures .0) (p-data-at .data-at .ensures .0))))
+    let p-before = c .before .before .before .before in
+    let p-data-at = p-before .before in
+    let p-leaving = p-data-at .before .before .before .before .before .before .before .before .before .before .before .before .before .before .before .before .before .before in
+    let p-before- = p-leaving .before in
+    let p-set-of = p-before- .before .before .before .before .before .before .before .before .before .before in
+    (p-set-of .set-of .ensures .1, (p-leaving .leaving .ensures .1, (p-data-at .data-at .ensures .1, size-of (asked (p-before- .before)) (missing (p-before .before)))))
 
 mul-ns : tie.Need-mul-ns Inv-loop μ-loop
 mul-ns c =
@@ -613,60 +513,25 @@ server-of-requires c κs = search needs
 
 put-answer-requires-3 : tie.Need-put-answer-requires-3 Inv-loop μ-loop
 put-answer-requires-3 c κs =
-    let p-if1 = c .before .before .before .before .before .before .before .before .before .before .before .before .before .before .before .before .before .before .before .before .before .before .before .before .before .before .before .before .before .before .before .before .before .before .before .before .before .before .before .before .before .before .before .before .before .before .before .before .before .before .before .before .before in
-    let p-stop-of = p-if1 .before in
-    let p-next = p-stop-of .before in
-    let p-loop = p-next .before .before in
-    let l = p-loop .loop in let d = p-next .next .result in
-    stop-none (d .ok) (length (l .answers)) (l .count) (sym (p-stop-of .stop-of .ensures) ∙ p-if1 .if1 .left)
+    let p-before = c .before .before .before .before .before .before .before .before .before .before .before .before .before .before .before .before .before .before .before .before .before .before .before .before .before .before .before .before .before .before .before .before .before .before .before .before .before .before .before .before .before .before .before .before .before .before .before .before .before .before .before .before in
+    going (p-before .before) .room
 
 add-at-3 : tie.Need-add-at-3 Inv-loop μ-loop
 add-at-3 c =
-    let p-if1 = c .before .before .before .before .before .before .before .before .before .before .before .before .before .before .before .before .before .before .before .before .before .before .before .before .before .before .before .before .before .before .before .before .before .before .before .before .before .before .before .before .before .before .before .before .before .before .before .before .before .before .before .before .before .before .before .before .before in
-    let p-stop-of = p-if1 .before in
-    let p-next = p-stop-of .before in
-    let p-loop-test = p-next .before in
-    let p-loop = p-loop-test .before in
-    let p-end-of = p-loop .before in
-    let p-args = p-end-of .before .before .before .before .before .before .before in
-    let l = p-loop .loop in let a = p-args .args in let d = p-next .next .result in let ee = p-end-of .end-of .ensures in
-    let st : stopOf (d .ok) (length (l .answers)) (l .count) ≡ 0 = sym (p-stop-of .stop-of .ensures) ∙ p-if1 .if1 .left in
-    let h = p-loop-test .loop-test .taken in
-    let wi = p-next .next .ensures .within (stop-ok (d .ok) (length (l .answers)) (l .count) st) (rw ee at h) in
-    let w0 = wi .0 in let w1 = wi .1 in let i0 = l .inv .0 in let i1 = l .inv .1 in
-    omega arith
+    let p-before = c .before .before .before .before .before .before .before .before .before .before .before .before .before .before .before .before .before .before .before .before .before .before .before .before .before .before .before .before .before .before .before .before .before .before .before .before .before .before .before .before .before .before .before .before .before .before .before .before .before .before .before .before .before .before .before .before in
+    let p-loop = p-before .before .before .before .before .before in
+    let g = going (p-before .before) in let g0 = g .more in let g1 = g .to in let i0 = p-loop .loop .inv .0 in omega arith
 
 add-count-3 : tie.Need-add-count-3 Inv-loop μ-loop
 add-count-3 c =
-    let p-if1 = c .before .before .before .before .before .before .before .before .before .before .before .before .before .before .before .before .before .before .before .before .before .before .before .before .before .before .before .before .before .before .before .before .before .before .before .before .before .before .before .before .before .before .before .before .before .before .before .before .before .before .before .before .before .before .before .before .before in
-    let p-stop-of = p-if1 .before in
-    let p-next = p-stop-of .before in
-    let p-loop-test = p-next .before in
-    let p-loop = p-loop-test .before in
-    let p-end-of = p-loop .before in
-    let p-args = p-end-of .before .before .before .before .before .before .before in
-    let l = p-loop .loop in let a = p-args .args in let d = p-next .next .result in let ee = p-end-of .end-of .ensures in
-    let st : stopOf (d .ok) (length (l .answers)) (l .count) ≡ 0 = sym (p-stop-of .stop-of .ensures) ∙ p-if1 .if1 .left in
-    let h = p-loop-test .loop-test .taken in
-    let wi = p-next .next .ensures .within (stop-ok (d .ok) (length (l .answers)) (l .count) st) (rw ee at h) in
-    let w0 = wi .0 in let w1 = wi .1 in let i0 = l .inv .0 in let i1 = l .inv .1 in
-    omega arith
+    let p-before = c .before .before .before .before .before .before .before .before .before .before .before .before .before .before .before .before .before .before .before .before .before .before .before .before .before .before .before .before .before .before .before .before .before .before .before .before .before .before .before .before .before .before .before .before .before .before .before .before .before .before .before .before .before .before .before .before in
+    let g = going (p-before .before) in let g0 = g .up in let g1 = g .to in omega arith
 
 loop-less-3 : tie.Need-loop-less-3 Inv-loop μ-loop
 loop-less-3 c =
-    let p-if1 = c .before .before .before .before .before .before .before .before .before .before .before .before .before .before .before .before .before .before .before .before .before .before .before .before .before .before .before .before .before .before .before .before .before .before .before .before .before .before .before .before .before .before .before .before .before .before .before .before .before .before .before .before .before .before .before .before .before in
-    let p-stop-of = p-if1 .before in
-    let p-next = p-stop-of .before in
-    let p-loop-test = p-next .before in
-    let p-loop = p-loop-test .before in
-    let p-end-of = p-loop .before in
-    let p-args = p-end-of .before .before .before .before .before .before .before in
-    let l = p-loop .loop in let a = p-args .args in let d = p-next .next .result in let ee = p-end-of .end-of .ensures in
-    let st : stopOf (d .ok) (length (l .answers)) (l .count) ≡ 0 = sym (p-stop-of .stop-of .ensures) ∙ p-if1 .if1 .left in
-    let h = p-loop-test .loop-test .taken in
-    let wi = p-next .next .ensures .within (stop-ok (d .ok) (length (l .answers)) (l .count) st) (rw ee at h) in
-    let w0 = wi .0 in let w1 = wi .1 in let i0 = l .inv .0 in let i1 = l .inv .1 in
-    omega arith
+    let p-before = c .before .before .before .before .before .before .before .before .before .before .before .before .before .before .before .before .before .before .before .before .before .before .before .before .before .before .before .before .before .before .before .before .before .before .before .before .before .before .before .before .before .before .before .before .before .before .before .before .before .before .before .before .before .before .before .before in
+    let p-loop = p-before .before .before .before .before .before in
+    let g = going (p-before .before) in let g0 = g .more in let g1 = g .to in let i0 = p-loop .loop .inv .0 in omega arith
 
 loop-again-3 : tie.Need-loop-again-3 Inv-loop μ-loop
 loop-again-3 c =
@@ -675,61 +540,23 @@ loop-again-3 c =
     let p-finish = p-server-of .before .before .before .before .before .before .before .before in
     let p-if4 = p-finish .before .before .before .before .before in
     let p-data-at = p-if4 .before in
-    let p-choose = p-data-at .before .before in
-    let p-set-of3 = p-choose .before .before in
-    let p-homed = p-set-of3 .before in
-    let p-emptied = p-homed .before in
-    let p-send-home = p-emptied .before .before .before .before .before in
-    let p-set-of2 = p-send-home .before .before .before .before .before in
-    let p-leaving = p-set-of2 .before .before in
-    let p-if3 = p-leaving .before in
-    let p-front = p-if3 .before .before .before .before .before in
-    let p-is-cached = p-front .before .before .before in
-    let p-set-of = p-is-cached .before .before in
-    let p-access-due = p-set-of .before in
-    let p-checked = p-access-due .before in
-    let p-sram = p-checked .before in
-    let p-sets = p-sram .before in
-    let p-is-write = p-sets .before in
-    let p-if2 = p-is-write .before in
-    let p-if1 = p-if2 .before .before .before in
-    let p-stop-of = p-if1 .before in
-    let p-next = p-stop-of .before in
-    let p-loop-test = p-next .before in
-    let p-loop = p-loop-test .before in
-    let p-end-of = p-loop .before in
-    let p-no-answer = p-end-of .before in
-    let p-args = p-no-answer .before .before .before .before .before .before in
-    let l = p-loop .loop in let a = p-args .args in let d = p-next .next .result in let ee = p-end-of .end-of .ensures in
-    let st : stopOf (d .ok) (length (l .answers)) (l .count) ≡ 0 = sym (p-stop-of .stop-of .ensures) ∙ p-if1 .if1 .left in
-    let h = p-loop-test .loop-test .taken in
-    let wi = p-next .next .ensures .within (stop-ok (d .ok) (length (l .answers)) (l .count) st) (rw ee at h) in
-    let w0 = wi .0 in let w1 = wi .1 in let i0 = l .inv .0 in let i1 = l .inv .1 in
-    let E = p-end-of .end-of .result in let cm = d .command in
-    let z = state (l .r) (l .l1d) (l .l2) (l .ext) in
-    let src = sourceOf (a .single) (a .given) (a .trace .now) in
-    let whole = executes src E E 0 (state (a .r0) (a .l1d .now) (a .l2 .now) (a .ext .now)) 0 (a .answers .now) (p-no-answer .no-answer .result) in
-    let go = turn src E (l .at) (l .count) z (l .answers) (l .last) whole h i0 d (p-next .next .ensures .same) st in
-    let up : l .count + 1 ≤ l .at + d .used = omega arith in
-    let to : l .at + d .used ≤ E = omega arith in
-    let lr = l .r in
-    let write = p-is-write .is-write .result in let sets = p-sets .sets .result in let sram = p-sram .sram .result in let i = p-set-of .set-of .result in
-    let F = frontAs (p-front .front .result) (p-front .front .last .1 .1 .1 .1 .1 .0) (p-front .front .last .1 .1 .1 .1 .1 .1 .0) in
-    let ed = due-is lr (l .l1d) (l .l2) (l .ext) cm (p-access-due .access-due .result) sram (p-checked .checked .result) (p-if2 .if2 .left) (p-sram .sram .ensures .0) (p-checked .checked .ensures) (p-access-due .access-due .ensures) in
-    let ec = p-is-cached .is-cached .ensures ∙ cached-is lr (cm .second) in
-    let g = p-leaving .leaving .result in let S = sentAs (p-send-home .send-home .result) (p-send-home .send-home .last .1 .1 .1 .1 .1 .1 .1 .1 .0) (p-send-home .send-home .last .1 .1 .1 .1 .1 .1 .1 .1 .1 .0) in
-    let th = p-set-of2 .set-of2 .result in let q = p-emptied .emptied .result in let t = p-set-of3 .set-of3 .result in let pl = p-data-at .data-at .result in let ch = p-choose .choose .result in
-    let q2 = p-if4 .if4 in
-    let N = finishedAs (p-finish .finish .result) (p-finish .finish .last .1 .1 .1 .1 .1 .1 .0) (p-finish .finish .last .1 .1 .1 .1 .1 .1 .1 .0) (p-finish .finish .last .1 .1 .1 .1 .1 .1 .1 .1 .0) in
-    let e = miss-step lr (l .l1d) (l .l2) (l .ext) cm (p-if2 .if2 .left) i (p-access-due .access-due .result) (p-is-cached .is-cached .result) write F sets sram (p-is-write .is-write .ensures) (p-sets .sets .ensures .0) (p-sram .sram .ensures .0) (p-set-of .set-of .ensures .0) ed ec (p-front .front .ensures) (p-if3 .if3 .left) th g S q (p-leaving .leaving .ensures .0) (p-set-of2 .set-of2 .ensures .0) (p-send-home .send-home .ensures) (p-emptied .emptied .ensures) (p-homed .homed .result) t pl ch (p-homed .homed .ensures) (p-set-of3 .set-of3 .ensures .0) (p-choose .choose .ensures .0) (p-data-at .data-at .ensures .0) (q2 .r) (q2 .l2) (q2 .ext) (met-mode p-if4) (met-len p-if4) (met p-if4) N (p-server-of .server-of .result) (p-finish .finish .ensures) (p-server-of .server-of .ensures) in
-    let x = go (reply 0 (p-server-of .server-of .result) (p-finish .finish .result .value) (state (withL1dSet (q2 .r) i (p-finish .finish .result .set)) (N .l1d) (N .l2) (N .ext))) e (p-put-answer3 .put-answer3 .last .0) (p-put-answer3 .put-answer3 .ensures) (l .inv .6) in (
-      up,
-      to,
+    let p-send-home = p-data-at .before .before .before .before .before .before .before .before .before .before .before in
+    let p-slice-known9 = p-send-home .before .before .before .before .before .before .before .before .before in
+    let p-front = p-slice-known9 .before .before .before .before in
+    let p-set-of = p-front .before .before .before .before .before in
+    let p-if1 = p-set-of .before .before .before .before .before .before .before .before .before in
+    let p-loop = p-if1 .before .before .before .before in
+    let l = p-loop .loop in let g = going p-if1 in let q = p-if4 .if4 in let v = p-finish .finish .result in
+    let x = finishedAs v (p-finish .finish .last .1 .1 .1 .1 .1 .1 .0) (p-finish .finish .last .1 .1 .1 .1 .1 .1 .1 .0) (p-finish .finish .last .1 .1 .1 .1 .1 .1 .1 .1 .0) in (
+      g .up,
+      g .to,
       p-finish .finish .kept .1 .1 .1 .1 .1 .1 .0 ∙ p-front .front .kept .1 .1 .1 .1 .1 .0 ∙ l .inv .2,
       p-finish .finish .kept .1 .1 .1 .1 .1 .1 .1 .0 ∙ met-l2 p-if4 ∙ p-send-home .send-home .kept .1 .1 .1 .1 .1 .1 .1 .1 .0 ∙ l .inv .3,
       p-finish .finish .kept .1 .1 .1 .1 .1 .1 .1 .1 .0 ∙ met-ext p-if4 ∙ p-send-home .send-home .kept .1 .1 .1 .1 .1 .1 .1 .1 .1 .0 ∙ p-front .front .kept .1 .1 .1 .1 .1 .1 .0 ∙ l .inv .4,
       p-put-answer3 .put-answer3 .kept .0 ∙ l .inv .5,
-      x,
+      onward p-if1 (reply 0 (p-server-of .server-of .result) (v .value) (state (withL1dSet (q .r) (p-set-of .set-of .result) (v .set)) (x .l1d) (x .l2) (x .ext)))
+          (miss-of (asked p-slice-known9) (missing p-data-at) (q .r) (q .l2) (q .ext) (met-mode p-if4) (met-len p-if4) (met p-if4) x (p-server-of .server-of .result) (p-finish .finish .ensures) (p-server-of .server-of .ensures))
+          (p-put-answer3 .put-answer3 .last .0) (p-put-answer3 .put-answer3 .ensures),
     )
 
 same-length-5 : tie.Need-same-length-5 Inv-loop μ-loop
