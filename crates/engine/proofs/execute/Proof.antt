@@ -1,15 +1,15 @@
 -- `engine::execute` meets its contract: what is left to do gives the whole. Each way through a turn is one step of the model (specs/Turn), and a turn keeps the invariant (specs/Executed `turn`).
+use Rattle.model.specs.Records.{state, withL1dSet}
+use lib.ListN.{length}
+use Prim.Native.Nat.{ℕ, _+_, _-_, _≤_}
+-- `engine::execute` meets its contract: what is left to do gives the whole. Each way through a turn is one step of the model (specs/Turn), and a turn keeps the invariant (specs/Executed `turn`).
 use Rattle.engine.specs.Turn.{size-known, cached-is, due-is, Asked, Missing, roomState, front-of, unhomed-of, homed-of, miss-of, size-of}
 use Rattle.engine.specs.Executed.{sourceOf, endOf, noAnswer, answerOf, executes, turn, stopped, at-end, Going, goes-on, First, Second}
 use Rattle.model.specs.Calls.{Reply, reply, step, putAnswer}
 use mathlib.Core.List.{List}
-use lib.ListN.{length}
-use Prim.Native.Nat.{ℕ, _+_, _-_, _≤_}
--- `engine::execute` meets its contract: what is left to do gives the whole. Each way through a turn is one step of the model (specs/Turn), and a turn keeps the invariant (specs/Executed `turn`).
 use Rattle.joins.specs.Miss.{ready}
 use Rattle.stages.specs.Stages.{frontAs, sentAs, takenAs, broughtAs, finishedAs}
 use Rattle.model.specs.declared.Record.{Record}
-use Rattle.model.specs.Records.{state, withL1dSet}
 use mathlib.Core.Logic.{⊎-elim}
 use native.Mathlib.Omega.{arith}
 use mathlib.Core.Path.{_≡_, refl, sym, ap, _∙_}
@@ -28,7 +28,11 @@ abbrev μ-loop : tie.MeasureT-loop
     end - at
 
 -- ---- what is known at the places that many needs go by
-going : (c : tie.Else1 Inv-loop μ-loop) → Going (c .before .before .before .before .before .end-of .result) (c .before .before .before .before .loop .at) (c .before .before .before .before .loop .count) (c .before .before .next .result) (c .before .before .before .before .loop .answers)
+going : (c : tie.Else1 Inv-loop μ-loop) →
+    let p-next = c .before .before in
+    let p-loop = p-next .before .before in
+    let p-end-of = p-loop .before in
+    Going (p-end-of .end-of .result) (p-loop .loop .at) (p-loop .loop .count) (p-next .next .result) (p-loop .loop .answers)
 going c =
     let p-stop-of = c .before in
     let p-next = p-stop-of .before in
@@ -40,10 +44,16 @@ going c =
     goes-on (a .single) (a .given) (a .trace .now) (p-end-of .end-of .result) (l .at) (l .count) (p-next .next .result) (l .answers) (p-stop-of .stop-of .result) (p-end-of .end-of .ensures) (p-next .next .ensures) (p-loop-test .loop-test .taken) (l .inv .0) (p-stop-of .stop-of .ensures) (c .if1 .left)
 
 -- a command carried out: the rest gives the whole
-onward : (c : tie.Else1 Inv-loop μ-loop) (x : Reply) → x ≡ step (c .before .before .next .result .command) (state (c .before .before .before .before .loop .r) (c .before .before .before .before .loop .l1d) (c .before .before .before .before .loop .l2) (c .before .before .before .before .loop .ext)) →
-    (o : List ℕ) → o ≡ putAnswer (c .before .before .before .before .loop .answers) (c .before .before .before .before .loop .count) (x .number) (x .server) (x .value) →
-    executes (sourceOf (c .before .before .before .before .before .before .before .before .before .before .before .before .args .single) (c .before .before .before .before .before .before .before .before .before .before .before .before .args .given) (c .before .before .before .before .before .before .before .before .before .before .before .before .args .trace .now)) (c .before .before .before .before .before .end-of .result) (c .before .before .before .before .before .end-of .result - (c .before .before .before .before .loop .count + 1)) (c .before .before .before .before .loop .at + c .before .before .next .result .used) (x .next) (c .before .before .before .before .loop .count + 1) o (answerOf x)
-    ≡ executes (sourceOf (c .before .before .before .before .before .before .before .before .before .before .before .before .args .single) (c .before .before .before .before .before .before .before .before .before .before .before .before .args .given) (c .before .before .before .before .before .before .before .before .before .before .before .before .args .trace .now)) (c .before .before .before .before .before .end-of .result) (c .before .before .before .before .before .end-of .result) 0 (state (c .before .before .before .before .before .before .before .before .before .before .before .before .args .r0) (c .before .before .before .before .before .before .before .before .before .before .before .before .args .l1d .now) (c .before .before .before .before .before .before .before .before .before .before .before .before .args .l2 .now) (c .before .before .before .before .before .before .before .before .before .before .before .before .args .ext .now)) 0 (c .before .before .before .before .before .before .before .before .before .before .before .before .args .answers .now) (c .before .before .before .before .before .before .no-answer .result)
+onward : (c : tie.Else1 Inv-loop μ-loop) →
+    let p-next = c .before .before in
+    let p-loop = p-next .before .before in
+    let p-end-of = p-loop .before in
+    let p-no-answer = p-end-of .before in
+    let p-args = p-no-answer .before .before .before .before .before .before in
+    (x : Reply) → x ≡ step (p-next .next .result .command) (state (p-loop .loop .r) (p-loop .loop .l1d) (p-loop .loop .l2) (p-loop .loop .ext)) →
+    (o : List ℕ) → o ≡ putAnswer (p-loop .loop .answers) (p-loop .loop .count) (x .number) (x .server) (x .value) →
+    executes (sourceOf (p-args .args .single) (p-args .args .given) (p-args .args .trace .now)) (p-end-of .end-of .result) (p-end-of .end-of .result - (p-loop .loop .count + 1)) (p-loop .loop .at + p-next .next .result .used) (x .next) (p-loop .loop .count + 1) o (answerOf x)
+    ≡ executes (sourceOf (p-args .args .single) (p-args .args .given) (p-args .args .trace .now)) (p-end-of .end-of .result) (p-end-of .end-of .result) 0 (state (p-args .args .r0) (p-args .args .l1d .now) (p-args .args .l2 .now) (p-args .args .ext .now)) 0 (p-args .args .answers .now) (p-no-answer .no-answer .result)
 onward c x ex o eo =
     let p-next = c .before .before in
     let p-loop-test = p-next .before in
@@ -125,34 +135,64 @@ missing c =
     }
 
 -- where the two arms meet: what each leaves is L2 made ready, in the mode and with the lengths that stood before
-homed-arm : (c : tie.Joined4 Inv-loop μ-loop) → First (c .if4 .came) → state (c .if4 .r) (c .before .before .before .before .before .before .before .before .before .before .before .before .before .before .before .before .before .before .before .before .before .before .before .before .before .front .last .1 .1 .1 .1 .1 .0) (c .if4 .l2) (c .if4 .ext) ≡ ready (c .before .before .before .before .before .before .before .before .before .before .before .before .before .before .before .before .before .before .before .before .before .before .before .before .before .before .before .before .before .before .before .before .before .before .before .is-write .result) (c .before .before .before .before .before .before .before .before .before .before .before .before .before .before .before .before .before .before .before .before .before .before .before .before .before .before .before .before .before .before .before .before .before .before .before .before .before .before .before .before .before .next .result .command .second) (roomState (asked (c .before .before .before .before .before .before .before .before .before .before .before .before .before .before .before .before .before .before .before .before .before)) (missing (c .before)))
+homed-arm : (c : tie.Joined4 Inv-loop μ-loop) → First (c .if4 .came) →
+    let p-data-at = c .before in
+    let p-slice-known9 = p-data-at .before .before .before .before .before .before .before .before .before .before .before .before .before .before .before .before .before .before .before .before in
+    let p-front = p-slice-known9 .before .before .before .before in
+    let p-is-write = p-front .before .before .before .before .before .before .before .before .before .before in
+    let p-next = p-is-write .before .before .before .before .before .before in
+    state (c .if4 .r) (p-front .front .last .1 .1 .1 .1 .1 .0) (c .if4 .l2) (c .if4 .ext) ≡ ready (p-is-write .is-write .result) (p-next .next .result .command .second) (roomState (asked p-slice-known9) (missing p-data-at))
 homed-arm c w =
-    let p-front = c .before .before .before .before .before .before .before .before .before .before .before .before .before .before .before .before .before .before .before .before .before .before .before .before .before in
+    let p-data-at = c .before in
+    let p-slice-known9 = p-data-at .before .before .before .before .before .before .before .before .before .before .before .before .before .before .before .before .before .before .before .before in
+    let p-front = p-slice-known9 .before .before .before .before in
     let h1 = takenAs (w .5 .result) (w .5 .last .1 .1 .1 .1 .1 .0) in
     let h2 = takenAs (w .14 .result) (w .14 .last .1 .1 .1 .1 .1 .0) in
     let b = broughtAs (w .21 .result) (w .21 .last .1 .1 .1 .1 .1 .1 .0) (w .21 .last .1 .1 .1 .1 .1 .1 .1 .0) in
     (λ j. state ((w .28) j) (p-front .front .last .1 .1 .1 .1 .1 .0) ((w .26) j) ((w .27) j))
-    ∙ homed-of (asked (c .before .before .before .before .before .before .before .before .before .before .before .before .before .before .before .before .before .before .before .before .before)) (missing (c .before)) (w .0 .taken) (w .1 .result) (w .10 .result) (w .9 .result) h1 h2 (w .18 .result) b (w .1 .ensures .0) (w .5 .ensures)
+    ∙ homed-of (asked p-slice-known9) (missing p-data-at) (w .0 .taken) (w .1 .result) (w .10 .result) (w .9 .result) h1 h2 (w .18 .result) b (w .1 .ensures .0) (w .5 .ensures)
     (w .9 .ensures) (w .10 .ensures .0) (w .14 .ensures) (w .18 .ensures) (w .21 .ensures)
 
-other-arm : (c : tie.Joined4 Inv-loop μ-loop) → Second (c .if4 .came) → state (c .if4 .r) (c .before .before .before .before .before .before .before .before .before .before .before .before .before .before .before .before .before .before .before .before .before .before .before .before .before .front .last .1 .1 .1 .1 .1 .0) (c .if4 .l2) (c .if4 .ext) ≡ ready (c .before .before .before .before .before .before .before .before .before .before .before .before .before .before .before .before .before .before .before .before .before .before .before .before .before .before .before .before .before .before .before .before .before .before .before .is-write .result) (c .before .before .before .before .before .before .before .before .before .before .before .before .before .before .before .before .before .before .before .before .before .before .before .before .before .before .before .before .before .before .before .before .before .before .before .before .before .before .before .before .before .next .result .command .second) (roomState (asked (c .before .before .before .before .before .before .before .before .before .before .before .before .before .before .before .before .before .before .before .before .before)) (missing (c .before)))
+other-arm : (c : tie.Joined4 Inv-loop μ-loop) → Second (c .if4 .came) →
+    let p-data-at = c .before in
+    let p-slice-known9 = p-data-at .before .before .before .before .before .before .before .before .before .before .before .before .before .before .before .before .before .before .before .before in
+    let p-front = p-slice-known9 .before .before .before .before in
+    let p-is-write = p-front .before .before .before .before .before .before .before .before .before .before in
+    let p-next = p-is-write .before .before .before .before .before .before in
+    state (c .if4 .r) (p-front .front .last .1 .1 .1 .1 .1 .0) (c .if4 .l2) (c .if4 .ext) ≡ ready (p-is-write .is-write .result) (p-next .next .result .command .second) (roomState (asked p-slice-known9) (missing p-data-at))
 other-arm c w =
-    let p-front = c .before .before .before .before .before .before .before .before .before .before .before .before .before .before .before .before .before .before .before .before .before .before .before .before .before in
-    (λ j. state (w .3 j) (p-front .front .last .1 .1 .1 .1 .1 .0) (w .1 j) (w .2 j)) ∙ unhomed-of (asked (c .before .before .before .before .before .before .before .before .before .before .before .before .before .before .before .before .before .before .before .before .before)) (missing (c .before)) (w .0 .left)
+    let p-data-at = c .before in
+    let p-slice-known9 = p-data-at .before .before .before .before .before .before .before .before .before .before .before .before .before .before .before .before .before .before .before .before in
+    let p-front = p-slice-known9 .before .before .before .before in
+    (λ j. state (w .3 j) (p-front .front .last .1 .1 .1 .1 .1 .0) (w .1 j) (w .2 j)) ∙ unhomed-of (asked p-slice-known9) (missing p-data-at) (w .0 .left)
 
-met : (c : tie.Joined4 Inv-loop μ-loop) → state (c .if4 .r) (c .before .before .before .before .before .before .before .before .before .before .before .before .before .before .before .before .before .before .before .before .before .before .before .before .before .front .last .1 .1 .1 .1 .1 .0) (c .if4 .l2) (c .if4 .ext) ≡ ready (c .before .before .before .before .before .before .before .before .before .before .before .before .before .before .before .before .before .before .before .before .before .before .before .before .before .before .before .before .before .before .before .before .before .before .before .is-write .result) (c .before .before .before .before .before .before .before .before .before .before .before .before .before .before .before .before .before .before .before .before .before .before .before .before .before .before .before .before .before .before .before .before .before .before .before .before .before .before .before .before .before .next .result .command .second) (roomState (asked (c .before .before .before .before .before .before .before .before .before .before .before .before .before .before .before .before .before .before .before .before .before)) (missing (c .before)))
+met : (c : tie.Joined4 Inv-loop μ-loop) →
+    let p-data-at = c .before in
+    let p-slice-known9 = p-data-at .before .before .before .before .before .before .before .before .before .before .before .before .before .before .before .before .before .before .before .before in
+    let p-front = p-slice-known9 .before .before .before .before in
+    let p-is-write = p-front .before .before .before .before .before .before .before .before .before .before in
+    let p-next = p-is-write .before .before .before .before .before .before in
+    state (c .if4 .r) (p-front .front .last .1 .1 .1 .1 .1 .0) (c .if4 .l2) (c .if4 .ext) ≡ ready (p-is-write .is-write .result) (p-next .next .result .command .second) (roomState (asked p-slice-known9) (missing p-data-at))
 met c = ⊎-elim (homed-arm c) (other-arm c) (c .if4 .came)
 
-met-mode : (c : tie.Joined4 Inv-loop μ-loop) → c .if4 .r .mode ≡ c .before .before .before .before .before .before .before .before .before .before .before .before .before .before .before .before .before .before .before .before .before .before .before .before .before .before .before .before .before .before .before .before .before .before .before .before .before .before .before .before .before .before .before .loop .r .mode
+met-mode : (c : tie.Joined4 Inv-loop μ-loop) →
+    let p-loop = c .before .before .before .before .before .before .before .before .before .before .before .before .before .before .before .before .before .before .before .before .before .before .before .before .before .before .before .before .before .before .before .before .before .before .before .before .before .before .before .before .before .before .before in
+    c .if4 .r .mode ≡ p-loop .loop .r .mode
 met-mode c = ⊎-elim (λ w. ap (λ (x : Record). x .mode) (w .28)) (λ w. ap (λ (x : Record). x .mode) (w .3)) (c .if4 .came)
 
-met-len : (c : tie.Joined4 Inv-loop μ-loop) → c .if4 .r .l2len ≡ c .before .before .before .before .before .before .before .before .before .before .before .before .before .before .before .before .before .before .before .before .before .before .before .before .before .before .before .before .before .before .before .before .before .before .before .before .before .before .before .before .before .before .before .loop .r .l2len
+met-len : (c : tie.Joined4 Inv-loop μ-loop) →
+    let p-loop = c .before .before .before .before .before .before .before .before .before .before .before .before .before .before .before .before .before .before .before .before .before .before .before .before .before .before .before .before .before .before .before .before .before .before .before .before .before .before .before .before .before .before .before in
+    c .if4 .r .l2len ≡ p-loop .loop .r .l2len
 met-len c = ⊎-elim (λ w. ap (λ (x : Record). x .l2len) (w .28)) (λ w. ap (λ (x : Record). x .l2len) (w .3)) (c .if4 .came)
 
-met-l2 : (c : tie.Joined4 Inv-loop μ-loop) → length (c .if4 .l2) ≡ length (c .before .before .before .before .before .before .before .before .before .before .before .before .send-home .last .1 .1 .1 .1 .1 .1 .1 .1 .0)
+met-l2 : (c : tie.Joined4 Inv-loop μ-loop) →
+    let p-send-home = c .before .before .before .before .before .before .before .before .before .before .before .before in
+    length (c .if4 .l2) ≡ length (p-send-home .send-home .last .1 .1 .1 .1 .1 .1 .1 .1 .0)
 met-l2 c = ⊎-elim (λ w. ap length (w .26) ∙ w .21 .kept .1 .1 .1 .1 .1 .1 .0 ∙ w .14 .kept .1 .1 .1 .1 .1 .0 ∙ w .5 .kept .1 .1 .1 .1 .1 .0) (λ w. ap length (w .1)) (c .if4 .came)
 
-met-ext : (c : tie.Joined4 Inv-loop μ-loop) → length (c .if4 .ext) ≡ length (c .before .before .before .before .before .before .before .before .before .before .before .before .send-home .last .1 .1 .1 .1 .1 .1 .1 .1 .1 .0)
+met-ext : (c : tie.Joined4 Inv-loop μ-loop) →
+    let p-send-home = c .before .before .before .before .before .before .before .before .before .before .before .before in
+    length (c .if4 .ext) ≡ length (p-send-home .send-home .last .1 .1 .1 .1 .1 .1 .1 .1 .1 .0)
 met-ext c = ⊎-elim (λ w. ap length (w .27) ∙ w .21 .kept .1 .1 .1 .1 .1 .1 .1 .0) (λ w. ap length (w .2)) (c .if4 .came)
 
 no-answer-requires : tie.Need-no-answer-requires Inv-loop μ-loop

@@ -1,13 +1,25 @@
 -- `memory::move64` meets its contract: the three ways through it are the three laws of specs/Copied.
+use Prim.Native.Nat.{_+_, _≤_, _-_}
 use Rattle.memory.specs.Copied.{move-short, move-full, move-in}
 use lib.ListN.{length, length-take, length-drop}
 use borrow.Author.Tests.{not-true, not-false, leb-true}
 use native.Mathlib.Omega.{arith}
 use mathlib.Core.Path.{sym, _∙_}
-use Prim.Native.Nat.{_+_, _-_}
 use borrow.Author.Needs.{needs}
 use Rattle.memory.proofs.move64.Statement.{statement}
 use Rattle.memory.proofs.move64.Tie as tie
+
+-- past both tests, both parts lie in their memories
+inside : (c : tie.Else2) → (c .before .before .before .before .before .before .args .b + 64 ≤ length (c .before .before .before .before .before .before .args .src .now)) × (c .before .before .before .before .before .before .args .a + 64 ≤ length (c .before .before .before .before .before .before .args .dst .now))
+inside c =
+    let p-fits3 = c .before in
+    let p-if1 = p-fits3 .before in
+    let p-fits2 = p-if1 .before in
+    let p-args = p-fits2 .before .before .before in
+    let a = p-args .args in (
+      leb-true (a .b + 64) (length (a .src .now)) (sym (p-fits2 .fits2 .ensures) ∙ not-false (p-fits2 .fits2 .result) (p-if1 .if1 .left)),
+      leb-true (a .a + 64) (length (a .dst .now)) (sym (p-fits3 .fits3 .ensures) ∙ not-false (p-fits3 .fits3 .result) (c .if2 .left)),
+    )
 
 fits-requires : tie.Need-fits-requires
 fits-requires c κs = search needs
@@ -30,97 +42,30 @@ returns-2 c =
     let a = p-args .args in move-full (a .dst .now) (a .src .now) (a .a) (a .b) 64 (sym (p-fits2 .fits2 .ensures) ∙ not-false _ (p-if1 .if1 .left)) (sym (p-fits3 .fits3 .ensures) ∙ not-true _ (c .if2 .taken))
 
 sub-load64 : tie.Need-sub-load64
-sub-load64 c =
-    let p-fits3 = c .before in
-    let p-if1 = p-fits3 .before in
-    let p-fits2 = p-if1 .before in
-    let p-args = p-fits2 .before .before .before in
-    let a = p-args .args in
-    let k = leb-true (a .b + 64) (length (a .src .now)) (sym (p-fits2 .fits2 .ensures) ∙ not-false _ (p-if1 .if1 .left)) in
-    let h = leb-true (a .a + 64) (length (a .dst .now)) (sym (p-fits3 .fits3 .ensures) ∙ not-false _ (c .if2 .left)) in
-    omega arith
+sub-load64 c = let h = inside c in let h0 = h .0 in let h1 = h .1 in omega arith
 
 part-load64-start : tie.Need-part-load64-start
-part-load64-start c =
-    let p-fits3 = c .before in
-    let p-if1 = p-fits3 .before in
-    let p-fits2 = p-if1 .before in
-    let p-args = p-fits2 .before .before .before in
-    let a = p-args .args in
-    let k = leb-true (a .b + 64) (length (a .src .now)) (sym (p-fits2 .fits2 .ensures) ∙ not-false _ (p-if1 .if1 .left)) in
-    let h = leb-true (a .a + 64) (length (a .dst .now)) (sym (p-fits3 .fits3 .ensures) ∙ not-false _ (c .if2 .left)) in
-    omega arith
+part-load64-start c = let h = inside c in let h0 = h .0 in let h1 = h .1 in omega arith
 
 part-load64-end : tie.Need-part-load64-end
-part-load64-end c =
-    let p-fits3 = c .before in
-    let p-if1 = p-fits3 .before in
-    let p-fits2 = p-if1 .before in
-    let p-args = p-fits2 .before .before .before in
-    let a = p-args .args in
-    let k = leb-true (a .b + 64) (length (a .src .now)) (sym (p-fits2 .fits2 .ensures) ∙ not-false _ (p-if1 .if1 .left)) in
-    let h = leb-true (a .a + 64) (length (a .dst .now)) (sym (p-fits3 .fits3 .ensures) ∙ not-false _ (c .if2 .left)) in
-    omega arith
+part-load64-end c = let h = inside c in let h0 = h .0 in let h1 = h .1 in omega arith
 
 load64-requires : tie.Need-load64-requires
-load64-requires c κs =
-    let p-if2 = c .before in
-    let p-fits3 = p-if2 .before in
-    let p-if1 = p-fits3 .before in
-    let p-fits2 = p-if1 .before in
-    let p-args = p-fits2 .before .before .before in
-    let a = p-args .args in
-    let k = leb-true (a .b + 64) (length (a .src .now)) (sym (p-fits2 .fits2 .ensures) ∙ not-false _ (p-if1 .if1 .left)) in
-    let h = leb-true (a .a + 64) (length (a .dst .now)) (sym (p-fits3 .fits3 .ensures) ∙ not-false _ (p-if2 .if2 .left)) in
-    simp (length-take, length-drop) (omega arith)
+load64-requires c κs = let h = inside (c .before) in let h0 = h .0 in let h1 = h .1 in simp (length-take, length-drop) (omega arith)
 
 sub-store64 : tie.Need-sub-store64
-sub-store64 c =
-    let p-if2 = c .before .before in
-    let p-fits3 = p-if2 .before in
-    let p-if1 = p-fits3 .before in
-    let p-fits2 = p-if1 .before in
-    let p-args = p-fits2 .before .before .before in
-    let a = p-args .args in
-    let k = leb-true (a .b + 64) (length (a .src .now)) (sym (p-fits2 .fits2 .ensures) ∙ not-false _ (p-if1 .if1 .left)) in
-    let h = leb-true (a .a + 64) (length (a .dst .now)) (sym (p-fits3 .fits3 .ensures) ∙ not-false _ (p-if2 .if2 .left)) in
-    omega arith
+sub-store64 c = let h = inside (c .before .before) in let h0 = h .0 in let h1 = h .1 in omega arith
 
 part-store64-start : tie.Need-part-store64-start
-part-store64-start c =
-    let p-if2 = c .before .before in
-    let p-fits3 = p-if2 .before in
-    let p-if1 = p-fits3 .before in
-    let p-fits2 = p-if1 .before in
-    let p-args = p-fits2 .before .before .before in
-    let a = p-args .args in
-    let k = leb-true (a .b + 64) (length (a .src .now)) (sym (p-fits2 .fits2 .ensures) ∙ not-false _ (p-if1 .if1 .left)) in
-    let h = leb-true (a .a + 64) (length (a .dst .now)) (sym (p-fits3 .fits3 .ensures) ∙ not-false _ (p-if2 .if2 .left)) in
-    omega arith
+part-store64-start c = let h = inside (c .before .before) in let h0 = h .0 in let h1 = h .1 in omega arith
 
 part-store64-end : tie.Need-part-store64-end
-part-store64-end c =
-    let p-if2 = c .before .before in
-    let p-fits3 = p-if2 .before in
-    let p-if1 = p-fits3 .before in
-    let p-fits2 = p-if1 .before in
-    let p-args = p-fits2 .before .before .before in
-    let a = p-args .args in
-    let k = leb-true (a .b + 64) (length (a .src .now)) (sym (p-fits2 .fits2 .ensures) ∙ not-false _ (p-if1 .if1 .left)) in
-    let h = leb-true (a .a + 64) (length (a .dst .now)) (sym (p-fits3 .fits3 .ensures) ∙ not-false _ (p-if2 .if2 .left)) in
-    omega arith
+part-store64-end c = let h = inside (c .before .before) in let h0 = h .0 in let h1 = h .1 in omega arith
 
 store64-requires : tie.Need-store64-requires
 store64-requires c κs =
-    let p-if2 = c .before .before .before in
-    let p-fits3 = p-if2 .before in
-    let p-if1 = p-fits3 .before in
-    let p-fits2 = p-if1 .before in
-    let p-args = p-fits2 .before .before .before in
-    let a = p-args .args in
-    let k = leb-true (a .b + 64) (length (a .src .now)) (sym (p-fits2 .fits2 .ensures) ∙ not-false _ (p-if1 .if1 .left)) in
-    let h = leb-true (a .a + 64) (length (a .dst .now)) (sym (p-fits3 .fits3 .ensures) ∙ not-false _ (p-if2 .if2 .left)) in
-    simp (length-take, length-drop) (omega arith)
+    let p-before = c .before .before in
+    let h = inside (p-before .before) in let h0 = h .0 in let h1 = h .1 in simp (length-take, length-drop) (omega arith)
 
 same-length : tie.Need-same-length
 same-length c = search needs

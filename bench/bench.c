@@ -1,0 +1,721 @@
+/* Sets the proved library (include/c64x.h) beside the plain C model of model.c, in one process: first that both do the same, then what each costs. Short
+   runs of the two alternate. The times are medians; of the ratios library / C the first is that of the medians, the second that of the shortest times,
+   which other work on the machine disturbs least. It prints a table; the exit status is 1 only where results differ. */
+#define _POSIX_C_SOURCE 200809L
+#include <stdio.h>
+#include <stdlib.h>
+#include <string.h>
+#include <time.h>
+
+#include "c64x.h"
+#include "model.h"
+
+#define EXTERNAL 0x80000000u
+#define COMMANDS 32768 /* of the trace of a class */
+#define RUNS 25        /* of a class, on each side */
+#define CALLS 151      /* of a direct call, on each side */
+
+/* A record as both sides name it. */
+union both {
+    struct record model;
+    c64x_record library;
+};
+
+_Static_assert(sizeof(c64x_record) == sizeof(struct record), "both sides have one layout");
+
+/* What one side works on. */
+struct side {
+    union both r;
+    struct lent m;
+    uint8_t *answers;
+    size_t answers_len;
+};
+
+struct trace {
+    uint8_t *bytes;
+    size_t len;
+    size_t count;
+};
+
+static struct side lib, c;
+static int differences;
+
+static uint64_t seed = 88172645463325252u;
+
+static uint32_t below(uint32_t bound)
+{
+    seed ^= seed << 13;
+    seed ^= seed >> 7;
+    seed ^= seed << 17;
+    return (uint32_t)((seed >> 32) * bound >> 32);
+}
+
+static double now(void)
+{
+    struct timespec t;
+    clock_gettime(CLOCK_MONOTONIC, &t);
+    return (double)t.tv_sec * 1e9 + (double)t.tv_nsec;
+}
+
+static int by_size(const void *a, const void *b)
+{
+    double x = *(const double *)a, y = *(const double *)b;
+    return (x > y) - (x < y);
+}
+
+/* The times of one side: in order, the shortest and the middle one. */
+struct times {
+    double ns[CALLS];
+    int n;
+};
+
+static double least(struct times *t)
+{
+    qsort(t->ns, (size_t)t->n, sizeof t->ns[0], by_size);
+    return t->ns[0];
+}
+
+static double median(struct times *t)
+{
+    qsort(t->ns, (size_t)t->n, sizeof t->ns[0], by_size);
+    return t->ns[t->n / 2];
+}
+
+static void took(struct times *t, double since)
+{
+    t->ns[t->n++] = now() - since;
+}
+
+static uint8_t *room(size_t n)
+{
+    void *p = NULL;
+    if (posix_memalign(&p, 4096, n ? n : 1) != 0) {
+        fprintf(stderr, "bench: no memory\n");
+        exit(2);
+    }
+    memset(p, 0, n);
+    return p;
+}
+
+/* ---- traces */
+
+static void put_number(struct trace *t, uint64_t v)
+{
+    while (v >= 128) {
+        t->bytes[t->len++] = (uint8_t)(v | 128);
+        v >>= 7;
+    }
+    t->bytes[t->len++] = (uint8_t)v;
+}
+
+static void put(struct trace *t, uint8_t code, uint32_t first, uint32_t second, uint64_t value)
+{
+    static const uint8_t numbers[12] = { 2, 3, 0, 0, 2, 2, 2, 2, 2, 0, 1, 2 };
+    t->bytes[t->len++] = code;
+    t->count++;
+    if (numbers[code] > 0) put_number(t, first);
+    if (numbers[code] > 1) put_number(t, second);
+    if (numbers[code] > 2) put_number(t, value);
+}
+
+static void clear(struct trace *t)
+{
+    t->len = 0;
+    t->count = 0;
+}
+
+/* ---- both sides */
+
+#define LENT(m) (m).l1d, (m).l1d_len, (m).l2, (m).l2_len, (m).ext, (m).ext_len
+
+static c64x_called library_call(const union both *r, const struct lent *m, const struct command *q)
+{
+    switch (q->code) {
+    case 0: return c64x_read(r->library, q->first, q->second, LENT(*m));
+    case 1: return c64x_write(r->library, q->first, q->second, q->value, LENT(*m));
+    case 2: return c64x_l2_writeback_all(r->library, LENT(*m));
+    case 3: return c64x_l2_writeback_invalidate_all(r->library, LENT(*m));
+    case 4: return c64x_l2_writeback_block(r->library, q->first, q->second, LENT(*m));
+    case 5: return c64x_l2_writeback_invalidate_block(r->library, q->first, q->second, LENT(*m));
+    case 6: return c64x_l2_invalidate_block(r->library, q->first, q->second, LENT(*m));
+    case 7: return c64x_l1d_writeback_invalidate_block(r->library, q->first, q->second, LENT(*m));
+    case 8: return c64x_l1d_invalidate_block(r->library, q->first, q->second, LENT(*m));
+    case 9: return c64x_l1d_invalidate_all(r->library, LENT(*m));
+    case 10: return c64x_change_mode(r->library, q->first, LENT(*m));
+    default: return c64x_change_mar(r->library, q->first, q->second, LENT(*m));
+    }
+}
+
+/* The C model's call with the record by value in both directions, as the library's interface has it: what the copies alone cost. */
+struct called {
+    struct answer answer;
+    struct record record;
+};
+
+static struct called __attribute__((noinline)) by_value(struct record r, const struct lent *m, const struct command *q)
+{
+    struct called x;
+    x.answer = model_call(&r, m, q);
+    x.record = r;
+    return x;
+}
+
+static int same_line(const struct line *x, const struct line *y)
+{
+    return x->valid == y->valid && x->dirty == y->dirty && x->address == y->address;
+}
+
+static int same_record(const struct record *x, const struct record *y)
+{
+    if (x->l2len != y->l2len || x->extlen != y->extlen || x->mode != y->mode || x->mar128 != y->mar128 || x->mar129 != y->mar129) return 0;
+    for (int s = 0; s < 128; s++) {
+        for (int w = 0; w < 2; w++)
+            if (!same_line(&x->l1d[s].lines[w], &y->l1d[s].lines[w])) return 0;
+        if (memcmp(x->l1d[s].order, y->l1d[s].order, 2) != 0) return 0;
+    }
+    for (int t = 0; t < 512; t++) {
+        for (int w = 0; w < 4; w++)
+            if (!same_line(&x->l2[t].lines[w], &y->l2[t].lines[w])) return 0;
+        if (memcmp(x->l2[t].order, y->l2[t].order, 4) != 0) return 0;
+    }
+    return 1;
+}
+
+static void differ(const char *where, const char *what)
+{
+    printf("DIFFERENT: %s: %s\n", where, what);
+    differences++;
+}
+
+static void compare(const char *where)
+{
+    if (!same_record(&lib.r.model, &c.r.model)) differ(where, "record");
+    if (memcmp(lib.m.l1d, c.m.l1d, lib.m.l1d_len) != 0) differ(where, "L1D bytes");
+    if (memcmp(lib.m.l2, c.m.l2, lib.m.l2_len) != 0) differ(where, "L2 bytes");
+    if (memcmp(lib.m.ext, c.m.ext, lib.m.ext_len) != 0) differ(where, "external bytes");
+    if (lib.answers_len && memcmp(lib.answers, c.answers, lib.answers_len) != 0) differ(where, "answers");
+}
+
+static void lend(struct side *s, size_t l, size_t e)
+{
+    free(s->m.l1d);
+    free(s->m.l2);
+    free(s->m.ext);
+    s->m = (struct lent){ room(16384), 16384, room(l), l, room(e), e };
+}
+
+static void fresh(const char *where, size_t l, size_t e)
+{
+    lend(&lib, l, e);
+    lend(&c, l, e);
+    for (size_t i = 0; i < e && i < 1u << 20; i++) lib.m.ext[i] = c.m.ext[i] = (uint8_t)below(256);
+    c64x_called x = c64x_fresh(LENT(lib.m));
+    lib.r.library = x.record;
+    if (x.number != model_fresh(&c.r.model, &c.m)) differ(where, "number of a fresh start");
+}
+
+static void give_answers(size_t n)
+{
+    if (n <= lib.answers_len) {
+        lib.answers_len = c.answers_len = n;
+        return;
+    }
+    free(lib.answers);
+    free(c.answers);
+    lib.answers = room(n);
+    c.answers = room(n);
+    lib.answers_len = c.answers_len = n;
+}
+
+static struct run_result run_c(const struct trace *t, struct times *c_ns)
+{
+    double at = now();
+    struct run_result y = model_run(&c.r.model, &c.m, t->bytes, t->len, c.answers, c.answers_len);
+    took(c_ns, at);
+    return y;
+}
+
+/* Each side runs the trace, and its time is kept. */
+static void run(const char *where, const struct trace *t, struct times *library_ns, struct times *c_ns, int c_first)
+{
+    struct run_result y;
+    if (c_first) y = run_c(t, c_ns);
+    double at = now();
+    c64x_ran x = c64x_run(lib.r.library, t->bytes, t->len, LENT(lib.m), lib.answers, lib.answers_len);
+    took(library_ns, at);
+    lib.r.library = x.record;
+    if (!c_first) y = run_c(t, c_ns);
+    if (x.consumed != y.consumed || x.count != y.count || x.stop != y.stop) differ(where, "consumed, count or stop of a run");
+}
+
+static void play(const char *where, const struct trace *t)
+{
+    struct times a = { .n = 0 }, b = { .n = 0 };
+    give_answers(10 * t->count);
+    run(where, t, &a, &b, 0);
+    compare(where);
+}
+
+/* ---- do both do the same? */
+
+static uint32_t some_address(void)
+{
+    uint32_t hot = below(4) ? below(40) * 4096 + below(256) : below(300000);
+    switch (below(8)) {
+    case 0: return hot + 0x81000000u;
+    case 1: case 2: return hot;
+    case 3: return below(0xFFFFFFFFu);
+    default: return EXTERNAL + hot;
+    }
+}
+
+static void some_command(struct trace *t)
+{
+    static const uint32_t modes[8] = { 0, 1, 2, 3, 7, 1, 2, 4 };
+    uint32_t size = 1u << below(4), a = some_address(), kind = below(64);
+    if (below(200) == 0) size = below(10);
+    if (below(50)) a -= a % (size ? size : 1);
+    if (kind < 32) put(t, 0, size, a, 0);
+    else if (kind < 56) put(t, 1, size, a, below(50) ? (size == 8 ? (uint64_t)below(0xFFFFFFFFu) << 32 : 0) | below(1u << (size < 4 ? 8 * size : 31)) : UINT64_MAX >> below(64));
+    else if (kind < 61) put(t, (uint8_t)(4 + below(5)), below(20) ? a & ~3u : a, below(40) ? below(200) : below(70000), 0);
+    else if (kind < 62) put(t, (uint8_t)(below(8) ? 11 : 10), below(20) ? 128 + below(2) : below(200), below(20) ? 1 : below(3), 0);
+    else if (below(12) == 0) put(t, 10, modes[below(8)], 0, 0);
+    else if (below(6) == 0) put(t, (uint8_t)(below(3) == 0 ? 9 : 2 + below(2)), 0, 0, 0);
+    else put(t, 11, 128 + below(2), 1, 0);
+}
+
+/* One thing about a record is changed: it may still be well formed. */
+static void damage(struct record *r)
+{
+    static const uint32_t steps[4] = { 64, 128, 8192, 32768 };
+    struct l1d_set *s = &r->l1d[below(128)];
+    struct l2_set *u = &r->l2[below(2) ? below(64) : below(512)];
+    struct line *x = below(2) ? &s->lines[below(2)] : &u->lines[below(4)];
+    switch (below(10)) {
+    case 0: ((uint8_t *)r)[below(sizeof *r)] = (uint8_t)(below(2) ? below(4) : below(256)); break;
+    case 1: ((uint8_t *)r)[below(12)] = (uint8_t)(below(2) ? below(8) : below(256)); break;
+    case 2: r->mar128 ^= 1; break;
+    case 3: s->order[below(2)] = (uint8_t)below(3); break;
+    case 4: u->order[below(4)] = (uint8_t)below(5); break;
+    case 5: u->lines[below(4)] = u->lines[below(4)]; break;
+    case 6: s->lines[below(2)] = s->lines[below(2)]; break;
+    case 7: x->address += steps[below(4)]; break;
+    case 8: *(below(2) ? &x->valid : &x->dirty) ^= 1; break;
+    default: *x = (struct line){ 0, 0, 0 }; break;
+    }
+}
+
+/* The checks of records that are damaged in one place: a read of three bytes is refused with 1, 2 or 3. */
+static void same_checks(size_t *refused, size_t *passed)
+{
+    struct command q = { 0, 3, EXTERNAL, 0 };
+    for (int i = 0; i < 200; i++) {
+        union both bad = c.r;
+        damage(&bad.model);
+        c64x_called x = library_call(&bad, &lib.m, &q);
+        struct answer y = model_call(&bad.model, &c.m, &q);
+        if (x.number != y.number || x.server != 0 || x.value != 0) differ("damaged record", "number, server or value");
+        if (!same_record((const struct record *)&x.record, &bad.model)) differ("damaged record", "record");
+        ++*(y.number == 3 ? passed : refused);
+    }
+}
+
+static void same_calls(struct trace *t)
+{
+    size_t refused = 0, passed = 0;
+    static const size_t ext[6] = { 128, 4096, 65536, 262144, 16777216 + 65536, 131072 };
+    for (int round = 0; round < 160; round++) {
+        fresh("random", 32768 * (1 + below(8)), ext[below(round % 16 ? 4 : 6)]);
+        for (int part = 0; part < 4; part++) {
+            clear(t);
+            put(t, 11, 128 + below(2), 1, 0);
+            put(t, 11, 128, 1, 0);
+            if (part % 2 == 0) put(t, 10, below(4), 0, 0);
+            for (int i = 0; i < 400; i++) some_command(t);
+            give_answers(10 * t->count);
+            if (below(4) == 0) t->bytes[below((uint32_t)t->len)] = (uint8_t)below(256);
+            if (below(6) == 0) t->len -= below(12);
+            if (below(6) == 0) give_answers(below((uint32_t)lib.answers_len));
+            struct times a = { .n = 0 }, b = { .n = 0 };
+            run("random trace", t, &a, &b, 0);
+            compare("random trace");
+        }
+        /* direct calls */
+        lib.answers_len = c.answers_len = 0;
+        for (int i = 0; i < 60; i++) {
+            struct trace one = { t->bytes, 0, 0 };
+            some_command(&one);
+            struct command q = { one.bytes[0], 0, 0, 0 };
+            q.first = below(20) ? 1u << below(4) : below(200);
+            q.second = some_address();
+            if (q.code >= 4 && q.code <= 8) q.first = some_address() & ~3u, q.second = below(300);
+            if (q.code == 10) q.first = below(9);
+            if (q.code == 11) q.first = 127 + below(4), q.second = below(3);
+            if (q.code == 1) q.value = below(256);
+            c64x_called x = library_call(&lib.r, &lib.m, &q);
+            struct answer y = model_call(&c.r.model, &c.m, &q);
+            if (x.number != y.number || x.server != y.server || x.value != y.value) differ("direct call", "number, server or value");
+            lib.r.library = x.record;
+            uint32_t seen_at = some_address() & ~(below(8) ? 63u : 0);
+            uint8_t number, seen[65] = { 0 };
+            const uint8_t *part = model_view(&c.r.model, &c.m, seen_at, &number);
+            if (c64x_view_number(lib.r.library, seen_at, lib.m.l2, lib.m.l2_len, lib.m.ext, lib.m.ext_len) != number) differ("view", "number");
+            if (c64x_view(lib.r.library, seen_at, lib.m.l2, lib.m.l2_len, lib.m.ext, lib.m.ext_len, seen, sizeof seen) != number) differ("view", "number with the bytes");
+            if (part && memcmp(part, seen, 64) != 0) differ("view", "bytes");
+            if (differences) return;
+        }
+        compare("direct calls");
+        same_checks(&refused, &passed);
+        if (differences) return;
+    }
+    printf("random traces and calls, and %zu damaged records (%zu still well formed): the same on both sides\n", refused + passed, passed);
+}
+
+/* ---- the classes of a trace run */
+
+static void head(const char *title)
+{
+    printf("\n%-66s %11s %11s %7s %7s\n", title, "library ns", "C ns", "ratio", "least");
+}
+
+static void row(const char *name, double library_ns, double c_ns, double ratio_of_least)
+{
+    printf("%-66s %11.1f %11.1f %7.2f %7.2f\n", name, library_ns, c_ns, library_ns / c_ns, ratio_of_least);
+    fflush(stdout);
+}
+
+static void row_of(const char *name, struct times *library_ns, struct times *c_ns, size_t by)
+{
+    row(name, median(library_ns) / (double)by, median(c_ns) / (double)by, least(library_ns) / least(c_ns));
+}
+
+/* After set-up, the trace is run once so that it meets its own leavings; then it is measured, and the servers of its answers are told. */
+static void class(const char *name, const struct trace *t)
+{
+    struct times library_ns = { .n = 0 }, c_ns = { .n = 0 };
+    play(name, t);
+    for (int i = 0; i < RUNS; i++) run(name, t, &library_ns, &c_ns, i % 2);
+    compare(name);
+    size_t by[5] = { 0 };
+    for (size_t i = 0; i < t->count; i++) by[lib.answers[10 * i + 1] % 5]++;
+    char text[100];
+    int n = snprintf(text, sizeof text, "%s [", name);
+    for (int k = 0; k < 5; k++)
+        if (by[k]) n += snprintf(text + n, sizeof text - (size_t)n, "%s%d: %d%%", text[n - 1] == '[' ? "" : ", ", k, (int)(100 * by[k] / t->count));
+    snprintf(text + n, sizeof text - (size_t)n, "]");
+    row_of(text, &library_ns, &c_ns, t->count);
+}
+
+/* L = 65,536 and E = 1 MiB, with MAR 128 set and a mode. */
+static void start(struct trace *t, uint32_t mar, uint32_t mode)
+{
+    fresh("class", 65536, 1 << 20);
+    clear(t);
+    put(t, 11, 128, mar, 0);
+    put(t, 10, mode, 0, 0);
+}
+
+/* Every n-th byte of a memory from an address on is read (or written), in order, over and over. */
+static void round_and_round(struct trace *t, uint8_t code, uint32_t from, uint32_t length, uint32_t step)
+{
+    clear(t);
+    uint32_t a = 0;
+    while (t->count < COMMANDS) {
+        put(t, code, 4, from + a, t->count);
+        a = (a + step) % length;
+    }
+}
+
+/* Each line is read, then written: it leaves dirty. */
+static void read_then_write(struct trace *t, uint32_t from, uint32_t length, uint32_t step)
+{
+    clear(t);
+    uint32_t a = 0;
+    while (t->count < COMMANDS) {
+        put(t, 0, 4, from + a, 0);
+        put(t, 1, 4, from + a + 8, t->count);
+        a = (a + step) % length;
+    }
+}
+
+/* Lines of the first 8 Kbytes of SRAM and of external memory, at random: both ways of each L1D set. */
+static void at_random(struct trace *t, uint8_t code, uint32_t size)
+{
+    clear(t);
+    while (t->count < COMMANDS) put(t, code, size, (below(2) ? EXTERNAL : 0) + below(8192 / size) * size, size == 1 ? 7 : t->count);
+}
+
+static void mixed(struct trace *t)
+{
+    clear(t);
+    while (t->count < COMMANDS) {
+        uint32_t size = 1u << below(4), kind = below(100);
+        uint32_t a = below(10) < 8 ? below(12000) : below(200000);
+        if (kind < 30) a %= 32768;
+        else a += EXTERNAL;
+        a -= a % size;
+        if (below(400) == 0) put(t, (uint8_t)(4 + below(5)), a & ~3u, below(64), 0);
+        else if (below(10) < 7) put(t, 0, size, a, 0);
+        else put(t, 1, size, a, below(256));
+    }
+}
+
+static void classes(struct trace *t)
+{
+    head("trace run, by the command [servers]");
+    clear(t);
+    start(t, 1, 1);
+    for (uint32_t a = 0; a < 8192; a += 64) put(t, 0, 4, a, 0), put(t, 0, 4, EXTERNAL + a, 0);
+    play("set-up", t);
+    at_random(t, 0, 4);
+    class("L1D read hits, 4 bytes", t);
+    at_random(t, 0, 1);
+    class("L1D read hits, 1 byte", t);
+    at_random(t, 0, 8);
+    class("L1D read hits, 8 bytes", t);
+    at_random(t, 1, 4);
+    class("L1D write hits, 4 bytes", t);
+    at_random(t, 1, 8);
+    class("L1D write hits, 8 bytes", t);
+
+    start(t, 1, 1);
+    play("set-up", t);
+    round_and_round(t, 0, EXTERNAL, 32768, 64);
+    class("L1D misses that hit L2", t);
+    read_then_write(t, EXTERNAL, 32768, 64);
+    class("the same, each then written (dirty lines leave)", t);
+    round_and_round(t, 0, EXTERNAL, 1 << 20, 128);
+    class("L2 misses, clean", t);
+    read_then_write(t, EXTERNAL, 1 << 20, 128);
+    class("L2 misses, each then written (dirty lines leave)", t);
+    round_and_round(t, 0, 0, 32768, 64);
+    class("SRAM misses", t);
+    read_then_write(t, 0, 32768, 64);
+    class("the same, each then written (dirty lines leave)", t);
+
+    start(t, 1, 0);
+    play("set-up", t);
+    round_and_round(t, 0, EXTERNAL, 65536, 64);
+    class("mode 0, external memory", t);
+    read_then_write(t, EXTERNAL, 65536, 64);
+    class("the same, each then written (dirty lines leave)", t);
+
+    start(t, 0, 1);
+    play("set-up", t);
+    round_and_round(t, 0, EXTERNAL, 65536, 36);
+    class("uncached external memory, reads", t);
+    round_and_round(t, 1, EXTERNAL, 65536, 36);
+    class("uncached external memory, writes", t);
+
+    start(t, 1, 1);
+    play("set-up", t);
+    round_and_round(t, 1, 0, 32768, 36);
+    class("writes missing, to SRAM", t);
+    round_and_round(t, 1, EXTERNAL, 32768, 36);
+    class("writes missing, L2 hits", t);
+    round_and_round(t, 1, EXTERNAL, 1 << 20, 128);
+    class("writes missing, L2 misses", t);
+
+    start(t, 1, 1);
+    play("set-up", t);
+    mixed(t);
+    class("a mix, with some block commands", t);
+
+    clear(t);
+    for (int i = 0; i < COMMANDS; i++) put(t, 0, 3, EXTERNAL, 0);
+    class("refused by size", t);
+    static const char *const blocks[5] = { "4 L2 block writeback, 16 words", "5 L2 block writeback-invalidate, 16 words", "6 L2 block invalidate, 16 words",
+                                           "7 L1D block writeback-invalidate, 16 words", "8 L1D block invalidate, 16 words" };
+    for (uint8_t code = 4; code <= 8; code++) {
+        clear(t);
+        for (uint32_t i = 0; i < 512; i++) put(t, code, EXTERNAL + 64 * (i % 512), 16, 0);
+        class(blocks[code - 4], t);
+    }
+    clear(t);
+    for (int i = 0; i < 512; i++) put(t, 11, 128, 1, 0);
+    class("11 MAR bit set", t);
+    clear(t);
+    put(t, 9, 0, 0, 0);
+    class("a run of one command, L1D invalidate all", t);
+}
+
+/* ---- direct calls */
+
+/* Every line of both caches in use and dirty, from the start of external memory on. */
+static void fill(struct trace *t, size_t l, size_t e, uint32_t mode)
+{
+    static const uint32_t lines[8] = { 0, 256, 512, 1024, 0, 0, 0, 2048 };
+    fresh("full record", l, e);
+    clear(t);
+    put(t, 11, 128, 1, 0);
+    put(t, 10, mode, 0, 0);
+    for (uint32_t i = 0; i < lines[mode]; i++) put(t, 1, 4, EXTERNAL + 128 * i, i);
+    for (uint32_t i = 0; i < 256; i++) put(t, 0, 4, EXTERNAL + 64 * i, 0), put(t, 1, 4, EXTERNAL + 64 * i, i);
+    play("full record", t);
+}
+
+/* A call from the state as it stands, again and again: the record is put back each time, outside the time taken. `copied`: a row more, against the C model
+   with the record by value. */
+static void direct(const char *name, uint8_t code, uint32_t first, uint32_t second, uint64_t value, int copied)
+{
+    static union both kept;
+    struct times library_ns = { .n = 0 }, c_ns = { .n = 0 }, by_value_ns = { .n = 0 };
+    struct command q = { code, first, second, value };
+    kept = c.r;
+    for (int i = 0; i < CALLS; i++) {
+        lib.r = kept;
+        double at = now();
+        c64x_called x = library_call(&lib.r, &lib.m, &q);
+        took(&library_ns, at);
+        lib.r.library = x.record;
+        c.r = kept;
+        at = now();
+        struct answer y = model_call(&c.r.model, &c.m, &q);
+        took(&c_ns, at);
+        if (x.number != y.number || x.server != y.server || x.value != y.value) differ(name, "number, server or value");
+        if (i == 0 || i == CALLS - 1) compare(name);
+        if (copied) {
+            c.r = kept;
+            at = now();
+            struct called z = by_value(c.r.model, &c.m, &q);
+            took(&by_value_ns, at);
+            c.r.model = z.record;
+        }
+    }
+    lib.r = kept;
+    c.r = kept;
+    row_of(name, &library_ns, &c_ns, 1);
+    if (copied) row_of("   .. against C with the record by value", &library_ns, &by_value_ns, 1);
+}
+
+static void each_command(uint32_t count)
+{
+    lib.answers_len = c.answers_len = 0;
+    direct("read, L1D hit", 0, 4, EXTERNAL + 64, 0, 1);
+    direct("read, miss", 0, 4, EXTERNAL + 0x50000, 0, 0);
+    direct("write, L1D hit", 1, 4, EXTERNAL + 64, 5, 0);
+    direct("write, miss", 1, 4, EXTERNAL + 0x50000, 5, 0);
+    direct("2 L2 writeback all", 2, 0, 0, 0, 1);
+    direct("3 L2 writeback-invalidate all", 3, 0, 0, 0, 0);
+    direct("4 L2 block writeback", 4, EXTERNAL, count, 0, 0);
+    direct("5 L2 block writeback-invalidate", 5, EXTERNAL, count, 0, 0);
+    direct("6 L2 block invalidate", 6, EXTERNAL, count, 0, 0);
+    direct("7 L1D block writeback-invalidate", 7, EXTERNAL, count, 0, 0);
+    direct("8 L1D block invalidate", 8, EXTERNAL, count, 0, 0);
+    direct("9 L1D invalidate all", 9, 0, 0, 0, 0);
+    direct("10 mode change to the same mode", 10, c.r.model.mode, 0, 0, 1);
+    direct("11 MAR bit set", 11, 129, 1, 0, 0);
+    direct("11 MAR bit cleared (looked for in all lines)", 11, 129, 0, 0, 0);
+}
+
+/* The technician's number for an address that is none: with all checks, and with a lent length that stops them at 1. */
+static void checks(const char *name)
+{
+    struct times library_ns = { .n = 0 }, c_ns = { .n = 0 }, library_1 = { .n = 0 }, c_1 = { .n = 0 };
+    uint8_t n;
+    for (int i = 0; i < CALLS; i++) {
+        struct lent less = c.m;
+        less.ext_len -= 1;
+        double at = now();
+        uint8_t x = c64x_view_number(lib.r.library, 4, lib.m.l2, lib.m.l2_len, lib.m.ext, lib.m.ext_len);
+        took(&library_ns, at);
+        at = now();
+        model_view(&c.r.model, &c.m, 4, &n);
+        took(&c_ns, at);
+        if (x != 4 || n != 4) differ(name, "number");
+        at = now();
+        x = c64x_view_number(lib.r.library, 4, lib.m.l2, lib.m.l2_len, lib.m.ext, lib.m.ext_len - 1);
+        took(&library_1, at);
+        at = now();
+        model_view(&c.r.model, &less, 4, &n);
+        took(&c_1, at);
+        if (x != 1 || n != 1) differ(name, "number");
+    }
+    char text[100];
+    snprintf(text, sizeof text, "%s: view refused with 4", name);
+    row_of(text, &library_ns, &c_ns, 1);
+    snprintf(text, sizeof text, "%s: .. less one refused with 1 (the check alone)", name);
+    row(text, median(&library_ns) - median(&library_1), median(&c_ns) - median(&c_1), (least(&library_ns) - least(&library_1)) / (least(&c_ns) - least(&c_1)));
+}
+
+static void directs(struct trace *t)
+{
+    head("direct call, few lines (L = 65,536, mode 1)");
+    start(t, 1, 1);
+    for (uint32_t i = 0; i < 4; i++) put(t, 0, 4, EXTERNAL + 64 * i, 0);
+    play("few lines", t);
+    each_command(16);
+
+    head("direct call, all lines dirty (L = 262,144, mode 7)");
+    fill(t, 262144, 1 << 20, 7);
+    each_command(65535);
+
+    head("the whole-record check");
+    static const uint32_t modes[5] = { 0, 1, 2, 3, 7 };
+    fresh("fresh record", 262144, 1 << 20);
+    lib.answers_len = c.answers_len = 0;
+    direct("fresh record: read refused with 3", 0, 3, EXTERNAL, 0, 0);
+    checks("fresh record");
+    for (int i = 0; i < 5; i++) {
+        char text[100];
+        fill(t, 262144, 1 << 20, modes[i]);
+        lib.answers_len = c.answers_len = 0;
+        snprintf(text, sizeof text, "full, mode %u: read refused with 3", modes[i]);
+        direct(text, 0, 3, EXTERNAL, 0, 0);
+        snprintf(text, sizeof text, "full, mode %u", modes[i]);
+        checks(text);
+    }
+}
+
+/* ---- cost against L and E */
+
+static void fresh_start(const char *name)
+{
+    struct times library_ns = { .n = 0 }, c_ns = { .n = 0 };
+    for (int i = 0; i < CALLS / 3; i++) {
+        double at = now();
+        c64x_called x = c64x_fresh(LENT(lib.m));
+        took(&library_ns, at);
+        lib.r.library = x.record;
+        at = now();
+        model_fresh(&c.r.model, &c.m);
+        took(&c_ns, at);
+    }
+    compare(name);
+    row_of(name, &library_ns, &c_ns, 1);
+}
+
+static void growth(struct trace *t)
+{
+    static const size_t ls[4] = { 32768, 65536, 131072, 262144 };
+    static const size_t es[2] = { 1 << 20, 1 << 25 };
+    char text[100];
+    head("cost against L and E");
+    for (int i = 0; i < 6; i++) {
+        size_t l = i < 4 ? ls[i] : 65536, e = i < 4 ? 65536 : es[i - 4];
+        fill(t, l, e, 1);
+        lib.answers_len = c.answers_len = 0;
+        snprintf(text, sizeof text, "L = %zu, E = %zu: read, L1D hit", l, e);
+        direct(text, 0, 4, EXTERNAL + 64, 0, 0);
+        snprintf(text, sizeof text, "L = %zu, E = %zu: L2 writeback all", l, e);
+        direct(text, 2, 0, 0, 0, 0);
+        snprintf(text, sizeof text, "L = %zu, E = %zu: mode 1 to mode 1", l, e);
+        direct(text, 10, 1, 0, 0, 0);
+        snprintf(text, sizeof text, "L = %zu, E = %zu: mode 1 to mode 0", l, e);
+        direct(text, 10, 0, 0, 0, 0);
+        snprintf(text, sizeof text, "L = %zu, E = %zu: fresh start", l, e);
+        fresh_start(text);
+    }
+}
+
+int main(void)
+{
+    struct trace t = { room(COMMANDS * 24), 0, 0 };
+    same_calls(&t);
+    if (differences) return 1;
+    classes(&t);
+    directs(&t);
+    growth(&t);
+    if (differences) printf("\n%d results differ\n", differences);
+    return differences != 0;
+}

@@ -1,0 +1,79 @@
+/* A plain C model of paper 01, "The C64x data memory in two levels", to measure the proved library against. The record is changed in place. Its layout
+   is that of include/c64x.h, so that both sides can be held against each other field by field. Little-endian hosts only. */
+#ifndef MODEL_H
+#define MODEL_H
+
+#include <stddef.h>
+#include <stdint.h>
+
+struct line {
+    uint8_t valid;
+    uint8_t dirty;
+    uint32_t address;
+};
+
+struct l1d_set {
+    struct line lines[2];
+    uint8_t order[2];
+};
+
+struct l2_set {
+    struct line lines[4];
+    uint8_t order[4];
+};
+
+struct record {
+    uint32_t l2len;
+    uint32_t extlen;
+    uint8_t mode;
+    uint8_t mar128;
+    uint8_t mar129;
+    struct l1d_set l1d[128];
+    struct l2_set l2[512];
+};
+
+_Static_assert(sizeof(struct record) == 21004, "the record has C's layout of 21,004 bytes");
+
+/* The lent memories. */
+struct lent {
+    uint8_t *l1d;
+    size_t l1d_len;
+    uint8_t *l2;
+    size_t l2_len;
+    uint8_t *ext;
+    size_t ext_len;
+};
+
+/* A command by its code of the trace; numbers that a code does not take are 0. */
+struct command {
+    uint8_t code;
+    uint32_t first;
+    uint32_t second;
+    uint64_t value;
+};
+
+struct answer {
+    uint8_t number;
+    uint8_t server;
+    uint64_t value;
+};
+
+struct run_result {
+    size_t consumed;
+    size_t count;
+    uint8_t stop;
+};
+
+int model_well_formed(const struct record *r);
+
+uint8_t model_fresh(struct record *r, const struct lent *m);
+
+/* Any command as a direct call, with all its checks. */
+struct answer model_call(struct record *r, const struct lent *m, const struct command *c);
+
+struct run_result model_run(struct record *r, const struct lent *m, const uint8_t *trace, size_t trace_len, uint8_t *answers, size_t answers_len);
+
+/* The 64 bytes behind L1D, a part of the lent L2 or external memory; NULL on refusal. */
+const uint8_t *model_view(const struct record *r, const struct lent *m, uint32_t address, uint8_t *number);
+
+#endif

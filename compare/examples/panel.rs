@@ -1,0 +1,117 @@
+//! What examples/panel.c has to print for a trace, told by the reference model
+//! alone. `cargo run --example panel -- TRACE`.
+
+use std::process::ExitCode;
+
+use oracle::gen::{code, Setup};
+use oracle::record::Line;
+use oracle::trace::{decode, ANSWER_BYTES};
+use oracle::Command;
+
+const COMMANDS: [&str; 12] = [
+    "read",
+    "write",
+    "L2 writeback all",
+    "L2 writeback-invalidate all",
+    "L2 block writeback",
+    "L2 block writeback-invalidate",
+    "L2 block invalidate",
+    "L1D block writeback-invalidate",
+    "L1D block invalidate",
+    "L1D invalidate all",
+    "mode",
+    "MAR",
+];
+
+const REFUSALS: [&str; 13] = [
+    "done",
+    "refused: a lent length is illegal or unlike the record's",
+    "refused: the record is not well formed",
+    "refused: the size is not 1, 2, 4 or 8",
+    "refused: the address is not aligned",
+    "refused: neither SRAM nor external memory",
+    "refused: the value needs more bytes than the size",
+    "refused: the count is above 65535",
+    "refused: no such mode, or its cache is larger than L2",
+    "refused: no such MAR or bit",
+    "refused: a cache holds a line of that range",
+    "stopped: the trace is damaged",
+    "stopped: no answer bytes are left",
+];
+
+const SERVERS: [&str; 5] = ["", "L1D", "SRAM", "L2 cache", "external memory"];
+
+fn main() -> ExitCode {
+    let words: Vec<String> = std::env::args().skip(1).collect();
+    let [name] = &words[..] else {
+        eprintln!("usage: panel TRACE");
+        return ExitCode::from(2);
+    };
+    match std::fs::read(name) {
+        Ok(trace) => {
+            print!("{}", panel(&trace));
+            ExitCode::SUCCESS
+        }
+        Err(error) => {
+            eprintln!("panel: {name}: {error}");
+            ExitCode::from(2)
+        }
+    }
+}
+
+fn panel(trace: &[u8]) -> String {
+    let mut setup = Setup::fresh(65_536, 65_536);
+    let mut answers = vec![0; trace.len() * ANSWER_BYTES];
+    let run = setup.run(trace, &mut answers);
+    let mut text = String::new();
+    let mut place = 0;
+    for (number, answer) in answers.chunks(ANSWER_BYTES).take(run.answers).enumerate() {
+        let (command, length) = decode(&trace[place..]).expect("a whole command");
+        place += length;
+        let name = COMMANDS[code(&command) as usize];
+        let told = REFUSALS[answer[0] as usize];
+        text += &format!("{:3}  {name:30}  {told}", number + 1);
+        if answer[1] != 0 {
+            text += &format!(", by {}", SERVERS[answer[1] as usize]);
+        }
+        if matches!(command, Command::Read { .. }) && answer[0] == 0 {
+            let value = u64::from_le_bytes(answer[2..].try_into().expect("eight bytes"));
+            text += &format!(", value {value}");
+        }
+        text += "\n";
+    }
+    let stop = if run.stop == 0 { "end" } else { REFUSALS[run.stop as usize] };
+    text += &format!("{stop} after {} of {} bytes\n", run.consumed, trace.len());
+    let on = |bit: u32| if bit == 1 { "on" } else { "off" };
+    let record = &setup.record;
+    text += &format!(
+        "L2 mode {}, MAR 128 {}, MAR 129 {}\n",
+        record.mode,
+        on(record.mar128),
+        on(record.mar129)
+    );
+    let l1d: Vec<Line> = record.l1d.iter().flat_map(|set| set.lines).collect();
+    let l2: Vec<Line> = record.l2.iter().flat_map(|set| set.lines).collect();
+    for (cache, lines) in [("L1D", l1d), ("L2", l2)] {
+        let held: Vec<&Line> = lines.iter().filter(|line| line.valid).collect();
+        for line in &held {
+            let state = if line.dirty { "dirty" } else { "clean" };
+            text += &format!("     {cache} line {:08X} {state}\n", line.address);
+        }
+        let dirty = held.iter().filter(|line| line.dirty).count();
+        text += &format!("{cache}: {} lines held, {dirty} dirty\n", held.len());
+    }
+    match setup.look_number(0x8000_0000) {
+        0 => {
+            let seen = setup.look(0x8000_0000);
+            text += &format!(
+                "behind L1D at 80000000: {:02X} {:02X} {:02X} {:02X}\n",
+                seen[0], seen[1], seen[2], seen[3]
+            );
+        }
+        number => {
+            text += &format!("behind L1D at 80000000: {}\n", REFUSALS[number as usize]);
+        }
+    }
+    text
+}

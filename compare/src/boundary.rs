@@ -1,0 +1,336 @@
+//! The calls of include/c64x.h: the structs in C's layout, the declarations,
+//! and a safe function for each call.
+
+use std::mem::{offset_of, size_of};
+
+use oracle::record::{L1dSet, L2Set, Line, Record};
+use oracle::Command;
+
+#[repr(C)]
+#[derive(Clone, Copy, PartialEq, Eq, Debug)]
+pub struct CLine {
+    pub valid: u8,
+    pub dirty: u8,
+    pub address: u32,
+}
+
+#[repr(C)]
+#[derive(Clone, Copy, PartialEq, Eq, Debug)]
+pub struct CL1dSet {
+    pub lines: [CLine; 2],
+    pub order: [u8; 2],
+}
+
+#[repr(C)]
+#[derive(Clone, Copy, PartialEq, Eq, Debug)]
+pub struct CL2Set {
+    pub lines: [CLine; 4],
+    pub order: [u8; 4],
+}
+
+#[repr(C)]
+#[derive(Clone, Copy, PartialEq, Eq, Debug)]
+pub struct CRecord {
+    pub l2len: u32,
+    pub extlen: u32,
+    pub mode: u8,
+    pub mar128: u8,
+    pub mar129: u8,
+    pub l1d: [CL1dSet; 128],
+    pub l2: [CL2Set; 512],
+}
+
+#[repr(C)]
+#[derive(Clone, Copy)]
+pub struct CCalled {
+    pub value: u64,
+    pub number: u8,
+    pub server: u8,
+    pub record: CRecord,
+}
+
+#[repr(C)]
+#[derive(Clone, Copy)]
+pub struct CRun {
+    pub consumed: usize,
+    pub count: usize,
+    pub stop: u8,
+    pub record: CRecord,
+}
+
+const _: () = {
+    assert!(size_of::<CLine>() == 8 && offset_of!(CLine, address) == 4);
+    assert!(size_of::<CL1dSet>() == 20 && offset_of!(CL1dSet, order) == 16);
+    assert!(size_of::<CL2Set>() == 36 && offset_of!(CL2Set, order) == 32);
+    assert!(size_of::<CRecord>() == 21_004);
+    assert!(offset_of!(CRecord, mode) == 8 && offset_of!(CRecord, mar129) == 10);
+    assert!(offset_of!(CRecord, l1d) == 12 && offset_of!(CRecord, l2) == 2_572);
+    assert!(size_of::<CCalled>() == 21_016);
+    assert!(offset_of!(CCalled, number) == 8 && offset_of!(CCalled, server) == 9);
+    assert!(offset_of!(CCalled, record) == 12);
+    assert!(size_of::<CRun>() == 21_024);
+    assert!(offset_of!(CRun, count) == 8 && offset_of!(CRun, stop) == 16);
+    assert!(offset_of!(CRun, record) == 20);
+};
+
+/// Declares the calls that take a record, some numbers and three memories.
+macro_rules! calls {
+    ($($name:ident($($number:ident: $kind:ty),*);)*) => {
+        extern "C" {
+            $(fn $name(
+                record: CRecord,
+                $($number: $kind,)*
+                l1d: *mut u8,
+                l1d_len: usize,
+                l2: *mut u8,
+                l2_len: usize,
+                ext: *mut u8,
+                ext_len: usize,
+            ) -> CCalled;)*
+        }
+    };
+}
+
+calls! {
+    c64x_read(size: u32, address: u32);
+    c64x_write(size: u32, address: u32, value: u64);
+    c64x_l2_writeback_all();
+    c64x_l2_writeback_invalidate_all();
+    c64x_l2_writeback_block(base: u32, count: u32);
+    c64x_l2_writeback_invalidate_block(base: u32, count: u32);
+    c64x_l2_invalidate_block(base: u32, count: u32);
+    c64x_l1d_writeback_invalidate_block(base: u32, count: u32);
+    c64x_l1d_invalidate_block(base: u32, count: u32);
+    c64x_l1d_invalidate_all();
+    c64x_change_mode(mode: u32);
+    c64x_change_mar(mar: u32, bit: u32);
+}
+
+extern "C" {
+    fn c64x_fresh(
+        l1d: *mut u8,
+        l1d_len: usize,
+        l2: *mut u8,
+        l2_len: usize,
+        ext: *mut u8,
+        ext_len: usize,
+    ) -> CCalled;
+
+    fn c64x_run(
+        record: CRecord,
+        trace: *const u8,
+        trace_len: usize,
+        l1d: *mut u8,
+        l1d_len: usize,
+        l2: *mut u8,
+        l2_len: usize,
+        ext: *mut u8,
+        ext_len: usize,
+        answers: *mut u8,
+        answers_len: usize,
+    ) -> CRun;
+
+    fn c64x_view(
+        record: CRecord,
+        address: u32,
+        l2: *const u8,
+        l2_len: usize,
+        ext: *const u8,
+        ext_len: usize,
+        seen: *mut u8,
+        seen_len: usize,
+    ) -> u8;
+
+    fn c64x_view_number(
+        record: CRecord,
+        address: u32,
+        l2: *const u8,
+        l2_len: usize,
+        ext: *const u8,
+        ext_len: usize,
+    ) -> u8;
+}
+
+/// The lent memories.
+pub struct Lent<'a> {
+    pub l1d: &'a mut [u8],
+    pub l2: &'a mut [u8],
+    pub ext: &'a mut [u8],
+}
+
+/// The direct call of a command. Each lent memory is a slice of its own, so no
+/// two overlap, and the call keeps none of them.
+pub fn direct(record: &CRecord, command: &Command, lent: Lent) -> CCalled {
+    macro_rules! call {
+        ($name:ident($($number:expr),*)) => {
+            unsafe {
+                $name(
+                    *record,
+                    $($number,)*
+                    lent.l1d.as_mut_ptr(),
+                    lent.l1d.len(),
+                    lent.l2.as_mut_ptr(),
+                    lent.l2.len(),
+                    lent.ext.as_mut_ptr(),
+                    lent.ext.len(),
+                )
+            }
+        };
+    }
+    match *command {
+        Command::Read { size, address } => call!(c64x_read(size, address)),
+        Command::Write { size, address, value } => call!(c64x_write(size, address, value)),
+        Command::L2WritebackAll => call!(c64x_l2_writeback_all()),
+        Command::L2WritebackInvalidateAll => call!(c64x_l2_writeback_invalidate_all()),
+        Command::L2BlockWriteback { base, count } => call!(c64x_l2_writeback_block(base, count)),
+        Command::L2BlockWritebackInvalidate { base, count } => {
+            call!(c64x_l2_writeback_invalidate_block(base, count))
+        }
+        Command::L2BlockInvalidate { base, count } => call!(c64x_l2_invalidate_block(base, count)),
+        Command::L1dBlockWritebackInvalidate { base, count } => {
+            call!(c64x_l1d_writeback_invalidate_block(base, count))
+        }
+        Command::L1dBlockInvalidate { base, count } => {
+            call!(c64x_l1d_invalidate_block(base, count))
+        }
+        Command::L1dInvalidateAll => call!(c64x_l1d_invalidate_all()),
+        Command::Mode { mode } => call!(c64x_change_mode(mode)),
+        Command::Mar { number, bit } => call!(c64x_change_mar(number, bit)),
+    }
+}
+
+/// A fresh start.
+pub fn fresh(lent: Lent) -> CCalled {
+    unsafe {
+        c64x_fresh(
+            lent.l1d.as_mut_ptr(),
+            lent.l1d.len(),
+            lent.l2.as_mut_ptr(),
+            lent.l2.len(),
+            lent.ext.as_mut_ptr(),
+            lent.ext.len(),
+        )
+    }
+}
+
+/// A run over a trace.
+pub fn run(record: &CRecord, trace: &[u8], lent: Lent, answers: &mut [u8]) -> CRun {
+    unsafe {
+        c64x_run(
+            *record,
+            trace.as_ptr(),
+            trace.len(),
+            lent.l1d.as_mut_ptr(),
+            lent.l1d.len(),
+            lent.l2.as_mut_ptr(),
+            lent.l2.len(),
+            lent.ext.as_mut_ptr(),
+            lent.ext.len(),
+            answers.as_mut_ptr(),
+            answers.len(),
+        )
+    }
+}
+
+/// The technician's call.
+pub fn view(record: &CRecord, address: u32, l2: &[u8], ext: &[u8], seen: &mut [u8]) -> u8 {
+    unsafe {
+        c64x_view(
+            *record,
+            address,
+            l2.as_ptr(),
+            l2.len(),
+            ext.as_ptr(),
+            ext.len(),
+            seen.as_mut_ptr(),
+            seen.len(),
+        )
+    }
+}
+
+/// The number of the technician's call.
+pub fn view_number(record: &CRecord, address: u32, l2: &[u8], ext: &[u8]) -> u8 {
+    unsafe {
+        c64x_view_number(*record, address, l2.as_ptr(), l2.len(), ext.as_ptr(), ext.len())
+    }
+}
+
+// ------------------------------------------------------------- conversion
+
+fn line(line: &Line) -> CLine {
+    CLine { valid: line.valid.into(), dirty: line.dirty.into(), address: line.address }
+}
+
+fn l1d_set(set: &L1dSet) -> CL1dSet {
+    CL1dSet { lines: [line(&set.lines[0]), line(&set.lines[1])], order: set.order }
+}
+
+fn l2_set(set: &L2Set) -> CL2Set {
+    CL2Set {
+        lines: [
+            line(&set.lines[0]),
+            line(&set.lines[1]),
+            line(&set.lines[2]),
+            line(&set.lines[3]),
+        ],
+        order: set.order,
+    }
+}
+
+/// The record in C's layout. C has a byte for the mode and for each MAR bit:
+/// the reference model's record must hold no larger numbers there.
+pub fn record_of(record: &Record) -> Box<CRecord> {
+    let byte = |number: u32| u8::try_from(number).expect("C's record has a byte for it");
+    Box::new(CRecord {
+        l2len: record.l,
+        extlen: record.e,
+        mode: byte(record.mode),
+        mar128: byte(record.mar128),
+        mar129: byte(record.mar129),
+        l1d: std::array::from_fn(|set| l1d_set(&record.l1d[set])),
+        l2: std::array::from_fn(|set| l2_set(&record.l2[set])),
+    })
+}
+
+/// Whether the two records are the same, field by field.
+pub fn same_record(ours: &CRecord, theirs: &Record) -> bool {
+    ours.l2len == theirs.l
+        && ours.extlen == theirs.e
+        && u32::from(ours.mode) == theirs.mode
+        && u32::from(ours.mar128) == theirs.mar128
+        && u32::from(ours.mar129) == theirs.mar129
+        && ours.l1d.iter().zip(&theirs.l1d).all(|(ours, theirs)| *ours == l1d_set(theirs))
+        && ours.l2.iter().zip(&theirs.l2).all(|(ours, theirs)| *ours == l2_set(theirs))
+}
+
+/// Where two records of C's differ.
+pub fn record_difference(ours: &CRecord, theirs: &CRecord) -> String {
+    let mut found = Vec::new();
+    let mut numbers = |name: &str, ours: u32, theirs: u32| {
+        if ours != theirs {
+            found.push(format!("{name} is {ours}, expected {theirs}"));
+        }
+    };
+    numbers("l2len", ours.l2len, theirs.l2len);
+    numbers("extlen", ours.extlen, theirs.extlen);
+    numbers("mode", ours.mode.into(), theirs.mode.into());
+    numbers("mar128", ours.mar128.into(), theirs.mar128.into());
+    numbers("mar129", ours.mar129.into(), theirs.mar129.into());
+    for (set, (ours, theirs)) in ours.l1d.iter().zip(&theirs.l1d).enumerate() {
+        if ours != theirs {
+            found.push(format!("L1D set {set} is {ours:x?}, expected {theirs:x?}"));
+        }
+    }
+    for (set, (ours, theirs)) in ours.l2.iter().zip(&theirs.l2).enumerate() {
+        if ours != theirs {
+            found.push(format!("L2 set {set} is {ours:x?}, expected {theirs:x?}"));
+        }
+    }
+    let more = found.len().saturating_sub(3);
+    found.truncate(3);
+    let mut text = found.join("; ");
+    if more > 0 {
+        text.push_str(&format!("; and {more} more"));
+    }
+    text
+}

@@ -1,0 +1,421 @@
+//! The boundary and the reference model side by side: a list of calls is made
+//! on both, and after each call the answers, the records and the lent bytes
+//! are compared.
+
+use oracle::calls::{fresh_start, look, look_number};
+use oracle::flat::Flat;
+use oracle::gen::Setup;
+use oracle::geometry::{external_length_is_legal, l2_length_is_legal, EXTERNAL_BASE, L1D_BYTES};
+use oracle::trace::{decode, ANSWER_BYTES};
+use oracle::wellformed::is_well_formed;
+use oracle::{Answer, Command, RunResult};
+
+use crate::boundary::{self, record_difference, record_of, same_record, CRecord, Lent};
+
+/// A byte of C's record that stands for a bool, and a value put there.
+#[derive(Clone, Copy, PartialEq, Eq, Debug)]
+pub struct OddByte {
+    pub place: OddPlace,
+    pub value: u8,
+}
+
+#[derive(Clone, Copy, PartialEq, Eq, Debug)]
+pub enum OddPlace {
+    Mar128,
+    Mar129,
+    L1dValid { set: usize, way: usize },
+    L1dDirty { set: usize, way: usize },
+    L2Valid { set: usize, way: usize },
+    L2Dirty { set: usize, way: usize },
+}
+
+/// Where a list of calls begins: a record with its memories, and bytes of C's
+/// record that are no bool, if there are any.
+#[derive(Clone, Debug)]
+pub struct Start {
+    pub setup: Setup,
+    pub odd: Vec<OddByte>,
+    /// From fresh, with nothing dropped unwritten: flat memory has to agree.
+    pub flat: bool,
+}
+
+/// One call, or a run with the same commands as single calls after it.
+#[derive(Clone, PartialEq, Eq, Debug)]
+pub enum Op {
+    Fresh,
+    Direct(Command),
+    Run { trace: Vec<u8>, answer_bytes: usize },
+    RunAndSingleCalls { trace: Vec<u8>, answer_bytes: usize },
+    View { address: u32, buffer: usize },
+}
+
+/// What was met, to see that a comparison was worth running.
+#[derive(Clone, Default, Debug)]
+pub struct Met {
+    /// Calls through the boundary.
+    pub calls: u64,
+    pub numbers: [u64; 13],
+    pub servers: [u64; 5],
+    pub modes: [u64; 8],
+    /// Accesses to each MAR range with the bit 0 and with the bit 1.
+    pub ranges: [[u64; 2]; 2],
+    pub odd: u64,
+    pub views: u64,
+    pub runs: u64,
+    pub flat_reads: u64,
+    pub flat_memories: u64,
+}
+
+/// A difference, and the call after which it was seen.
+#[derive(Clone, Debug)]
+pub struct Difference {
+    pub op: usize,
+    pub what: String,
+}
+
+/// Memories up to this length are compared whole after every call. Of longer
+/// ones the lines that a call names are, and all of it now and then.
+const SMALL: usize = 1 << 20;
+
+/// Every so many calls a long memory is compared whole.
+const WHOLE_EVERY: usize = 256;
+
+/// Both sides.
+struct Pair<'a> {
+    record: Box<CRecord>,
+    l1d: Vec<u8>,
+    l2: Vec<u8>,
+    ext: Vec<u8>,
+    theirs: Setup,
+    odd: bool,
+    flat: Option<Flat>,
+    met: &'a mut Met,
+}
+
+/// Makes the calls on both sides; the first difference, if there is one.
+pub fn compare(start: &Start, ops: &[Op], met: &mut Met) -> Option<Difference> {
+    let mut record = record_of(&start.setup.record);
+    for odd in &start.odd {
+        *odd_byte(&mut record, odd.place) = odd.value;
+    }
+    let mut pair = Pair {
+        record,
+        l1d: start.setup.l1d.clone(),
+        l2: start.setup.l2.clone(),
+        ext: start.setup.ext.clone(),
+        theirs: start.setup.clone(),
+        odd: start.odd.iter().any(|odd| odd.value > 1),
+        flat: start.flat.then(|| Flat::fresh(start.setup.record.l, &start.setup.ext)),
+        met,
+    };
+    for (op, call) in ops.iter().enumerate() {
+        if let Err(what) = pair.step(call) {
+            return Some(Difference { op, what });
+        }
+        let whole = op % WHOLE_EVERY == WHOLE_EVERY - 1 || op + 1 == ops.len();
+        if let Err(what) = pair.memories(call, whole) {
+            return Some(Difference { op, what });
+        }
+    }
+    if let Err(what) = pair.end() {
+        return Some(Difference { op: ops.len().saturating_sub(1), what });
+    }
+    None
+}
+
+/// The byte at a place.
+pub fn odd_byte(record: &mut CRecord, place: OddPlace) -> &mut u8 {
+    match place {
+        OddPlace::Mar128 => &mut record.mar128,
+        OddPlace::Mar129 => &mut record.mar129,
+        OddPlace::L1dValid { set, way } => &mut record.l1d[set].lines[way].valid,
+        OddPlace::L1dDirty { set, way } => &mut record.l1d[set].lines[way].dirty,
+        OddPlace::L2Valid { set, way } => &mut record.l2[set].lines[way].valid,
+        OddPlace::L2Dirty { set, way } => &mut record.l2[set].lines[way].dirty,
+    }
+}
+
+fn expect<T: PartialEq + std::fmt::Debug>(name: &str, ours: T, theirs: T) -> Result<(), String> {
+    if ours == theirs {
+        Ok(())
+    } else {
+        Err(format!("{name} is {ours:?}, expected {theirs:?}"))
+    }
+}
+
+fn expect_bytes(name: &str, ours: &[u8], theirs: &[u8]) -> Result<(), String> {
+    if ours == theirs {
+        return Ok(());
+    }
+    let place = ours.iter().zip(theirs).position(|(ours, theirs)| ours != theirs);
+    match place {
+        Some(place) => Err(format!(
+            "{name} byte {place} ({place:x}h) is {:02x}, expected {:02x}; {} bytes differ",
+            ours[place],
+            theirs[place],
+            ours.iter().zip(theirs).filter(|(ours, theirs)| ours != theirs).count()
+        )),
+        None => Err(format!("{name} has {} bytes, expected {}", ours.len(), theirs.len())),
+    }
+}
+
+impl Pair<'_> {
+    fn lent(&mut self) -> (&CRecord, Lent<'_>) {
+        (&self.record, Lent { l1d: &mut self.l1d, l2: &mut self.l2, ext: &mut self.ext })
+    }
+
+    /// The number that a record with a byte that is no bool gets: 1 if a lent
+    /// length is illegal or unlike the record's, else 2. `with_l1d` is false
+    /// for the technician's call, which is not lent L1D.
+    fn odd_number(&self, with_l1d: bool) -> u8 {
+        let l1d_fits = !with_l1d || self.l1d.len() == L1D_BYTES;
+        let l2_fits = l2_length_is_legal(self.l2.len() as u64)
+            && self.l2.len() as u64 == u64::from(self.record.l2len);
+        let ext_fits = external_length_is_legal(self.ext.len() as u64)
+            && self.ext.len() as u64 == u64::from(self.record.extlen);
+        if l1d_fits && l2_fits && ext_fits {
+            2
+        } else {
+            1
+        }
+    }
+
+    fn step(&mut self, op: &Op) -> Result<(), String> {
+        match op {
+            Op::Fresh => self.fresh(),
+            Op::Direct(command) => self.direct(command),
+            Op::Run { trace, answer_bytes } => self.run(trace, *answer_bytes).map(|_| ()),
+            Op::RunAndSingleCalls { trace, answer_bytes } => {
+                self.run_and_single_calls(trace, *answer_bytes)
+            }
+            Op::View { address, buffer } => self.view(*address, *buffer),
+        }
+    }
+
+    fn fresh(&mut self) -> Result<(), String> {
+        let (record, number) =
+            fresh_start(&mut self.theirs.l1d, &mut self.theirs.l2, &mut self.theirs.ext);
+        let (_, lent) = self.lent();
+        let called = boundary::fresh(lent);
+        self.met.calls += 1;
+        self.met.numbers[number as usize] += 1;
+        let expected = Answer::refused(number);
+        expect("number", called.number, expected.number)?;
+        expect("server", called.server, expected.server)?;
+        expect("value", called.value, expected.value)?;
+        if !same_record(&called.record, &record) {
+            return Err(record_difference(&called.record, &record_of(&record)));
+        }
+        if number == 0 {
+            *self.record = called.record;
+            self.theirs.record = record;
+            self.odd = false;
+            if self.flat.is_some() {
+                self.flat = Some(Flat::fresh(self.theirs.record.l, &self.theirs.ext));
+            }
+        }
+        Ok(())
+    }
+
+    fn direct(&mut self, command: &Command) -> Result<(), String> {
+        let theirs = if self.odd {
+            Answer::refused(self.odd_number(true))
+        } else {
+            self.theirs.call(command)
+        };
+        let (record, lent) = self.lent();
+        let called = boundary::direct(record, command, lent);
+        self.count(command, &theirs);
+        let ours = Answer { number: called.number, server: called.server, value: called.value };
+        expect("answer", ours, theirs)?;
+        self.take_record(called.record)?;
+        self.flat(command, &ours)
+    }
+
+    fn count(&mut self, command: &Command, answer: &Answer) {
+        self.met.calls += 1;
+        self.met.numbers[answer.number as usize] += 1;
+        self.met.servers[answer.server as usize] += 1;
+        self.met.odd += u64::from(self.odd);
+        if answer.number != 0 {
+            return;
+        }
+        self.met.modes[self.theirs.record.mode as usize] += 1;
+        let address = match *command {
+            Command::Read { address, .. } | Command::Write { address, .. } => address,
+            _ => return,
+        };
+        if address >= EXTERNAL_BASE {
+            let range = (address >> 24) as usize - 128;
+            self.met.ranges[range][self.theirs.record.mar_bit(address) as usize] += 1;
+        }
+    }
+
+    /// The record that came back is the expected one, and takes the place of
+    /// the one that went in.
+    fn take_record(&mut self, ours: CRecord) -> Result<(), String> {
+        let same = if self.odd {
+            ours == *self.record
+        } else {
+            same_record(&ours, &self.theirs.record)
+        };
+        if !same {
+            let expected =
+                if self.odd { self.record.clone() } else { record_of(&self.theirs.record) };
+            return Err(format!("record: {}", record_difference(&ours, &expected)));
+        }
+        *self.record = ours;
+        Ok(())
+    }
+
+    /// What flat memory says of a call.
+    fn flat(&mut self, command: &Command, ours: &Answer) -> Result<(), String> {
+        let Some(flat) = &mut self.flat else { return Ok(()) };
+        if let Some((number, value)) = flat.apply(command) {
+            expect("number, by flat memory,", ours.number, number)?;
+            expect("value, by flat memory,", ours.value, value)?;
+            self.met.flat_reads += 1;
+        }
+        let global = matches!(command, Command::L2WritebackAll | Command::L2WritebackInvalidateAll);
+        if global && ours.number == 0 && self.record.mode != 0 {
+            expect_bytes("external memory, by flat memory,", &self.ext, &flat.ext)?;
+            self.met.flat_memories += 1;
+        }
+        Ok(())
+    }
+
+    /// A run; the answer bytes that came back.
+    fn run(&mut self, trace: &[u8], answer_bytes: usize) -> Result<Vec<u8>, String> {
+        let mut expected = vec![0xB7; answer_bytes];
+        let mut answers = expected.clone();
+        let theirs = if self.odd {
+            RunResult { consumed: 0, answers: 0, stop: self.odd_number(true) }
+        } else {
+            self.theirs.run(trace, &mut expected)
+        };
+        let (record, lent) = self.lent();
+        let run = boundary::run(record, trace, lent, &mut answers);
+        self.met.calls += 1;
+        self.met.runs += 1;
+        self.met.odd += u64::from(self.odd);
+        self.met.numbers[theirs.stop as usize] += 1;
+        let ours = RunResult { consumed: run.consumed, answers: run.count, stop: run.stop };
+        expect("run", ours, theirs)?;
+        expect_bytes("answers", &answers, &expected)?;
+        self.take_record(run.record)?;
+        if self.flat.is_some() {
+            let mut place = 0;
+            for answer in answers.chunks(ANSWER_BYTES).take(run.count) {
+                let (command, length) = decode(&trace[place..]).expect("a whole command");
+                place += length;
+                let value = u64::from_le_bytes(answer[2..].try_into().expect("eight bytes"));
+                let ours = Answer { number: answer[0], server: answer[1], value };
+                // The memories stand as they are after the whole run.
+                if let Some((number, value)) =
+                    self.flat.as_mut().and_then(|flat| flat.apply(&command))
+                {
+                    expect("number, by flat memory,", ours.number, number)?;
+                    expect("value, by flat memory,", ours.value, value)?;
+                    self.met.flat_reads += 1;
+                }
+            }
+        }
+        Ok(answers)
+    }
+
+    /// A run, and then its commands as single calls from the same beginning:
+    /// the answers, the record and every byte are the same.
+    fn run_and_single_calls(&mut self, trace: &[u8], answer_bytes: usize) -> Result<(), String> {
+        let before = (self.record.clone(), self.l1d.clone(), self.l2.clone(), self.ext.clone());
+        let answers = self.run(trace, answer_bytes)?;
+        let (mut record, mut l1d, mut l2, mut ext) = before;
+        let refused = self.odd || {
+            let fits = self.odd_number(true) == 2;
+            !fits || !is_well_formed(&self.theirs.record)
+        };
+        let mut place = 0;
+        let mut count = 0;
+        while !refused && place < trace.len() && (count + 1) * ANSWER_BYTES <= answer_bytes {
+            let Some((command, length)) = decode(&trace[place..]) else { break };
+            let lent = Lent { l1d: &mut l1d, l2: &mut l2, ext: &mut ext };
+            let called = boundary::direct(&record, &command, lent);
+            self.met.calls += 1;
+            self.met.numbers[called.number as usize] += 1;
+            self.met.servers[called.server as usize] += 1;
+            *record = called.record;
+            let answer = &answers[count * ANSWER_BYTES..(count + 1) * ANSWER_BYTES];
+            let value = u64::from_le_bytes(answer[2..].try_into().expect("eight bytes"));
+            let single = (called.number, called.server, called.value);
+            expect("single call's answer", single, (answer[0], answer[1], value))?;
+            place += length;
+            count += 1;
+        }
+        if *record != *self.record {
+            let difference = record_difference(&record, &self.record);
+            return Err(format!("record after single calls: {difference}"));
+        }
+        expect_bytes("L1D after single calls,", &l1d, &self.l1d)?;
+        expect_bytes("L2 after single calls,", &l2, &self.l2)?;
+        expect_bytes("external memory after single calls,", &ext, &self.ext)
+    }
+
+    fn view(&mut self, address: u32, buffer: usize) -> Result<(), String> {
+        let theirs = &self.theirs;
+        let (number, part) = if self.odd {
+            (self.odd_number(false), &[][..])
+        } else {
+            (
+                look_number(&theirs.record, &theirs.l2, &theirs.ext, address),
+                look(&theirs.record, &theirs.l2, &theirs.ext, address),
+            )
+        };
+        let expected_number = if buffer < 64 { 1 } else { number };
+        let mut expected = vec![0xC3; buffer];
+        let mut seen = expected.clone();
+        if expected_number == 0 {
+            expected[..64].copy_from_slice(part);
+        }
+        self.met.calls += 2;
+        self.met.views += 1;
+        self.met.numbers[number as usize] += 1;
+        let ours = boundary::view(&self.record, address, &self.l2, &self.ext, &mut seen);
+        expect("number of the view", ours, expected_number)?;
+        expect_bytes("viewed bytes", &seen, &expected)?;
+        let ours = boundary::view_number(&self.record, address, &self.l2, &self.ext);
+        expect("view's number", ours, number)
+    }
+
+    /// Every lent byte is the expected one.
+    fn memories(&mut self, op: &Op, whole: bool) -> Result<(), String> {
+        expect_bytes("L1D", &self.l1d, &self.theirs.l1d)?;
+        expect_bytes("L2", &self.l2, &self.theirs.l2)?;
+        if whole || self.ext.len() <= SMALL {
+            return expect_bytes("external memory", &self.ext, &self.theirs.ext);
+        }
+        let address = match *op {
+            Op::Direct(Command::Read { address, .. } | Command::Write { address, .. }) => address,
+            Op::Direct(
+                Command::L2BlockWriteback { base, .. }
+                | Command::L2BlockWritebackInvalidate { base, .. }
+                | Command::L1dBlockWritebackInvalidate { base, .. },
+            ) => base,
+            _ => return Ok(()),
+        };
+        let from = (address.saturating_sub(EXTERNAL_BASE) as usize).saturating_sub(4_096);
+        let from = from.min(self.ext.len());
+        let to = (from + 8_192).min(self.ext.len());
+        expect_bytes("part of external memory", &self.ext[from..to], &self.theirs.ext[from..to])
+    }
+
+    /// After a list that flat memory agrees with, a last change to mode 0
+    /// brings everything home.
+    fn end(&mut self) -> Result<(), String> {
+        if self.flat.is_none() {
+            return Ok(());
+        }
+        self.direct(&Command::Mode { mode: 0 })?;
+        let flat = self.flat.as_ref().expect("seen just now");
+        expect_bytes("external memory at the end, by flat memory,", &self.ext, &flat.ext)?;
+        expect_bytes("SRAM at the end, by flat memory,", &self.l2, &flat.sram)
+    }
+}

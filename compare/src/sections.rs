@@ -1,0 +1,489 @@
+//! What is compared: five sections, each made of groups, each group of a few
+//! lists of calls. A group is known by its section and number, and equal seeds
+//! give equal groups.
+
+use oracle::gen::{
+    self, call, command, encode, hot, hot_for, ill_formed_record, look_address, make_length_wrong,
+    senseless_record, Call, Hot, Mix, Rng, Setup, TraceKind, E_BOTH_RANGES, FAULTS, LEGAL_L,
+    LEGAL_MODES, TRACE_KINDS, WRONG_LENGTHS,
+};
+use oracle::geometry::{mode_is_legal, EXTERNAL_BASE};
+use oracle::{Command, Record};
+
+use crate::pair::{compare, Met, OddByte, OddPlace, Op, Start};
+use crate::shrink::Case;
+
+/// A section: its name, its share of the calls in parts of 100, what it does,
+/// and how one of its groups is run.
+pub struct Section {
+    pub name: &'static str,
+    pub share: u64,
+    pub about: &'static str,
+    pub group: fn(&mut Rng, u64, &mut Met) -> Option<Case>,
+}
+
+pub const SECTIONS: [Section; 5] = [
+    Section {
+        name: "records",
+        share: 40,
+        about: "every call on random well-formed records and memories",
+        group: records,
+    },
+    Section {
+        name: "lists",
+        share: 30,
+        about: "long lists from fresh, set against flat memory too",
+        group: lists,
+    },
+    Section {
+        name: "traces",
+        share: 12,
+        about: "runs over valid, damaged and cut traces, and single calls",
+        group: traces,
+    },
+    Section {
+        name: "refusals",
+        share: 14,
+        about: "records, bytes, lengths and numbers that are refused",
+        group: refusals,
+    },
+    Section { name: "views", share: 4, about: "looking behind L1D", group: views },
+];
+
+/// Compares a list; a difference makes it a case.
+fn check(start: Start, ops: Vec<Op>, met: &mut Met) -> Option<Case> {
+    compare(&start, &ops, met).map(|difference| Case { start, ops, difference })
+}
+
+fn plain(setup: Setup) -> Start {
+    Start { setup, odd: Vec::new(), flat: false }
+}
+
+/// C's record has a byte for the mode and for each MAR bit. A larger number of
+/// the generators becomes 255, which is as little a mode or a bit.
+fn in_bytes(mut record: Box<Record>) -> Box<Record> {
+    record.mode = record.mode.min(255);
+    record.mar128 = record.mar128.min(255);
+    record.mar129 = record.mar129.min(255);
+    record
+}
+
+/// A legal E of at most half a mebibyte.
+fn small_e(rng: &mut Rng) -> u32 {
+    match rng.below(8) {
+        0 => 128,
+        1 => 128 * (1 + rng.below(8)),
+        2 => 6 * 65_536,
+        3 => 128 * (1 + rng.below(4_096)),
+        4 | 5 => 65_536,
+        _ => 8_192 * (1 + rng.below(12)),
+    }
+}
+
+/// A legal E with external memory in both MAR ranges.
+fn large_e(rng: &mut Rng) -> u32 {
+    match rng.below(4) {
+        0 => 33_554_432,
+        1 => 16_777_216 + 128 * (1 + rng.below(4_096)),
+        _ => E_BOTH_RANGES,
+    }
+}
+
+fn op_of(call: Call, rng: &mut Rng) -> Op {
+    match call {
+        Call::FreshStart => Op::Fresh,
+        Call::Direct(command) => Op::Direct(command),
+        Call::Run { trace, answer_bytes } => Op::Run { trace, answer_bytes },
+        Call::Look { address } => Op::View { address, buffer: view_buffer(rng) },
+    }
+}
+
+fn view_buffer(rng: &mut Rng) -> usize {
+    rng.pick(&[64, 64, 64, 64, 65, 80, 128, 63, 1, 0])
+}
+
+// ---------------------------------------------------------------- records
+
+/// Random well-formed records, reachable or not, over one set of memories.
+fn records(rng: &mut Rng, group: u64, met: &mut Met) -> Option<Case> {
+    let large = group % 24 == 23;
+    let l = rng.pick(&LEGAL_L);
+    let e = if large { large_e(rng) } else { small_e(rng) };
+    let mut setup = Setup::random(rng, l, e);
+    for _ in 0..if large { 2 } else { 12 } {
+        setup.redraw_record(rng);
+        let lines = hot_for(rng, &setup.record);
+        let count = if large { 200 } else { 4 + rng.below(28) };
+        let ops = (0..count)
+            .map(|_| {
+                let call = call(rng, &lines, &Mix::ALL);
+                op_of(call, rng)
+            })
+            .collect();
+        let case = check(plain(setup.clone()), ops, met);
+        if case.is_some() {
+            return case;
+        }
+    }
+    None
+}
+
+// ------------------------------------------------------------------ lists
+
+/// A long list from fresh, in turn over every L and several E.
+fn lists(rng: &mut Rng, group: u64, met: &mut Met) -> Option<Case> {
+    let sizes = [65_536, E_BOTH_RANGES, 8_192, 6 * 65_536, 128, 65_536, 12 * 65_536];
+    let l = LEGAL_L[(group % 8) as usize];
+    let mut e = sizes[(group % 7) as usize];
+    if e == E_BOTH_RANGES && group % 3 == 0 {
+        e = 33_554_432;
+    }
+    let large = e >= E_BOTH_RANGES;
+    let mut mix = match group % 5 {
+        4 => Mix::ALL,
+        3 => Mix { mode: 1, l2_all: 1, l2_block_writeback: 5, l1d_block_writeback: 5, ..Mix::NO_DROPS },
+        _ => Mix { mode: 8, l2_all: 8, ..Mix::NO_DROPS },
+    };
+    if large {
+        mix.l2_all = 2;
+    }
+    let mut ext = vec![0; e as usize];
+    rng.fill(&mut ext);
+    let setup = Setup::fresh_over(l, ext);
+    let mut ops = Vec::new();
+    // Lines come into the caches only with a MAR bit set.
+    if rng.chance(7, 8) {
+        ops.push(Op::Direct(Command::Mar { number: 128, bit: 1 }));
+    }
+    if rng.chance(7, 8) {
+        ops.push(Op::Direct(Command::Mar { number: 129, bit: 1 }));
+    }
+    let modes: Vec<u32> = LEGAL_MODES.into_iter().filter(|&mode| mode_is_legal(l, mode)).collect();
+    ops.push(Op::Direct(Command::Mode { mode: rng.pick(&modes) }));
+    let mut lines = hot(rng, l, e);
+    for _ in 0..3_000 {
+        if rng.chance(1, 700) {
+            lines = hot(rng, l, e);
+        }
+        if rng.chance(1, 200) {
+            let count = rng.below(30) as usize;
+            let kind = rng.pick(&[TraceKind::Valid, TraceKind::CutOff, TraceKind::UnknownCode]);
+            let made = gen::trace(rng, &lines, &mix, count, kind);
+            let answer_bytes = 10 * count + rng.below(12) as usize;
+            ops.push(Op::Run { trace: made.bytes, answer_bytes });
+        } else {
+            ops.push(Op::Direct(command(rng, &lines, &mix)));
+        }
+    }
+    let flat = mix.l1d_invalidate_all == 0;
+    check(Start { setup, odd: Vec::new(), flat }, ops, met)
+}
+
+// ----------------------------------------------------------------- traces
+
+/// Traces of every kind, with answer buffers of every length around a multiple
+/// of 10; each run is followed by the same commands as single calls.
+fn traces(rng: &mut Rng, group: u64, met: &mut Met) -> Option<Case> {
+    let l = rng.pick(&LEGAL_L);
+    let e = small_e(rng).min(65_536);
+    let setup = if group % 4 == 0 {
+        let mut ext = vec![0; e as usize];
+        rng.fill(&mut ext);
+        Setup::fresh_over(l, ext)
+    } else {
+        Setup::random(rng, l, e)
+    };
+    let lines = hot_for(rng, &setup.record);
+    let mut ops = Vec::new();
+    for turn in 0..8 {
+        let kind = TRACE_KINDS[(group as usize + turn) % TRACE_KINDS.len()];
+        let count = rng.below(16) as usize;
+        let made = gen::trace(rng, &lines, &Mix::ALL, count, kind);
+        let answer_bytes = match rng.below(4) {
+            0 => rng.below(10 * count as u32 + 31) as usize,
+            1 => (10 * count + rng.below(23) as usize).saturating_sub(11),
+            2 => 10 * rng.below(count as u32 + 2) as usize,
+            _ => 10 * (count + 60),
+        };
+        ops.push(Op::RunAndSingleCalls { trace: made.bytes, answer_bytes });
+    }
+    // One trace against every length up to past its answers.
+    let count = 1 + rng.below(3) as usize;
+    let made = gen::trace(rng, &lines, &Mix::ALL, count, TraceKind::Valid);
+    for answer_bytes in 0..10 * count + 12 {
+        ops.push(Op::Run { trace: made.bytes.clone(), answer_bytes });
+    }
+    // 11 comes before 12, and 12 before 3 to 10.
+    let mut refused = Vec::new();
+    encode(&Command::Read { size: 3, address: 0 }, &mut refused);
+    for answer_bytes in [0, 9, 10, 19] {
+        ops.push(Op::Run { trace: refused.clone(), answer_bytes });
+        let twice = [refused.clone(), refused.clone()].concat();
+        ops.push(Op::Run { trace: twice, answer_bytes });
+        let damaged = [refused.clone(), vec![12]].concat();
+        ops.push(Op::Run { trace: damaged, answer_bytes });
+        ops.push(Op::Run { trace: vec![0, 0x80], answer_bytes });
+        ops.push(Op::Run { trace: vec![], answer_bytes });
+    }
+    check(plain(setup), ops, met)
+}
+
+// --------------------------------------------------------------- refusals
+
+fn refusals(rng: &mut Rng, group: u64, met: &mut Met) -> Option<Case> {
+    match group % 6 {
+        0 => ill_formed(rng, group / 6, met),
+        1 => odd_bytes(rng, met),
+        2 => wrong_lengths(rng, group / 6, met),
+        3 => senseless(rng, met),
+        4 => edges(rng, group / 6, met),
+        _ => mar_edges(rng, met),
+    }
+}
+
+/// Every kind of call, and some more.
+fn some_calls(rng: &mut Rng, lines: &Hot, fresh_too: bool) -> Vec<Op> {
+    let (base, count) = (EXTERNAL_BASE, 16);
+    let mut ops: Vec<Op> = [
+        Command::Read { size: 4, address: 0 },
+        Command::Write { size: 4, address: EXTERNAL_BASE, value: 7 },
+        Command::L2WritebackAll,
+        Command::L2WritebackInvalidateAll,
+        Command::L2BlockWriteback { base, count },
+        Command::L2BlockWritebackInvalidate { base, count },
+        Command::L2BlockInvalidate { base, count },
+        Command::L1dBlockWritebackInvalidate { base, count },
+        Command::L1dBlockInvalidate { base, count },
+        Command::L1dInvalidateAll,
+        Command::Mode { mode: 0 },
+        Command::Mar { number: 128, bit: 1 },
+        // Higher numbers that do not come up.
+        Command::Read { size: 3, address: 1 },
+        Command::Mode { mode: 5 },
+        Command::Mar { number: 7, bit: 7 },
+        Command::L2BlockWriteback { base: 2, count: 70_000 },
+    ]
+    .map(Op::Direct)
+    .to_vec();
+    for _ in 0..4 {
+        ops.push(Op::Direct(command(rng, lines, &Mix::ALL)));
+    }
+    for kind in [TraceKind::Valid, TraceKind::UnknownCode] {
+        let made = gen::trace(rng, lines, &Mix::ALL, 3, kind);
+        ops.push(Op::RunAndSingleCalls { trace: made.bytes, answer_bytes: rng.pick(&[0, 5, 40]) });
+    }
+    for buffer in [64, 63, 100] {
+        ops.push(Op::View { address: look_address(rng, lines), buffer });
+    }
+    if fresh_too {
+        ops.push(Op::Fresh);
+        ops.push(Op::Direct(Command::Read { size: 8, address: 0 }));
+    }
+    ops
+}
+
+/// A record in which one clause of the paragraph is broken.
+fn ill_formed(rng: &mut Rng, turn: u64, met: &mut Met) -> Option<Case> {
+    let fault = FAULTS[turn as usize % FAULTS.len()];
+    let l = rng.pick(&LEGAL_L);
+    let e = small_e(rng);
+    let record = ill_formed_record(rng, l, e, fault)?;
+    let mut setup = Setup::random(rng, l, e);
+    setup.record = in_bytes(record);
+    let lines = hot(rng, l, e);
+    let ops = some_calls(rng, &lines, true);
+    check(plain(setup), ops, met)
+}
+
+/// A byte that stands for a bool and is neither 0 nor 1.
+fn odd_bytes(rng: &mut Rng, met: &mut Met) -> Option<Case> {
+    let l = rng.pick(&LEGAL_L);
+    let e = small_e(rng);
+    let mut setup = Setup::random(rng, l, e);
+    for _ in 0..6 {
+        setup.redraw_record(rng);
+        let mut start = plain(setup.clone());
+        for _ in 0..rng.pick(&[1, 1, 1, 2, 40]) {
+            let (l1d, l2) = (rng.below(128) as usize, rng.below(512) as usize);
+            let place = match rng.below(8) {
+                0 => OddPlace::Mar128,
+                1 => OddPlace::Mar129,
+                2 | 3 => OddPlace::L1dValid { set: l1d, way: rng.below(2) as usize },
+                4 => OddPlace::L1dDirty { set: l1d, way: rng.below(2) as usize },
+                5 | 6 => OddPlace::L2Valid { set: l2, way: rng.below(4) as usize },
+                _ => OddPlace::L2Dirty { set: l2, way: rng.below(4) as usize },
+            };
+            let value = rng.pick(&[2, 3, 4, 127, 128, 129, 254, 255]);
+            start.odd.push(OddByte { place, value });
+        }
+        // A wrong length comes first, an ill-formed record beside it does not matter.
+        if rng.chance(1, 3) {
+            let wrong = rng.pick(&WRONG_LENGTHS);
+            make_length_wrong(rng, &mut start.setup, wrong);
+        }
+        if rng.chance(1, 4) {
+            start.setup.record.mode = 4 + rng.below(3);
+        }
+        let lines = hot(rng, l, e);
+        let ops = some_calls(rng, &lines, true);
+        let case = check(start, ops, met);
+        if case.is_some() {
+            return case;
+        }
+    }
+    None
+}
+
+/// A lent length that is illegal or unlike the record's; a record that is ill
+/// formed too gets the same number.
+fn wrong_lengths(rng: &mut Rng, turn: u64, met: &mut Met) -> Option<Case> {
+    let l = rng.pick(&LEGAL_L);
+    let e = small_e(rng);
+    let mut setup = Setup::random(rng, l, e);
+    make_length_wrong(rng, &mut setup, WRONG_LENGTHS[turn as usize % WRONG_LENGTHS.len()]);
+    if rng.chance(1, 4) {
+        let wrong = rng.pick(&WRONG_LENGTHS);
+        if setup.ext.len() > 256 && setup.record.e > 256 {
+            make_length_wrong(rng, &mut setup, wrong);
+        }
+    }
+    match rng.below(4) {
+        0 => setup.record.mode = 99,
+        1 => setup.record.l1d[5].order = [1, 1],
+        _ => {}
+    }
+    let lines = hot(rng, l, e);
+    let ops = some_calls(rng, &lines, true);
+    check(plain(setup), ops, met)
+}
+
+/// A record of no sense at all, over memories of any length.
+fn senseless(rng: &mut Rng, met: &mut Met) -> Option<Case> {
+    let l = rng.pick(&LEGAL_L);
+    let e = small_e(rng);
+    let mut setup = Setup {
+        record: in_bytes(senseless_record(rng, l, e)),
+        l1d: vec![1; if rng.chance(7, 8) { 16_384 } else { rng.below(40_000) as usize }],
+        l2: vec![2; if rng.chance(7, 8) { l } else { rng.below(300_000) } as usize],
+        ext: vec![3; if rng.chance(7, 8) { e } else { rng.below(300_000) } as usize],
+    };
+    if rng.chance(1, 8) {
+        setup.record.l = rng.next_u32();
+    }
+    if rng.chance(1, 8) {
+        setup.record.e = rng.next_u32();
+    }
+    let lines = hot(rng, l, e);
+    let fresh_too = rng.chance(1, 2);
+    let ops = some_calls(rng, &lines, fresh_too);
+    check(plain(setup), ops, met)
+}
+
+/// Numbers 3 to 8 at their edges, and several due at once.
+fn edges(rng: &mut Rng, turn: u64, met: &mut Met) -> Option<Case> {
+    let l = LEGAL_L[turn as usize % LEGAL_L.len()];
+    let e = rng.pick(&[128, 256, 65_536, 8_192]);
+    let setup = Setup::random(rng, l, e);
+    let s = setup.record.sram_size();
+    let mut ops = Vec::new();
+    let ends = [0, s, l, EXTERNAL_BASE, EXTERNAL_BASE.wrapping_add(e), u32::MAX, 0xFFFF_FFF8];
+    for size in [0, 1, 2, 3, 4, 5, 7, 8, 9, 16, 256, 257, 258, 260, 264, u32::MAX] {
+        for end in ends {
+            let back = rng.pick(&[0, 1, 2, 4, 8, size, size.wrapping_sub(1), size.wrapping_mul(2)]);
+            let address = end.wrapping_sub(back);
+            ops.push(Op::Direct(Command::Read { size, address }));
+            let bits = 8 * size.min(8);
+            let bound = if bits == 64 { 0 } else { 1u64 << bits };
+            let value = rng.pick(&[0, bound, bound.wrapping_sub(1), bound + 1, u64::MAX, 255, 256]);
+            ops.push(Op::Direct(Command::Write { size, address, value }));
+        }
+    }
+    // All of 3 to 6 at once, and one less each time.
+    let outside = EXTERNAL_BASE.wrapping_add(e);
+    for (size, address, value) in [
+        (3, outside + 1, u64::MAX),
+        (2, outside + 1, u64::MAX),
+        (2, outside, u64::MAX),
+        (2, EXTERNAL_BASE, u64::MAX),
+        (2, EXTERNAL_BASE, 65_536),
+        (2, EXTERNAL_BASE, 65_535),
+        (1, EXTERNAL_BASE, 256),
+        (1, EXTERNAL_BASE, 255),
+        (4, EXTERNAL_BASE, 1 << 32),
+        (4, EXTERNAL_BASE, (1 << 32) - 1),
+        (8, EXTERNAL_BASE, u64::MAX),
+    ] {
+        ops.push(Op::Direct(Command::Write { size, address, value }));
+    }
+    let bases = [0, 1, 2, 3, 4, EXTERNAL_BASE, EXTERNAL_BASE + 2, 0xFFFF_FFFC, 0xFFFF_FFFF];
+    for base in bases {
+        for count in [0, 1, 65_535, 65_536, 65_537, 1 << 30, 1 << 31, u32::MAX] {
+            let command = match rng.below(5) {
+                0 => Command::L2BlockWriteback { base, count },
+                1 => Command::L2BlockWritebackInvalidate { base, count },
+                2 => Command::L2BlockInvalidate { base, count },
+                3 => Command::L1dBlockWritebackInvalidate { base, count },
+                _ => Command::L1dBlockInvalidate { base, count },
+            };
+            ops.push(Op::Direct(command));
+        }
+    }
+    for mode in [0, 1, 2, 3, 4, 5, 6, 7, 8, 9, 255, 256, 257, 263, 1 << 16, u32::MAX] {
+        ops.push(Op::Direct(Command::Mode { mode }));
+    }
+    for address in [0, 32, 64, s.wrapping_sub(64), s.wrapping_sub(32), s, EXTERNAL_BASE, outside] {
+        for address in [address, address.wrapping_sub(64), address.wrapping_add(1)] {
+            ops.push(Op::View { address, buffer: view_buffer(rng) });
+        }
+    }
+    check(plain(setup), ops, met)
+}
+
+/// Numbers 9 and 10 at their edges: with and without a line of the range.
+fn mar_edges(rng: &mut Rng, met: &mut Met) -> Option<Case> {
+    let large = rng.chance(1, 40);
+    let l = rng.pick(&LEGAL_L);
+    let e = if large { E_BOTH_RANGES } else { rng.pick(&[128, 8_192, 65_536]) };
+    let setup = Setup::random(rng, l, e);
+    let mut ops = Vec::new();
+    let far = if large { 0x0100_0000 } else { 0 };
+    for number in [0, 127, 128, 129, 130, 255, 256, 384, 385, u32::MAX] {
+        for bit in [0, 1, 2, 3, 255, 256, 257, u32::MAX] {
+            ops.push(Op::Direct(Command::Mar { number, bit }));
+            if rng.chance(1, 4) {
+                let address = EXTERNAL_BASE + if rng.chance(1, 2) { far } else { 0 };
+                ops.push(Op::Direct(Command::Read { size: 1, address }));
+            }
+            if rng.chance(1, 6) {
+                ops.push(Op::Direct(Command::L1dInvalidateAll));
+            }
+            if rng.chance(1, 6) {
+                ops.push(Op::Direct(Command::L2WritebackInvalidateAll));
+            }
+        }
+    }
+    check(plain(setup), ops, met)
+}
+
+// ------------------------------------------------------------------ views
+
+fn views(rng: &mut Rng, group: u64, met: &mut Met) -> Option<Case> {
+    let large = group % 64 == 63;
+    let l = rng.pick(&LEGAL_L);
+    let e = if large { E_BOTH_RANGES } else { small_e(rng) };
+    let setup = Setup::random(rng, l, e);
+    let lines = hot_for(rng, &setup.record);
+    let mut ops = Vec::new();
+    for _ in 0..120 {
+        ops.push(Op::View { address: look_address(rng, &lines), buffer: view_buffer(rng) });
+        if rng.chance(1, 8) {
+            ops.push(Op::Direct(command(rng, &lines, &Mix::ALL)));
+        }
+    }
+    for buffer in [0, 1, 32, 62, 63, 64, 65, 66, 127, 128, 1_000] {
+        ops.push(Op::View { address: 0, buffer });
+        ops.push(Op::View { address: EXTERNAL_BASE, buffer });
+        ops.push(Op::View { address: 1, buffer });
+    }
+    check(plain(setup), ops, met)
+}

@@ -1,0 +1,22 @@
+-- `boundary::c64x_l1d_invalidate_all` meets its contract: it is this one command. Assumes nothing.
+use borrow.Author.Needs.{needs}
+use Rattle.boundary.proofs.c64x_l1d_invalidate_all.Statement.{statement}
+use Rattle.boundary.proofs.c64x_l1d_invalidate_all.Tie as tie
+
+carry-out-requires : tie.Need-carry-out-requires
+carry-out-requires c κs = search needs
+
+same-length : tie.Need-same-length
+same-length c = c .before .before .before .before .before .before .carry-out .kept .1 .1 .0
+
+same-length-2 : tie.Need-same-length-2
+same-length-2 c = c .before .before .before .before .before .before .carry-out .kept .1 .1 .1 .0
+
+same-length-3 : tie.Need-same-length-3
+same-length-3 c = c .before .before .before .before .before .before .carry-out .kept .1 .1 .1 .1 .0
+
+returns : tie.Need-returns
+returns c = c .before .before .before .before .before .before .carry-out .ensures
+
+pub c64x-l1d-invalidate-all-spec : {M : Type 1} → statement M
+c64x-l1d-invalidate-all-spec = tie.close (tie.spec carry-out-requires same-length same-length-2 same-length-3 returns)

@@ -1,0 +1,25 @@
+-- `boundary::c64x_run` meets its contract: it is the run. Assumes nothing.
+use borrow.Author.Needs.{needs}
+use Rattle.boundary.proofs.c64x_run.Statement.{statement}
+use Rattle.boundary.proofs.c64x_run.Tie as tie
+
+run-requires : tie.Need-run-requires
+run-requires c κs = search needs
+
+same-length : tie.Need-same-length
+same-length c = c .before .before .before .before .before .before .before .before .run .kept .1 .1 .0
+
+same-length-2 : tie.Need-same-length-2
+same-length-2 c = c .before .before .before .before .before .before .before .before .run .kept .1 .1 .1 .0
+
+same-length-3 : tie.Need-same-length-3
+same-length-3 c = c .before .before .before .before .before .before .before .before .run .kept .1 .1 .1 .1 .0
+
+same-length-4 : tie.Need-same-length-4
+same-length-4 c = c .before .before .before .before .before .before .before .before .run .kept .1 .1 .1 .1 .1 .0
+
+returns : tie.Need-returns
+returns c = c .before .before .before .before .before .before .before .before .run .ensures
+
+pub c64x-run-spec : {M : Type 1} → statement M
+c64x-run-spec = tie.close (tie.spec run-requires same-length same-length-2 same-length-3 same-length-4 returns)

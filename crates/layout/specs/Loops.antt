@@ -1,0 +1,149 @@
+-- How the loops go: a list of two or four written out, and an array that is filled from the front with what a map makes.
+use Prim.Native.Nat.{ℕ, zero, suc, _+_, _≤_, _<_}
+use mathlib.Core.Bool.{Bool, true, false, _&&_}
+use mathlib.Core.List.{List, [], _∷_, _++_, map, append-nil, map-append}
+use mathlib.Core.Path.{_≡_, refl, sym, ap, _∙_}
+use native.Mathlib.Omega.{arith}
+use native.Mathlib.Numerals.{add-one}
+use lib.ListN.{length, getD, take, drop, set, length-map, length-take, length-append, length-drop, length-set, drop-of-length-le}
+use lib.Seq.{drop-cons, set-at, append-snoc, take-suc, take-all, length-take-le}
+use lib.Dec.{ltb, leb, eqb}
+use Rattle.model.specs.Basics.{pick, both, all}
+use Rattle.sizes.specs.Join.{and-both}
+use Rattle.ways.specs.Ways.{two, four, both-end, both-assoc}
+use Rattle.model.specs.Lines.{emptyLine, l1dGet, l2Get}
+use Rattle.model.specs.declared.Line.{Line}
+use Rattle.model.specs.declared.L1dSet.{L1dSet}
+use Rattle.model.specs.declared.L2Set.{L2Set}
+use Rattle.model.specs.declared.Record.{Record}
+use Rattle.layout.specs.Layout.{byteOf, lineBits, l1dSetBits, l2SetBits, bitsOnly, lineIn, l1dSetIn, l2SetIn, recordIn, lineOut, l1dSetOut, l2SetOut, recordOut}
+use Rattle.layout.specs.declared.CLine.{CLine}
+use Rattle.layout.specs.declared.CL1dSet.{CL1dSet}
+use Rattle.layout.specs.declared.CL2Set.{CL2Set}
+use Rattle.layout.specs.declared.CRecord.{CRecord}
+
+-- what the language gives past the end of an array
+abbrev pub noCLine : CLine
+noCLine = record { valid = 0; dirty = 0; address = 0 }
+
+abbrev pub noCL1dSet : CL1dSet
+noCL1dSet = record { lines = []; order = record { first = 0; second = 0 } }
+
+abbrev pub noCL2Set : CL2Set
+noCL2Set = record { lines = []; order = record { first = 0; second = 0; third = 0; fourth = 0 } }
+
+-- ---- a list of two, of four, through a map
+module _ {ℓ κ} {A : Type ℓ} {B : Type κ} (f : A → B) (d : A) (xs : List A) where
+  pub map-two : length xs ≡ 2 → f (getD xs 0 d) ∷ f (getD xs 1 d) ∷ [] ≡ map f xs
+  map-two n = sym (ap (map f) (two d xs n))
+
+  pub map-four : length xs ≡ 4 → f (getD xs 0 d) ∷ f (getD xs 1 d) ∷ f (getD xs 2 d) ∷ f (getD xs 3 d) ∷ [] ≡ map f xs
+  map-four n = sym (ap (map f) (four d xs n))
+
+-- ---- an array filled from the front: the first i are mapped, the rest stands as it was
+abbrev pub filled {ℓ κ} : {A : Type ℓ} {B : Type κ} → (A → B) → List A → List B → ℕ → List B
+filled f xs ys i = map f (take i xs) ++ drop i ys
+
+module _ {ℓ κ} {A : Type ℓ} {B : Type κ} (f : A → B) (d : A) (e : B) (xs : List A) (ys : List B) (i : ℕ) where
+  pub filled-next : i < length xs → i < length ys → set (filled f xs ys i) i (f (getD xs i d)) ≡ filled f xs ys (i + 1)
+  filled-next h g =
+      ap (λ (r : List B). set (map f (take i xs) ++ r) i (f (getD xs i d))) (drop-cons ys i e g)
+      ∙ set-at (map f (take i xs)) (getD ys i e) (drop (suc i) ys) (f (getD xs i d)) i (length-map (take i xs) f ∙ length-take-le i xs (omega arith))
+      ∙ sym (append-snoc (map f (take i xs)) (f (getD xs i d)) (drop (suc i) ys))
+      ∙ rw (add-one, take-suc xs i d h, map-append f (take i xs) (getD xs i d ∷ [])) refl
+
+  pub filled-all : length xs ≤ i → length ys ≤ i → filled f xs ys i ≡ map f xs
+  filled-all h g = rw (take-all i xs h, drop-of-length-le ys g, append-nil) refl
+
+  pub length-filled : i ≤ length xs → i ≤ length ys → length (filled f xs ys i) ≡ length ys
+  length-filled h g = simp (length-append, length-map, length-take, length-drop) (omega arith)
+
+-- ---- the tests, as the code joins them
+pub line-joined : (x : CLine) → (ltb (x .valid) 2 && ltb (x .dirty) 2) ≡ lineBits x
+unfolding lineBits
+line-joined x = and-both (ltb (x .valid) 2) (ltb (x .dirty) 2)
+
+pub l1d-set-joined : (v : CL1dSet) (a b : Bool) → length (v .lines) ≡ 2 → a ≡ lineBits (getD (v .lines) 0 noCLine) →
+    b ≡ lineBits (getD (v .lines) 1 noCLine) → (a && b) ≡ l1dSetBits v
+unfolding l1dSetBits all
+l1d-set-joined v a b n ea eb =
+    rw (ea, eb)
+    (and-both (lineBits (getD (v .lines) 0 noCLine)) (lineBits (getD (v .lines) 1 noCLine))
+    ∙ sym (ap (all (λ _ x. lineBits x) 0) (two noCLine (v .lines) n) ∙ simp both-end))
+
+pub l2-set-joined : (v : CL2Set) (a b p q : Bool) → length (v .lines) ≡ 4 → a ≡ lineBits (getD (v .lines) 0 noCLine) →
+    b ≡ lineBits (getD (v .lines) 1 noCLine) → p ≡ lineBits (getD (v .lines) 2 noCLine) → q ≡ lineBits (getD (v .lines) 3 noCLine) →
+    ((a && b) && (p && q)) ≡ l2SetBits v
+unfolding l2SetBits all
+l2-set-joined v a b p q n ea eb ep eq =
+    rw (ea, eb, ep, eq)
+    (simp (and-both, both-assoc)
+    (sym (ap (all (λ _ x. lineBits x) 0) (four noCLine (v .lines) n) ∙ simp both-end)))
+
+-- ---- the record's bytes: by the MAR bits, by the L1D sets, by the L2 sets
+module _ (c : CRecord) where
+  pub bits-mar : (ltb (c .mar128) 2 && ltb (c .mar129) 2) ≡ false → false ≡ bitsOnly c
+  unfolding bitsOnly
+  bits-mar e = let f = sym (and-both (ltb (c .mar128) 2) (ltb (c .mar129) 2)) ∙ e in rw f refl
+
+  pub bits-l1d : (ltb (c .mar128) 2 && ltb (c .mar129) 2) ≡ true → all (λ _ v. l1dSetBits v) 0 (c .l1d) ≡ false → false ≡ bitsOnly c
+  unfolding bitsOnly
+  bits-l1d e g = let f = sym (and-both (ltb (c .mar128) 2) (ltb (c .mar129) 2)) ∙ e in rw (f, g) refl
+
+  pub bits-l2 : (ltb (c .mar128) 2 && ltb (c .mar129) 2) ≡ true → all (λ _ v. l1dSetBits v) 0 (c .l1d) ≡ true →
+      (b : Bool) → b ≡ all (λ _ v. l2SetBits v) 0 (c .l2) → b ≡ bitsOnly c
+  unfolding bitsOnly
+  bits-l2 e g b h = let f = sym (and-both (ltb (c .mar128) 2) (ltb (c .mar129) 2)) ∙ e in rw (f, g) h
+
+-- ---- a turn of a loop that fills, and its end
+module _ {ℓ κ} {A : Type ℓ} {B : Type κ} (f : A → B) (d : A) (e : B) (xs : List A) (zs ys : List B) (i : ℕ) (q : ys ≡ filled f xs zs i) where
+  pub fill-turn : (v : B) → v ≡ f (getD xs i d) → i < length xs → i < length zs → set ys i v ≡ filled f xs zs (i + 1)
+  fill-turn v p h g = rw (q, p) (filled-next f d e xs zs i h g)
+
+  pub fill-end : length xs ≤ i → length zs ≤ i → ys ≡ map f xs
+  fill-end h g = q ∙ filled-all f d e xs zs i h g
+
+-- ---- one line, one set, the record, from the parts that the calls gave
+pub line-out-joined : (x : Line) (p q : ℕ) → p ≡ byteOf (x .valid) → q ≡ byteOf (x .dirty) →
+    record { valid = p; dirty = q; address = x .address } ≡ lineOut x
+unfolding lineOut
+line-out-joined x p q ep eq = rw (ep, eq) refl
+
+module _ (v : CL1dSet) (x y : Line) (n : length (v .lines) ≡ 2) (ex : x ≡ lineIn (getD (v .lines) 0 noCLine)) (ey : y ≡ lineIn (getD (v .lines) 1 noCLine)) where
+  pub l1d-in-joined : record { lines = x ∷ y ∷ []; order = record { first = v .order .first; second = v .order .second } } ≡ l1dSetIn v
+  unfolding l1dSetIn
+  l1d-in-joined = rw (ex, ey, map-two lineIn noCLine (v .lines) n) refl
+
+module _ (v : L1dSet) (x y : CLine) (n : length (v .lines) ≡ 2) (ex : x ≡ lineOut (l1dGet v 0)) (ey : y ≡ lineOut (l1dGet v 1)) where
+  pub l1d-out-joined : record { lines = x ∷ y ∷ []; order = record { first = v .order .first; second = v .order .second } } ≡ l1dSetOut v
+  unfolding l1dSetOut
+  l1d-out-joined = rw (ex, ey, map-two lineOut emptyLine (v .lines) n) refl
+
+module _ (v : CL2Set) (w x y z : Line) (n : length (v .lines) ≡ 4) (ew : w ≡ lineIn (getD (v .lines) 0 noCLine)) (ex : x ≡ lineIn (getD (v .lines) 1 noCLine))
+    (ey : y ≡ lineIn (getD (v .lines) 2 noCLine)) (ez : z ≡ lineIn (getD (v .lines) 3 noCLine)) where
+  pub l2-in-joined : record {
+    lines = w ∷ x ∷ y ∷ z ∷ [];
+    order = record { first = v .order .first; second = v .order .second; third = v .order .third; fourth = v .order .fourth };
+  } ≡ l2SetIn v
+  unfolding l2SetIn
+  l2-in-joined = rw (ew, ex, ey, ez, map-four lineIn noCLine (v .lines) n) refl
+
+module _ (v : L2Set) (w x y z : CLine) (n : length (v .lines) ≡ 4) (ew : w ≡ lineOut (l2Get v 0)) (ex : x ≡ lineOut (l2Get v 1))
+    (ey : y ≡ lineOut (l2Get v 2)) (ez : z ≡ lineOut (l2Get v 3)) where
+  pub l2-out-joined : record {
+    lines = w ∷ x ∷ y ∷ z ∷ [];
+    order = record { first = v .order .first; second = v .order .second; third = v .order .third; fourth = v .order .fourth };
+  } ≡ l2SetOut v
+  unfolding l2SetOut
+  l2-out-joined = rw (ew, ex, ey, ez, map-four lineOut emptyLine (v .lines) n) refl
+
+pub record-in-joined : (c : CRecord) (xs : List L1dSet) (ys : List L2Set) → xs ≡ map l1dSetIn (c .l1d) → ys ≡ map l2SetIn (c .l2) →
+    record { l2len = c .l2len; extlen = c .extlen; mode = c .mode; mar128 = eqb (c .mar128) 1; mar129 = eqb (c .mar129) 1; l1d = xs; l2 = ys } ≡ recordIn c
+unfolding recordIn
+record-in-joined c xs ys ex ey = rw (ex, ey) refl
+
+pub record-out-joined : (r : Record) (a b : ℕ) (xs : List CL1dSet) (ys : List CL2Set) → a ≡ byteOf (r .mar128) → b ≡ byteOf (r .mar129) →
+    xs ≡ map l1dSetOut (r .l1d) → ys ≡ map l2SetOut (r .l2) →
+    record { l2len = r .l2len; extlen = r .extlen; mode = r .mode; mar128 = a; mar129 = b; l1d = xs; l2 = ys } ≡ recordOut r
+unfolding recordOut
+record-out-joined r a b xs ys ea eb ex ey = rw (ea, eb, ex, ey) refl

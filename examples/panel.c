@@ -1,0 +1,195 @@
+/*
+ * What the repair panel shows: a trace is run from a fresh start, and each
+ * answer is told in words, then what the two caches hold.
+ *
+ *   panel [TRACE]     TRACE is a file; without it a small trace of its own is run
+ *
+ * L = E = 65,536; external memory is zero. Exit status: 0 the trace was run,
+ * also where commands of it were refused; 1 it was stopped; 2 bad usage.
+ */
+#include <stdio.h>
+#include <stdlib.h>
+#include <string.h>
+
+#include "c64x.h"
+
+#define L2_BYTES 65536
+#define EXTERNAL_BYTES 65536
+#define TRACE_BYTES 65536
+
+static uint8_t l1d[C64X_L1D_BYTES];
+static uint8_t l2[L2_BYTES];
+static uint8_t ext[EXTERNAL_BYTES];
+static uint8_t trace[TRACE_BYTES + 1];
+/* A command has a byte at least, so these are enough. */
+static uint8_t answers[TRACE_BYTES * C64X_ANSWER_BYTES];
+
+/* MAR 128 on; the word at 80000000h is written, and read twice. */
+static const uint8_t own_trace[] = {
+    11, 0x80, 0x01, 1,
+    1, 4, 0x80, 0x80, 0x80, 0x80, 0x08, 5,
+    0, 4, 0x80, 0x80, 0x80, 0x80, 0x08,
+    0, 4, 0x80, 0x80, 0x80, 0x80, 0x08,
+};
+
+static const char *const commands[] = {
+    "read",
+    "write",
+    "L2 writeback all",
+    "L2 writeback-invalidate all",
+    "L2 block writeback",
+    "L2 block writeback-invalidate",
+    "L2 block invalidate",
+    "L1D block writeback-invalidate",
+    "L1D block invalidate",
+    "L1D invalidate all",
+    "mode",
+    "MAR",
+};
+
+static const char *const refusals[] = {
+    "done",
+    "refused: a lent length is illegal or unlike the record's",
+    "refused: the record is not well formed",
+    "refused: the size is not 1, 2, 4 or 8",
+    "refused: the address is not aligned",
+    "refused: neither SRAM nor external memory",
+    "refused: the value needs more bytes than the size",
+    "refused: the count is above 65535",
+    "refused: no such mode, or its cache is larger than L2",
+    "refused: no such MAR or bit",
+    "refused: a cache holds a line of that range",
+    "stopped: the trace is damaged",
+    "stopped: no answer bytes are left",
+};
+
+static const char *const servers[] = {"", "L1D", "SRAM", "L2 cache", "external memory"};
+
+/* A text of a table, or a stand-in for a number that the table lacks. */
+static const char *word(const char *const *table, size_t count, uint8_t number)
+{
+    return number < count ? table[number] : "unknown";
+}
+
+#define WORD(table, number) word(table, sizeof(table) / sizeof((table)[0]), number)
+
+/* How many bytes the whole command at `at` has: a code and numbers that end with a byte below 128. */
+static size_t command_length(size_t at)
+{
+    static const uint8_t numbers[] = {2, 3, 0, 0, 2, 2, 2, 2, 2, 0, 1, 2};
+    size_t end = at + 1;
+    for (uint8_t left = numbers[trace[at]]; left > 0; end++)
+        if (trace[end] < 128)
+            left--;
+    return end - at;
+}
+
+static void show_answers(const c64x_ran *run)
+{
+    size_t at = 0;
+    for (size_t i = 0; i < run->count; i++) {
+        const uint8_t *answer = answers + i * C64X_ANSWER_BYTES;
+        uint64_t value = 0;
+        for (int byte = 9; byte >= 2; byte--)
+            value = value << 8 | answer[byte];
+        printf("%3zu  %-30s  %s", i + 1, WORD(commands, trace[at]), WORD(refusals, answer[0]));
+        if (answer[1] != 0)
+            printf(", by %s", WORD(servers, answer[1]));
+        if (trace[at] == 0 && answer[0] == 0)
+            printf(", value %llu", (unsigned long long)value);
+        printf("\n");
+        at += command_length(at);
+    }
+}
+
+static void show_lines(const char *cache, const c64x_line *lines, size_t count, size_t *held,
+                       size_t *dirty)
+{
+    for (size_t i = 0; i < count; i++) {
+        if (!lines[i].valid)
+            continue;
+        ++*held;
+        *dirty += lines[i].dirty;
+        printf("     %s line %08lX %s\n", cache, (unsigned long)lines[i].address,
+               lines[i].dirty ? "dirty" : "clean");
+    }
+}
+
+static void show_caches(const c64x_record *record)
+{
+    size_t held = 0, dirty = 0;
+    printf("L2 mode %d, MAR 128 %s, MAR 129 %s\n", record->mode, record->mar128 ? "on" : "off",
+           record->mar129 ? "on" : "off");
+    for (size_t set = 0; set < C64X_L1D_SETS; set++)
+        show_lines("L1D", record->l1d[set].lines, 2, &held, &dirty);
+    printf("L1D: %zu lines held, %zu dirty\n", held, dirty);
+    held = dirty = 0;
+    for (size_t set = 0; set < C64X_L2_SETS; set++)
+        show_lines("L2", record->l2[set].lines, 4, &held, &dirty);
+    printf("L2: %zu lines held, %zu dirty\n", held, dirty);
+}
+
+/* The word that external memory itself holds at its first address. */
+static void show_behind(const c64x_record *record)
+{
+    uint8_t seen[C64X_VIEW_BYTES];
+    uint8_t number = c64x_view(*record, C64X_EXTERNAL_BASE, l2, sizeof l2, ext, sizeof ext, seen,
+                               sizeof seen);
+    if (number != 0) {
+        printf("behind L1D at 80000000: %s\n", WORD(refusals, number));
+        return;
+    }
+    printf("behind L1D at 80000000: %02X %02X %02X %02X\n", seen[0], seen[1], seen[2], seen[3]);
+}
+
+/* Reads a file into the trace; its length, or exit. */
+static size_t read_trace(const char *name)
+{
+    FILE *file = fopen(name, "rb");
+    if (file == NULL) {
+        fprintf(stderr, "panel: cannot open '%s'\n", name);
+        exit(2);
+    }
+    size_t length = fread(trace, 1, sizeof trace, file);
+    int failed = ferror(file);
+    fclose(file);
+    if (failed) {
+        fprintf(stderr, "panel: cannot read '%s'\n", name);
+        exit(2);
+    }
+    if (length > TRACE_BYTES) {
+        fprintf(stderr, "panel: '%s' has more than %d bytes\n", name, TRACE_BYTES);
+        exit(2);
+    }
+    return length;
+}
+
+int main(int argc, char **argv)
+{
+    if (argc > 2 || (argc == 2 && argv[1][0] == '-')) {
+        fprintf(stderr, "usage: panel [TRACE]\n");
+        return 2;
+    }
+    size_t length;
+    if (argc == 2) {
+        length = read_trace(argv[1]);
+    } else {
+        length = sizeof own_trace;
+        memcpy(trace, own_trace, length);
+    }
+    static c64x_called started;
+    started = c64x_fresh(l1d, sizeof l1d, l2, sizeof l2, ext, sizeof ext);
+    if (started.number != 0) {
+        fprintf(stderr, "panel: %s\n", WORD(refusals, started.number));
+        return 1;
+    }
+    static c64x_ran run;
+    run = c64x_run(started.record, trace, length, l1d, sizeof l1d, l2, sizeof l2, ext, sizeof ext,
+                   answers, sizeof answers);
+    show_answers(&run);
+    printf("%s after %zu of %zu bytes\n", run.stop == 0 ? "end" : WORD(refusals, run.stop),
+           run.consumed, length);
+    show_caches(&run.record);
+    show_behind(&run.record);
+    return run.stop == 0 ? 0 : 1;
+}
