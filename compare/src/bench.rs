@@ -67,7 +67,8 @@ fn input_of(rng: &mut Rng, number: usize) -> Vec<u8> {
 }
 
 fn one(program: &Path, input: &[u8], expected: &str, piece: usize) -> Result<(), String> {
-    let failed = |what: &str, error: std::io::Error| format!("{}: {what}: {error}", program.display());
+    let failed =
+        |what: &str, error: std::io::Error| format!("{}: {what}: {error}", program.display());
     let mut child = Process::new(program)
         .stdin(Stdio::piped())
         .stdout(Stdio::piped())
@@ -94,7 +95,8 @@ fn one(program: &Path, input: &[u8], expected: &str, piece: usize) -> Result<(),
         return Ok(());
     }
     let ours = String::from_utf8_lossy(&output.stdout);
-    let line = ours.lines().zip(expected.lines()).take_while(|(ours, theirs)| ours == theirs).count();
+    let line =
+        ours.lines().zip(expected.lines()).take_while(|(ours, theirs)| ours == theirs).count();
     Err(format!(
         "bench-trace on {} bytes, line {}: {:?}, expected {:?}\ninput: {}",
         input.len(),

@@ -250,9 +250,7 @@ pub fn view(record: &CRecord, address: u32, l2: &[u8], ext: &[u8], seen: &mut [u
 
 /// The number of the technician's call.
 pub fn view_number(record: &CRecord, address: u32, l2: &[u8], ext: &[u8]) -> u8 {
-    unsafe {
-        c64x_view_number(*record, address, l2.as_ptr(), l2.len(), ext.as_ptr(), ext.len())
-    }
+    unsafe { c64x_view_number(*record, address, l2.as_ptr(), l2.len(), ext.as_ptr(), ext.len()) }
 }
 
 // ------------------------------------------------------------- conversion
@@ -267,12 +265,7 @@ fn l1d_set(set: &L1dSet) -> CL1dSet {
 
 fn l2_set(set: &L2Set) -> CL2Set {
     CL2Set {
-        lines: [
-            line(&set.lines[0]),
-            line(&set.lines[1]),
-            line(&set.lines[2]),
-            line(&set.lines[3]),
-        ],
+        lines: [line(&set.lines[0]), line(&set.lines[1]), line(&set.lines[2]), line(&set.lines[3])],
         order: set.order,
     }
 }

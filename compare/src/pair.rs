@@ -254,11 +254,8 @@ impl Pair<'_> {
     /// The record that came back is the expected one, and takes the place of
     /// the one that went in.
     fn take_record(&mut self, ours: CRecord) -> Result<(), String> {
-        let same = if self.odd {
-            ours == *self.record
-        } else {
-            same_record(&ours, &self.theirs.record)
-        };
+        let same =
+            if self.odd { ours == *self.record } else { same_record(&ours, &self.theirs.record) };
         if !same {
             let expected =
                 if self.odd { self.record.clone() } else { record_of(&self.theirs.record) };

@@ -7,8 +7,8 @@ use oracle::gen::{
     senseless_record, Call, Hot, Mix, Rng, Setup, TraceKind, E_BOTH_RANGES, FAULTS, LEGAL_L,
     LEGAL_MODES, TRACE_KINDS, WRONG_LENGTHS,
 };
-use oracle::geometry::{mode_is_legal, EXTERNAL_BASE};
-use oracle::{Command, Record};
+use oracle::geometry::{mode_is_legal, EXTERNAL_BASE, L2};
+use oracle::{Command, Line, Record};
 
 use crate::pair::{compare, Met, OddByte, OddPlace, Op, Start};
 use crate::shrink::Case;
@@ -141,7 +141,13 @@ fn lists(rng: &mut Rng, group: u64, met: &mut Met) -> Option<Case> {
     let large = e >= E_BOTH_RANGES;
     let mut mix = match group % 5 {
         4 => Mix::ALL,
-        3 => Mix { mode: 1, l2_all: 1, l2_block_writeback: 5, l1d_block_writeback: 5, ..Mix::NO_DROPS },
+        3 => Mix {
+            mode: 1,
+            l2_all: 1,
+            l2_block_writeback: 5,
+            l1d_block_writeback: 5,
+            ..Mix::NO_DROPS
+        },
         _ => Mix { mode: 8, l2_all: 8, ..Mix::NO_DROPS },
     };
     if large {
@@ -231,13 +237,14 @@ fn traces(rng: &mut Rng, group: u64, met: &mut Met) -> Option<Case> {
 // --------------------------------------------------------------- refusals
 
 fn refusals(rng: &mut Rng, group: u64, met: &mut Met) -> Option<Case> {
-    match group % 6 {
-        0 => ill_formed(rng, group / 6, met),
+    match group % 7 {
+        0 => ill_formed(rng, group / 7, met),
         1 => odd_bytes(rng, met),
-        2 => wrong_lengths(rng, group / 6, met),
+        2 => wrong_lengths(rng, group / 7, met),
         3 => senseless(rng, met),
-        4 => edges(rng, group / 6, met),
-        _ => mar_edges(rng, met),
+        4 => edges(rng, group / 7, met),
+        5 => mar_edges(rng, met),
+        _ => changed(rng, met),
     }
 }
 
@@ -377,6 +384,72 @@ fn senseless(rng: &mut Rng, met: &mut Met) -> Option<Case> {
     let fresh_too = rng.chance(1, 2);
     let ops = some_calls(rng, &lines, fresh_too);
     check(plain(setup), ops, met)
+}
+
+/// Well-formed records with a field or two changed, whatever comes of it: both
+/// sides have to agree on which of them are still well formed.
+fn changed(rng: &mut Rng, met: &mut Met) -> Option<Case> {
+    let l = rng.pick(&LEGAL_L);
+    let e = small_e(rng);
+    let mut setup = Setup::random(rng, l, e);
+    for _ in 0..20 {
+        setup.redraw_record(rng);
+        let mut start = plain(setup.clone());
+        for _ in 0..rng.pick(&[1, 1, 1, 2, 3]) {
+            change(rng, &mut start.setup.record);
+        }
+        let lines = hot_for(rng, &start.setup.record);
+        let mut ops = vec![Op::Direct(Command::Read { size: 1, address: EXTERNAL_BASE })];
+        for _ in 0..rng.below(4) {
+            ops.push(Op::Direct(command(rng, &lines, &Mix::ALL)));
+        }
+        ops.push(Op::View { address: look_address(rng, &lines), buffer: 64 });
+        let case = check(start, ops, met);
+        if case.is_some() {
+            return case;
+        }
+    }
+    None
+}
+
+/// Changes one field of a record: more often one that says something.
+fn change(rng: &mut Rng, record: &mut Record) {
+    let near = |rng: &mut Rng, address: u32| match rng.below(8) {
+        0 => address ^ 64,
+        1 => address ^ 128,
+        2 => address.wrapping_add(8_192),
+        3 => address.wrapping_add(65_536),
+        4 => address.wrapping_add(1 << rng.below(32)),
+        5 => address ^ EXTERNAL_BASE,
+        6 => 0,
+        _ => EXTERNAL_BASE.wrapping_add(rng.next_u32() >> rng.below(32)),
+    };
+    let sets = (L2::sets(record.mode) as u32 + 2).min(512);
+    let (l1d, way) = (rng.below(128) as usize, rng.below(2) as usize);
+    let (l2, l2_way) = (rng.below(sets) as usize, rng.below(4) as usize);
+    match rng.below(16) {
+        0 => record.mode = rng.pick(&[0, 1, 2, 3, 4, 5, 6, 7, 8, 255]),
+        1 => record.mar128 = rng.pick(&[0, 1, 2]),
+        2 => record.mar129 = rng.pick(&[0, 1, 255]),
+        3 => record.l1d[l1d].order[way] = rng.below(3) as u8,
+        4 => record.l2[l2].order[l2_way] = rng.below(5) as u8,
+        5 => record.l2[l2].order.swap(0, l2_way),
+        6 => record.l1d[l1d].lines.swap(0, 1),
+        7 => record.l2[l2].lines.swap(0, l2_way),
+        8 => record.l1d[l1d].lines[way] = Line::EMPTY,
+        9 | 10 => record.l2[l2].lines[l2_way] = Line::EMPTY,
+        11 => record.l1d[l1d].lines[way].valid ^= true,
+        12 => record.l2[l2].lines[l2_way].valid ^= true,
+        13 => record.l1d[l1d].lines[way].dirty ^= true,
+        14 => {
+            let address = record.l1d[l1d].lines[way].address;
+            record.l1d[l1d].lines[way].address = near(rng, address);
+        }
+        _ => {
+            let address = record.l2[l2].lines[l2_way].address;
+            record.l2[l2].lines[l2_way].address = near(rng, address);
+        }
+    }
 }
 
 /// Numbers 3 to 8 at their edges, and several due at once.

@@ -27,6 +27,7 @@ pub fn shrink(case: Case) -> Case {
     // Nothing after the difference matters.
     let kept = shrinker.case.ops[..=shrinker.case.difference.op].to_vec();
     shrinker.try_ops(kept);
+    shrinker.clear_memories();
     loop {
         let before = shrinker.size();
         shrinker.drop_ops();
@@ -67,6 +68,16 @@ impl Shrinker {
 
     fn try_ops(&mut self, ops: Vec<Op>) -> bool {
         self.try_case(self.case.start.clone(), ops)
+    }
+
+    /// Makes the bytes of each memory 0.
+    fn clear_memories(&mut self) {
+        for memory in 0..3 {
+            let mut start = self.case.start.clone();
+            let setup = &mut start.setup;
+            [&mut setup.l1d, &mut setup.l2, &mut setup.ext][memory].fill(0);
+            self.try_case(start, self.case.ops.clone());
+        }
     }
 
     /// Leaves out parts of the list, long ones first.
@@ -143,9 +154,7 @@ fn trace_of(op: &Op) -> Option<&[u8]> {
 
 fn with_trace(op: &Op, trace: Vec<u8>) -> Op {
     match *op {
-        Op::RunAndSingleCalls { answer_bytes, .. } => {
-            Op::RunAndSingleCalls { trace, answer_bytes }
-        }
+        Op::RunAndSingleCalls { answer_bytes, .. } => Op::RunAndSingleCalls { trace, answer_bytes },
         Op::Run { answer_bytes, .. } => Op::Run { trace, answer_bytes },
         ref other => other.clone(),
     }
