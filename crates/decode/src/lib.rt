@@ -57,7 +57,7 @@ pub fn next_command(trace: &[u8], at: usize) -> Decoded
     if count == 4 {
         return DAMAGED;
     }
-    let first = numbers::number32_at(trace, at + 1);
+    let first = numbers::number_at(trace, at + 1, 4, 16);
     if first.ok {} else {
         return DAMAGED;
     }
@@ -66,14 +66,14 @@ pub fn next_command(trace: &[u8], at: usize) -> Decoded
             ok: true,
             command: Command {
                 code: code,
-                first: first.value,
+                first: first.value as u32,
                 second: 0,
                 value: 0,
             },
             used: 1 + first.used,
         };
     }
-    let second = numbers::number32_at(trace, at + 1 + first.used);
+    let second = numbers::number_at(trace, at + 1 + first.used, 4, 16);
     if second.ok {} else {
         return DAMAGED;
     }
@@ -82,14 +82,14 @@ pub fn next_command(trace: &[u8], at: usize) -> Decoded
             ok: true,
             command: Command {
                 code: code,
-                first: first.value,
-                second: second.value,
+                first: first.value as u32,
+                second: second.value as u32,
                 value: 0,
             },
             used: 1 + first.used + second.used,
         };
     }
-    let value = numbers::number64_at(trace, at + 1 + first.used + second.used);
+    let value = numbers::number_at(trace, at + 1 + first.used + second.used, 9, 2);
     if value.ok {} else {
         return DAMAGED;
     }
@@ -97,8 +97,8 @@ pub fn next_command(trace: &[u8], at: usize) -> Decoded
         ok: true,
         command: Command {
             code: code,
-            first: first.value,
-            second: second.value,
+            first: first.value as u32,
+            second: second.value as u32,
             value: value.value,
         },
         used: 1 + first.used + second.used + value.used,

@@ -10,7 +10,7 @@ use native.Mathlib.Nat.{mul-add, mul-assoc, mul-comm, mul-one, add-assoc, pow-su
 use lib.ListN.{length, getD, drop, drop-of-length-le, length-drop}
 use lib.Seq.{drop-cons}
 use lib.Dec.{ltb, eqb}
-use borrow.Author.Tests.{lt-ltb, le-ltb, ne-eqb}
+use borrow.Author.Tests.{ltb-true, lt-ltb, le-ltb, ne-eqb}
 use Rattle.model.specs.Basics.{pick, both, bool, false-true}
 use Rattle.model.specs.Trace.{Number, number, noNumber, groups, moreGroups, numberBelow}
 
@@ -141,6 +141,28 @@ number-within limit t p a e o = rw e (go (rw e at o))
     go = bool (both (groups (drop p t) .ok) (ltb (groups (drop p t) .value) limit))
         (λ q. rw q (λ o. let w = groups-within (drop p t) o in let l = length-drop p t in (omega arith, omega arith)))
         (λ q. rw q (λ o. false-true o))
+
+-- and it is below the limit
+pub number-small : (limit : ℕ) (t : List ℕ) (p : ℕ) (a : Number) → a ≡ numberBelow limit (drop p t) → a .ok ≡ true → a .value < limit
+unfolding numberBelow
+number-small limit t p a e o = rw e (go (rw e at o))
+  where
+    go : pick (both (groups (drop p t) .ok) (ltb (groups (drop p t) .value) limit)) (groups (drop p t)) noNumber .ok ≡ true →
+        pick (both (groups (drop p t) .ok) (ltb (groups (drop p t) .value) limit)) (groups (drop p t)) noNumber .value < limit
+    go = bool (groups (drop p t) .ok)
+        (λ q. bool (ltb (groups (drop p t) .value) limit) (λ l. rw (q, l) (λ _. ltb-true (groups (drop p t) .value) limit l)) (λ l. rw (q, l) (λ o. false-true o)))
+        (λ q. rw q (λ o. false-true o))
+
+-- ---- what the widths have in common: a limit of m * 128 ^ k leaves room for the groups before the last
+module _ (k m : ℕ) (one : 1 ≤ k) (two : 2 ≤ m) where
+  pub room-byte : 128 ≤ m * 128 ^ k
+  room-byte =
+      let p : 128 ^ 1 ≤ 128 ^ k = pow-le-pow-right (omega arith) one in
+      let q : 2 * 128 ^ k ≤ m * 128 ^ k = mul-le-mul-right (128 ^ k) two in
+      omega arith
+
+  pub room-groups : 2 * 128 ^ k ≤ m * 128 ^ k
+  room-groups = mul-le-mul-right (128 ^ k) two
 
 -- ---- the loop: i groups are read, each with its top bit set; they have the value v, and s is the weight of the next group
 pub record Reading (t : List ℕ) (at k v s i : ℕ) : Type 0 where

@@ -1,101 +1,35 @@
-// Numbers of a trace (paper 01, "Trace"): groups of seven bits, low group first, top bit set on all but the last, shortest form only. One function for
-// each width, each with the number of one byte first.
+// Numbers of a trace (paper 01, "Trace"): groups of seven bits, low group first, top bit set on all but the last, shortest form only.
 ghost use mathlib.Core.Path.{_≡_};
+ghost use Prim.Native.Nat.{_*_, _^_, _≤_};
 ghost use lib.ListN.{drop};
-ghost use Rattle.model.specs.Trace.{number32, number64};
-ghost use Rattle.numbers.specs.Told.{told32, told64};
+ghost use Rattle.model.specs.Trace.{numberBelow};
+ghost use Rattle.numbers.specs.Told.{told};
 
-// A number of 32 bits at a place of a trace, and how many bytes it takes; not ok where there is none.
-pub struct Number32 {
-    pub ok: bool,
-    pub value: u32,
-    pub used: usize,
-}
-
-const NO_NUMBER32: Number32 = Number32 {
-    ok: false,
-    value: 0,
-    used: 0,
-};
-
-// A number of 64 bits.
-pub struct Number64 {
+// A number at a place of a trace, and how many bytes it takes; not ok where there is none.
+pub struct Number {
     pub ok: bool,
     pub value: u64,
     pub used: usize,
 }
 
-const NO_NUMBER64: Number64 = Number64 {
+const NO_NUMBER: Number = Number {
     ok: false,
     value: 0,
     used: 0,
 };
 
-// Four groups hold 28 bits, so that a fifth has four bits left.
-pub fn number32_at(trace: &[u8], at: usize) -> Number32
-    ensures { λ r. ⌜ told32 r ≡ number32 (drop at (now (trace .entry))) ⌝ }
+// A number below top × 128 to the power of `full`: so many groups may have any bits, and one behind them stays below `top`. 32 bits are four groups and
+// four bits (4, 16), 64 bits nine and one (9, 2). The number of one byte comes first, as most are.
+pub fn number_at(trace: &[u8], at: usize, full: usize, top: u64) -> Number
+    requires { ⌜ (1 ≤ full) × ((2 ≤ top) × ((top ≤ 128) × (top * 128 ^ full ≤ 18446744073709551616))) ⌝ }
+    ensures { λ r. ⌜ told r ≡ numberBelow (top * 128 ^ full) (drop at (now (trace .entry))) ⌝ }
 {
     if trace.len() <= at {
-        return NO_NUMBER32;
-    }
-    let first = trace[at] as u32;
-    if first < 128 {
-        return Number32 {
-            ok: true,
-            value: first,
-            used: 1,
-        };
-    }
-    let left = trace.len() - at;
-    let mut value: u32 = first - 128;
-    let mut weight: u32 = 128;
-    let mut i: usize = 1;
-    while i < 4 {
-        if left <= i {
-            return NO_NUMBER32;
-        }
-        let group = trace[at + i] as u32;
-        if group < 128 {
-            if group == 0 {
-                return NO_NUMBER32;
-            }
-            return Number32 {
-                ok: true,
-                value: value + group * weight,
-                used: i + 1,
-            };
-        }
-        value = value + (group - 128) * weight;
-        weight = weight * 128;
-        i += 1;
-    }
-    if left <= i {
-        return NO_NUMBER32;
-    }
-    let fifth = trace[at + i] as u32;
-    if fifth == 0 {
-        return NO_NUMBER32;
-    }
-    if 16 <= fifth {
-        return NO_NUMBER32;
-    }
-    Number32 {
-        ok: true,
-        value: value + fifth * weight,
-        used: i + 1,
-    }
-}
-
-// Nine groups hold 63 bits, so that a tenth has one bit left.
-pub fn number64_at(trace: &[u8], at: usize) -> Number64
-    ensures { λ r. ⌜ told64 r ≡ number64 (drop at (now (trace .entry))) ⌝ }
-{
-    if trace.len() <= at {
-        return NO_NUMBER64;
+        return NO_NUMBER;
     }
     let first = trace[at] as u64;
     if first < 128 {
-        return Number64 {
+        return Number {
             ok: true,
             value: first,
             used: 1,
@@ -105,16 +39,16 @@ pub fn number64_at(trace: &[u8], at: usize) -> Number64
     let mut value: u64 = first - 128;
     let mut weight: u64 = 128;
     let mut i: usize = 1;
-    while i < 9 {
+    while i < full {
         if left <= i {
-            return NO_NUMBER64;
+            return NO_NUMBER;
         }
         let group = trace[at + i] as u64;
         if group < 128 {
             if group == 0 {
-                return NO_NUMBER64;
+                return NO_NUMBER;
             }
-            return Number64 {
+            return Number {
                 ok: true,
                 value: value + group * weight,
                 used: i + 1,
@@ -125,18 +59,18 @@ pub fn number64_at(trace: &[u8], at: usize) -> Number64
         i += 1;
     }
     if left <= i {
-        return NO_NUMBER64;
+        return NO_NUMBER;
     }
-    let tenth = trace[at + i] as u64;
-    if tenth == 0 {
-        return NO_NUMBER64;
+    let last = trace[at + i] as u64;
+    if last == 0 {
+        return NO_NUMBER;
     }
-    if 2 <= tenth {
-        return NO_NUMBER64;
+    if top <= last {
+        return NO_NUMBER;
     }
-    Number64 {
+    Number {
         ok: true,
-        value: value + tenth * weight,
+        value: value + last * weight,
         used: i + 1,
     }
 }
