@@ -54,6 +54,23 @@ sets-append : (l : List ℕ) (a : ℕ) (xs ys : List ℕ) → sets (sets l a xs)
 sets-append l a [] ys = let e : a + length {A = ℕ} [] ≡ a = omega arith in rw e refl
 sets-append l a (x ∷ xs) ys = let e : a + suc (length xs) ≡ suc a + length xs = omega arith in rw e (sets-append (set l a x) (suc a) xs ys)
 
+-- bytes stored one behind the other
+stored-append : (m : List ℕ) (a : ℕ) (xs ys : List ℕ) → a + (length xs + length ys) ≤ length m →
+    stored (stored m a xs) (a + length xs) ys ≡ stored m a (xs ++ ys)
+stored-append m a xs ys h =
+    let l = length-stored m xs a in let n : length (xs ++ ys) ≡ length xs + length ys = length-append xs ys in
+    stored-sets (stored m a xs) (a + length xs) ys (omega arith)
+    ∙ ap (λ (r : List ℕ). sets r (a + length xs) ys) (stored-sets m a xs (omega arith))
+    ∙ sets-append m a xs ys
+    ∙ sym (stored-sets m a (xs ++ ys) (omega arith))
+
+-- a line moved as its two parts
+pub moved-both : (m l : List ℕ) (a b j k : ℕ) → a + (j + k) ≤ length m → b + (j + k) ≤ length l →
+    stored (stored m a (part l b j)) (a + j) (part l (b + j) k) ≡ stored m a (part l b (j + k))
+moved-both m l a b j k h g =
+    let n = length-part l b j (omega arith) in let n′ = length-part l (b + j) k (omega arith) in
+    (rw n at (stored-append m a (part l b j) (part l (b + j) k) (omega arith))) ∙ ap (stored m a) (sym (part-append l b j k g))
+
 bytes-append : (v j k : ℕ) → littleBytes v (j + k) ≡ littleBytes v j ++ littleBytes (v / power j) k
 unfolding littleBytes
 bytes-append v zero k = let e : v / 1 ≡ v = omega arith in let f : zero + k ≡ k = omega arith in rw (e, f) refl
@@ -68,15 +85,8 @@ store-one m a v h = sym (stored-sets m a (v % 256 ∷ []) h)
 pub store-both : (m : List ℕ) (a v j k : ℕ) → a + (j + k) ≤ length m →
     stored (stored m a (littleBytes v j)) (a + j) (littleBytes (v / power j) k) ≡ stored m a (littleBytes v (j + k))
 store-both m a v j k h =
-    let n = length-littleBytes v j in let n′ = length-littleBytes (v / power j) k in let n″ = length-littleBytes v (j + k) in
-    let l = length-stored m (littleBytes v j) a in
-    let s₁ : stored m a (littleBytes v j) ≡ sets m a (littleBytes v j) = stored-sets m a (littleBytes v j) (omega arith) in
-    let s₂ : stored (stored m a (littleBytes v j)) (a + j) (littleBytes (v / power j) k) ≡ sets (stored m a (littleBytes v j)) (a + j) (littleBytes (v / power j) k)
-    = stored-sets (stored m a (littleBytes v j)) (a + j) (littleBytes (v / power j) k) (omega arith) in
-    let s₃ : stored m a (littleBytes v (j + k)) ≡ sets m a (littleBytes v (j + k)) = stored-sets m a (littleBytes v (j + k)) (omega arith) in
-    let p : sets (sets m a (littleBytes v j)) (a + j) (littleBytes (v / power j) k) ≡ sets m a (littleBytes v j ++ littleBytes (v / power j) k)
-    = rw n at (sets-append m a (littleBytes v j) (littleBytes (v / power j) k)) in
-    s₂ ∙ ap (λ (r : List ℕ). sets r (a + j) (littleBytes (v / power j) k)) s₁ ∙ p ∙ sym (s₃ ∙ ap (sets m a) (bytes-append v j k))
+    let n = length-littleBytes v j in let n′ = length-littleBytes (v / power j) k in
+    (rw n at (stored-append m a (littleBytes v j) (littleBytes (v / power j) k) (omega arith))) ∙ ap (stored m a) (sym (bytes-append v j k))
 
 -- ---- the widths
 -- where the bytes do not lie in the memory

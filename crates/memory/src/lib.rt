@@ -44,30 +44,6 @@ pub fn store64(dst: &mut [u8], t: [u8; 64])
     }
 }
 
-pub fn load128(src: &[u8]) -> [u8; 128]
-    requires { ⌜ 128 ≤ length (now src) ⌝ }
-    ensures { λ t. ⌜ t ≡ take 128 (now (src .entry)) ⌝ }
-{
-    let mut t = [0u8; 128];
-    let mut i: usize = 0;
-    while i < 128 {
-        t[i] = src[i];
-        i += 1;
-    }
-    t
-}
-
-pub fn store128(dst: &mut [u8], t: [u8; 128])
-    requires { ⌜ 128 ≤ length (now dst) ⌝ }
-    ensures { λ _. ⌜ now (dst .exit) ≡ copied (now (dst .entry)) t 128 ⌝ }
-{
-    let mut i: usize = 0;
-    while i < 128 {
-        dst[i] = t[i];
-        i += 1;
-    }
-}
-
 // An L1D line: the source is handed on as a part that starts in the middle, the place it goes to is lent likewise.
 pub fn move64(dst: &mut [u8], a: usize, src: &[u8], b: usize)
     ensures { λ _. ⌜ now (dst .exit) ≡ stored (now (dst .entry)) a (part (now (src .entry)) b 64) ⌝ }
@@ -82,7 +58,7 @@ pub fn move64(dst: &mut [u8], a: usize, src: &[u8], b: usize)
     store64(&mut dst[a..], t);
 }
 
-// An L2 line.
+// An L2 line, as its two halves.
 pub fn move128(dst: &mut [u8], a: usize, src: &[u8], b: usize)
     ensures { λ _. ⌜ now (dst .exit) ≡ stored (now (dst .entry)) a (part (now (src .entry)) b 128) ⌝ }
 {
@@ -92,8 +68,8 @@ pub fn move128(dst: &mut [u8], a: usize, src: &[u8], b: usize)
     if !fits(a, 128, dst.len()) {
         return;
     }
-    let t = load128(&src[b..]);
-    store128(&mut dst[a..], t);
+    move64(dst, a, src, b);
+    move64(dst, a + 64, src, b + 64);
 }
 
 // ---- values of 1, 2, 4 and 8 bytes, low byte first: each width from two of the next smaller
