@@ -31,27 +31,30 @@ element-copy-out-l2-line-ok-4 c = search needs
 l2-line-ok-requires-4 : tie.Need-l2-line-ok-requires-4
 l2-line-ok-requires-4 c κs = search needs
 
-permuted-4-requires : tie.Need-permuted-4-requires
-permuted-4-requires c κs = search needs
-
 none-twice-requires : tie.Need-none-twice-requires
 none-twice-requires c κs = search needs
 
+permuted-4-requires : tie.Need-permuted-4-requires
+permuted-4-requires c κs = search needs
+
+four-long : (start : tie.Start) → length (start .args .t1 .lines) ≡ 4
+four-long start = search unmapped
+
 returns : tie.Need-returns
 returns c =
-    let start = c .before .before .before .before .before .before .before .before .before .before .before .before .before .before .before in
-    let n : length (start .args .t1 .lines) ≡ 4 = search unmapped in
-    let p-permuted-4 = c .before in
-    let p-l2-line-ok4 = p-permuted-4 .before .before .before .before .before .before in
+    let p-none-twice = c .before in
+    let p-l2-line-ok4 = p-none-twice .before .before in
     let p-l2-line-ok3 = p-l2-line-ok4 .before .before in
     let p-l2-line-ok2 = p-l2-line-ok3 .before .before in
-    let p-l2-line-ok = p-l2-line-ok2 .before .before in (
-      l2-set-joined (start .args .sets) (start .args .end) (start .args .mar128) (start .args .mar129) (start .args .t) (start .args .t1)
+    let p-l2-line-ok = p-l2-line-ok2 .before .before in
+    let start = p-l2-line-ok .before .before in
+    let a = start .args in (
+      l2-set-joined (a .sets) (a .end) (a .mar128) (a .mar129) (a .t) (a .t1)
           (p-l2-line-ok .l2-line-ok .result) (p-l2-line-ok2 .l2-line-ok2 .result) (p-l2-line-ok3 .l2-line-ok3 .result)
-          (p-l2-line-ok4 .l2-line-ok4 .result) (c .none-twice .result) (p-permuted-4 .permuted-4 .result)
+          (p-l2-line-ok4 .l2-line-ok4 .result) (p-none-twice .none-twice .result) (c .permuted-4 .result)
           (p-l2-line-ok .l2-line-ok .ensures) (p-l2-line-ok2 .l2-line-ok2 .ensures) (p-l2-line-ok3 .l2-line-ok3 .ensures)
-          (p-l2-line-ok4 .l2-line-ok4 .ensures) (c .none-twice .ensures) (p-permuted-4 .permuted-4 .ensures),
-      n,
+          (p-l2-line-ok4 .l2-line-ok4 .ensures) (p-none-twice .none-twice .ensures) (c .permuted-4 .ensures),
+      four-long start,
     )
 
 pub l2-set-ok-spec : {M : Type 1} → statement M
@@ -66,6 +69,6 @@ l2-set-ok-spec =
     l2-line-ok-requires-3
     element-copy-out-l2-line-ok-4
     l2-line-ok-requires-4
-    permuted-4-requires
     none-twice-requires
+    permuted-4-requires
     returns)
