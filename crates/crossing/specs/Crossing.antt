@@ -3,8 +3,8 @@
 -- well formed, so every call on it is refused with 2, unless a lent length is illegal or unlike the record's, which is 1. As with every refusal, it comes
 -- back as given and no lent byte changes.
 use Prim.Native.Nat.{ℕ}
-use mathlib.Core.Bool.{Bool, true, false}
-use mathlib.Core.List.{List, [], _∷_}
+use mathlib.Core.Bool.{Bool}
+use mathlib.Core.List.{List}
 use lib.ListN.{length}
 use lib.Dec.{ltb, eqb}
 use Rattle.model.specs.Basics.{pick, both}

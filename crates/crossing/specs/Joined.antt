@@ -1,20 +1,20 @@
 -- The ways through each call, from what the calls in it give.
-use Prim.Native.Nat.{ℕ, zero, suc, _+_, _-_, _≤_, _<_}
+use Prim.Native.Nat.{ℕ, _-_, _≤_, _<_}
 use mathlib.Core.Bool.{Bool, true, false, _&&_}
-use mathlib.Core.List.{List, [], _∷_}
+use mathlib.Core.List.{List}
 use mathlib.Core.Path.{_≡_, refl, sym, ap, _∙_}
 use native.Mathlib.Omega.{arith}
-use lib.ListN.{length, take, drop}
+use lib.ListN.{length}
 use lib.Seq.{take-all}
-use lib.Dec.{ltb, leb, eqb}
+use lib.Dec.{ltb, eqb}
 use borrow.Author.Tests.{eq-eqb, ne-eqb, lt-ltb, le-ltb, ltb-true, ltb-false}
-use Rattle.model.specs.Basics.{pick, both, bool, pick-true, pick-false}
+use Rattle.model.specs.Basics.{bool, pick-true}
 use Rattle.model.specs.Bytes.{part, stored, part-inside, length-part}
 use Rattle.model.specs.Memories.{externalBase, legalL2, legalExternal}
 use Rattle.model.specs.Records.{state}
 use Rattle.model.specs.Access.{memoryPart}
 use Rattle.model.specs.Refusals.{viewDue}
-use Rattle.model.specs.Calls.{Reply, Run, refused, call, freshCall, runCall, viewCall}
+use Rattle.model.specs.Calls.{refused, call, freshCall, runCall, viewCall}
 use Rattle.model.specs.declared.Command.{Command}
 use Rattle.model.specs.declared.Record.{Record}
 use Rattle.sizes.specs.Join.{and-both}
@@ -25,9 +25,8 @@ use Rattle.calls.specs.declared.RunResult.{RunResult}
 use Rattle.layout.specs.Layout.{bitsOnly, recordIn, recordOut}
 use Rattle.layout.specs.Back.{record-back}
 use Rattle.layout.specs.declared.CRecord.{CRecord}
-use Rattle.crossing.specs.Crossing.{CReply, cReply, calledAs, through, givenBack, sizesAlike, unreadDue, commandCall, CRan, cRan, ranAs, ranThrough, runBy, viewNumber, CSeen, seenAs, viewInto}
+use Rattle.crossing.specs.Crossing.{cReply, calledAs, through, givenBack, sizesAlike, unreadDue, commandCall, cRan, ranThrough, runBy, viewNumber, seenAs, viewInto}
 use Rattle.crossing.specs.declared.CCalled.{CCalled}
-use Rattle.crossing.specs.declared.CRun.{CRun}
 
 -- ---- a refused call gives C's record back as it was given
 pub refused-back : (n : ℕ) (c : CRecord) (d m e : List ℕ) → bitsOnly c ≡ true → through (refused n (state (recordIn c) d m e)) ≡ cReply n 0 0 c d m e

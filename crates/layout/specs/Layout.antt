@@ -1,9 +1,8 @@
 -- The record as C holds it, and the record: each field is the same number, and a byte stands for each bool, 0 for false and 1 for true.
 -- Any other byte stands for no bool: a record of C's that has one (`bitsOnly` is false) has no counterpart among the records.
 use Prim.Native.Nat.{ℕ}
-use mathlib.Core.Bool.{Bool, true, false}
-use mathlib.Core.List.{List, [], _∷_, map}
-use lib.ListN.{length}
+use mathlib.Core.Bool.{Bool}
+use mathlib.Core.List.{map}
 use lib.Dec.{ltb, eqb}
 use Rattle.model.specs.Basics.{pick, both, all}
 use Rattle.model.specs.declared.Line.{Line}

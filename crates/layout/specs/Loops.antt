@@ -1,15 +1,16 @@
--- How the loops go: a list of two or four written out, and an array that is filled from the front with what a map makes.
-use Prim.Native.Nat.{ℕ, zero, suc, _+_, _≤_, _<_}
+-- How the loops go: a list of two or four written out, an array that is filled from the front with what a map makes, and one that is tested from the front.
+use Prim.Native.Nat.{ℕ, suc, _+_, _≤_, _<_}
 use mathlib.Core.Bool.{Bool, true, false, _&&_}
 use mathlib.Core.List.{List, [], _∷_, _++_, map, append-nil, map-append}
 use mathlib.Core.Path.{_≡_, refl, sym, ap, _∙_}
 use native.Mathlib.Omega.{arith}
 use native.Mathlib.Numerals.{add-one}
-use lib.ListN.{length, getD, take, drop, set, length-map, length-take, length-append, length-drop, length-set, drop-of-length-le}
+use lib.ListN.{length, getD, take, drop, set, replicate, length-replicate, length-map, length-set, drop-of-length-le}
 use lib.Seq.{drop-cons, set-at, append-snoc, take-suc, take-all, length-take-le}
-use lib.Dec.{ltb, leb, eqb}
-use Rattle.model.specs.Basics.{pick, both, all}
+use lib.Dec.{ltb, eqb}
+use Rattle.model.specs.Basics.{all}
 use Rattle.sizes.specs.Join.{and-both}
+use Rattle.wellformed.specs.Sets.{all-next, all-stop, all-end}
 use Rattle.ways.specs.Ways.{two, four, both-end, both-assoc}
 use Rattle.model.specs.Lines.{emptyLine, l1dGet, l2Get}
 use Rattle.model.specs.declared.Line.{Line}
@@ -41,22 +42,53 @@ module _ {ℓ κ} {A : Type ℓ} {B : Type κ} (f : A → B) (d : A) (xs : List 
   map-four n = sym (ap (map f) (four d xs n))
 
 -- ---- an array filled from the front: the first i are mapped, the rest stands as it was
-abbrev pub filled {ℓ κ} : {A : Type ℓ} {B : Type κ} → (A → B) → List A → List B → ℕ → List B
+abbrev filled {ℓ κ} : {A : Type ℓ} {B : Type κ} → (A → B) → List A → List B → ℕ → List B
 filled f xs ys i = map f (take i xs) ++ drop i ys
 
-module _ {ℓ κ} {A : Type ℓ} {B : Type κ} (f : A → B) (d : A) (e : B) (xs : List A) (ys : List B) (i : ℕ) where
-  pub filled-next : i < length xs → i < length ys → set (filled f xs ys i) i (f (getD xs i d)) ≡ filled f xs ys (i + 1)
-  filled-next h g =
+-- what each of the four loops that convert keeps, after i of n elements
+abbrev pub Filling {ℓ κ} : {A : Type ℓ} {B : Type κ} → (A → B) → ℕ → List A → List B → List B → ℕ → Type κ
+Filling f n xs zs ys i = (i ≤ n) × (length ys ≡ n) × (ys ≡ filled f xs zs i)
+
+pub filling-first {ℓ κ} : {A : Type ℓ} {B : Type κ} (f : A → B) (n : ℕ) (xs : List A) (b : B) → Filling f n xs (replicate n b) (replicate n b) 0
+filling-first f n xs b = (omega arith, length-replicate n b, refl)
+
+module _ {ℓ κ} {A : Type ℓ} {B : Type κ} (f : A → B) (d : A) (e : B) where
+  filled-next : (xs : List A) (ys : List B) (i : ℕ) → i < length xs → i < length ys →
+      set (filled f xs ys i) i (f (getD xs i d)) ≡ filled f xs ys (i + 1)
+  filled-next xs ys i h g =
       ap (λ (r : List B). set (map f (take i xs) ++ r) i (f (getD xs i d))) (drop-cons ys i e g)
       ∙ set-at (map f (take i xs)) (getD ys i e) (drop (suc i) ys) (f (getD xs i d)) i (length-map (take i xs) f ∙ length-take-le i xs (omega arith))
       ∙ sym (append-snoc (map f (take i xs)) (f (getD xs i d)) (drop (suc i) ys))
       ∙ rw (add-one, take-suc xs i d h, map-append f (take i xs) (getD xs i d ∷ [])) refl
 
-  pub filled-all : length xs ≤ i → length ys ≤ i → filled f xs ys i ≡ map f xs
-  filled-all h g = rw (take-all i xs h, drop-of-length-le ys g, append-nil) refl
+  filled-all : (xs : List A) (ys : List B) (i : ℕ) → length xs ≤ i → length ys ≤ i → filled f xs ys i ≡ map f xs
+  filled-all xs ys i h g = rw (take-all i xs h, drop-of-length-le ys g, append-nil) refl
 
-  pub length-filled : i ≤ length xs → i ≤ length ys → length (filled f xs ys i) ≡ length ys
-  length-filled h g = simp (length-append, length-map, length-take, length-drop) (omega arith)
+  module _ (n : ℕ) (xs : List A) (long : length xs ≡ n) (b : B) (ys : List B) (i : ℕ) (h : Filling f n xs (replicate n b) ys i) where
+    pub filling-next : (v : B) → v ≡ f (getD xs i d) → i < n → Filling f n xs (replicate n b) (set ys i v) (i + 1)
+    filling-next v p k =
+        let m = length-replicate n b in
+        (omega arith, simp length-set (h .1), rw (h .2, p) (filled-next xs (replicate n b) i (omega arith) (omega arith)))
+
+    pub filling-last : n ≤ i → ys ≡ map f xs
+    filling-last k = let m = length-replicate n b in h .2 ∙ filled-all xs (replicate n b) i (omega arith) (omega arith)
+
+-- ---- an array tested from the front: what both loops that test keep, after i of n elements
+abbrev pub Passing {ℓ} : {A : Type ℓ} → (A → Bool) → ℕ → List A → ℕ → Type 0
+Passing p n xs i = (i ≤ n) × (all (λ _ x. p x) i (drop i xs) ≡ all (λ _ x. p x) 0 xs)
+
+pub passing-first {ℓ} : {A : Type ℓ} (p : A → Bool) (n : ℕ) (xs : List A) → Passing p n xs 0
+passing-first p n xs = (omega arith, refl)
+
+module _ {ℓ} {A : Type ℓ} (p : A → Bool) (d : A) (n : ℕ) (xs : List A) (long : length xs ≡ n) (i : ℕ) (h : Passing p n xs i) where
+  pub passing-next : i < n → p (getD xs i d) ≡ true → Passing p n xs (i + 1)
+  passing-next k e = (omega arith, sym (all-next (λ _ x. p x) xs i d (omega arith) e) ∙ h .1)
+
+  pub passing-stop : i < n → p (getD xs i d) ≡ false → false ≡ all (λ _ x. p x) 0 xs
+  passing-stop k e = sym (all-stop (λ _ x. p x) xs i d (omega arith) e) ∙ h .1
+
+  pub passing-end : n ≤ i → true ≡ all (λ _ x. p x) 0 xs
+  passing-end k = sym (all-end (λ _ x. p x) xs i d (omega arith)) ∙ h .1
 
 -- ---- the tests, as the code joins them
 pub line-joined : (x : CLine) → (ltb (x .valid) 2 && ltb (x .dirty) 2) ≡ lineBits x
@@ -94,14 +126,6 @@ module _ (c : CRecord) where
       (b : Bool) → b ≡ all (λ _ v. l2SetBits v) 0 (c .l2) → b ≡ bitsOnly c
   unfolding bitsOnly
   bits-l2 e g b h = let f = sym (and-both (ltb (c .mar128) 2) (ltb (c .mar129) 2)) ∙ e in rw (f, g) h
-
--- ---- a turn of a loop that fills, and its end
-module _ {ℓ κ} {A : Type ℓ} {B : Type κ} (f : A → B) (d : A) (e : B) (xs : List A) (zs ys : List B) (i : ℕ) (q : ys ≡ filled f xs zs i) where
-  pub fill-turn : (v : B) → v ≡ f (getD xs i d) → i < length xs → i < length zs → set ys i v ≡ filled f xs zs (i + 1)
-  fill-turn v p h g = rw (q, p) (filled-next f d e xs zs i h g)
-
-  pub fill-end : length xs ≤ i → length zs ≤ i → ys ≡ map f xs
-  fill-end h g = q ∙ filled-all f d e xs zs i h g
 
 -- ---- one line, one set, the record, from the parts that the calls gave
 pub line-out-joined : (x : Line) (p q : ℕ) → p ≡ byteOf (x .valid) → q ≡ byteOf (x .dirty) →

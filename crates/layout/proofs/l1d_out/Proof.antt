@@ -1,78 +1,70 @@
+-- `layout::l1d_out` meets its contract: after each turn the sets passed so far are converted, so that at the end all are. Assumes nothing.
 use Rattle.model.specs.Records.{noL1dSet}
-use Rattle.layout.specs.Loops.{fill-turn, fill-end, noCL1dSet}
-use lib.ListN.{length-replicate, length-set, replicate}
-use Rattle.layout.specs.Loops.{filled, filled-next, filled-all, length-filled}
+use Rattle.layout.specs.Loops.{Filling, filling-first, filling-next, filling-last, noCL1dSet}
 use Rattle.layout.specs.Layout.{l1dSetOut}
 use native.Mathlib.Omega.{arith}
-use lib.ListN.{length, drop, getD, take}
-use mathlib.Core.Path.{_≡_, refl, sym, ap, _∙_}
-use Prim.Native.Nat.{ℕ, _≤_, _-_}
+use lib.ListN.{length}
+use mathlib.Core.Path.{_≡_}
+use Prim.Native.Nat.{_-_}
 use borrow.Author.Needs.{needs}
 use Rattle.layout.proofs.l1d_out.Statement.{statement}
 use Rattle.layout.proofs.l1d_out.Tie as tie
-use Rattle.layout.proofs.l1d_out.Reads as reads
-use Rattle.layout.proofs.l1d_out.Lts as lts
-use Rattle.layout.proofs.l1d_set_out.Reads as l1d-set-out-reads
 
 abbrev Inv-loop : tie.InvT-loop
-Inv-loop xs ys₀ s₀ ys s = (s ≤ 128) × (length ys ≡ 128) × (ys ≡ filled l1dSetOut xs ys₀ s)
+Inv-loop xs ys₀ s₀ ys s = Filling l1dSetOut 128 xs ys₀ ys s
 
 abbrev μ-loop : tie.MeasureT-loop
 μ-loop xs ys₀ s₀ ys s = 128 - s
 
--- src/lib.rt:247:29
+-- the array has its length
+long : (start : tie.Start Inv-loop μ-loop) → length (start .args .t1) ≡ 128
+long start = search needs
+
 array-copy-out-l1d-set-out : tie.Need-array-copy-out-l1d-set-out Inv-loop μ-loop
 array-copy-out-l1d-set-out c = search needs
 
--- src/lib.rt:247:9
 l1d-set-out-requires : tie.Need-l1d-set-out-requires Inv-loop μ-loop
 l1d-set-out-requires c κs = search needs
 
--- src/lib.rt:249:5
 loop-holds : tie.Need-loop-holds Inv-loop μ-loop
-loop-holds c = (search needs, length-replicate 128 (c .l1d-set-out .result), refl)
+loop-holds c = filling-first l1dSetOut 128 (c .before .before .args .t1) (c .l1d-set-out .result)
 
--- src/lib.rt:250:29
 mul-l1d-set-out : tie.Need-mul-l1d-set-out Inv-loop μ-loop
 mul-l1d-set-out c = search needs
 
--- src/lib.rt:250:29
 array-copy-out-l1d-set-out-2 : tie.Need-array-copy-out-l1d-set-out-2 Inv-loop μ-loop
 array-copy-out-l1d-set-out-2 c = search needs
 
--- src/lib.rt:250:13
 l1d-set-out-requires-2 : tie.Need-l1d-set-out-requires-2 Inv-loop μ-loop
 l1d-set-out-requires-2 c κs = search needs
 
--- src/lib.rt:251:9
 mul-ys : tie.Need-mul-ys Inv-loop μ-loop
 mul-ys c = search needs
 
--- src/lib.rt:251:9
 array-set-from-ys : tie.Need-array-set-from-ys Inv-loop μ-loop
 array-set-from-ys c = search needs
 
--- src/lib.rt:249:9
 add-s : tie.Need-add-s Inv-loop μ-loop
 add-s c = search needs
 
--- src/lib.rt:249:5
 loop-less : tie.Need-loop-less Inv-loop μ-loop
 loop-less c = search needs
 
--- src/lib.rt:249:5
 loop-again : tie.Need-loop-again Inv-loop μ-loop
 loop-again c =
-    let start = c .before .before .before .before .before .before in let n : length (c .before .before .before .before .before .before .args .t1) ≡ 128 = search needs in
-    let m : length (replicate 128 (c .before .before .before .before .l1d-set-out .result)) ≡ 128 = length-replicate 128 (c .before .before .before .before .l1d-set-out .result) in
-    (omega arith, simp length-set (c .before .before .before .loop .inv .1), fill-turn l1dSetOut noL1dSet noCL1dSet (c .before .before .before .before .before .before .args .t1) (replicate 128 (c .before .before .before .before .l1d-set-out .result)) (c .before .before .before .loop .ys) (c .before .before .before .loop .s) (c .before .before .before .loop .inv .2) (c .l1d-set-out2 .result) (c .l1d-set-out2 .ensures) (omega arith) (omega arith))
+    let p-loop = c .before .before .before in
+    let p-first = p-loop .before in
+    let start = p-first .before .before in
+    filling-next l1dSetOut noL1dSet noCL1dSet 128 (start .args .t1) (long start) (p-first .l1d-set-out .result) (p-loop .loop .ys) (p-loop .loop .s)
+    (p-loop .loop .inv) (c .l1d-set-out2 .result) (c .l1d-set-out2 .ensures) (omega arith)
 
--- src/lib.rt:244:1
 returns : tie.Need-returns Inv-loop μ-loop
 returns c =
-    let start = c .before .before .before .before in let n : length (c .before .before .before .before .args .t1) ≡ 128 = search needs in
-    let m : length (replicate 128 (c .before .before .l1d-set-out .result)) ≡ 128 = length-replicate 128 (c .before .before .l1d-set-out .result) in
-    fill-end l1dSetOut noL1dSet noCL1dSet (c .before .before .before .before .args .t1) (replicate 128 (c .before .before .l1d-set-out .result)) (c .before .loop .ys) (c .before .loop .s) (c .before .loop .inv .2) (omega arith) (omega arith)
+    let p-loop = c .before in
+    let p-first = p-loop .before in
+    let start = p-first .before .before in
+    filling-last l1dSetOut noL1dSet noCL1dSet 128 (start .args .t1) (long start) (p-first .l1d-set-out .result) (p-loop .loop .ys) (p-loop .loop .s)
+    (p-loop .loop .inv) (omega arith)
 
 pub l1d-out-spec : {M : Type 1} → statement M
 l1d-out-spec =

@@ -1,78 +1,70 @@
+-- `layout::l2_in` meets its contract: after each turn the sets passed so far are converted, so that at the end all are. Assumes nothing.
 use Rattle.model.specs.Records.{noL2Set}
-use Rattle.layout.specs.Loops.{fill-turn, fill-end, noCL2Set}
-use lib.ListN.{length-replicate, length-set, replicate}
-use Rattle.layout.specs.Loops.{filled, filled-next, filled-all, length-filled}
+use Rattle.layout.specs.Loops.{Filling, filling-first, filling-next, filling-last, noCL2Set}
 use Rattle.layout.specs.Layout.{l2SetIn}
 use native.Mathlib.Omega.{arith}
-use lib.ListN.{length, drop, getD, take}
-use mathlib.Core.Path.{_≡_, refl, sym, ap, _∙_}
-use Prim.Native.Nat.{ℕ, _≤_, _-_}
+use lib.ListN.{length}
+use mathlib.Core.Path.{_≡_}
+use Prim.Native.Nat.{_-_}
 use borrow.Author.Needs.{needs}
 use Rattle.layout.proofs.l2_in.Statement.{statement}
 use Rattle.layout.proofs.l2_in.Tie as tie
-use Rattle.layout.proofs.l2_in.Reads as reads
-use Rattle.layout.proofs.l2_in.Lts as lts
-use Rattle.layout.proofs.l2_set_in.Reads as l2-set-in-reads
 
 abbrev Inv-loop : tie.InvT-loop
-Inv-loop xs ys₀ t₀ ys t = (t ≤ 512) × (length ys ≡ 512) × (ys ≡ filled l2SetIn xs ys₀ t)
+Inv-loop xs ys₀ t₀ ys t = Filling l2SetIn 512 xs ys₀ ys t
 
 abbrev μ-loop : tie.MeasureT-loop
 μ-loop xs ys₀ t₀ ys t = 512 - t
 
--- src/lib.rt:170:27
+-- the array has its length
+long : (start : tie.Start Inv-loop μ-loop) → length (start .args .t1) ≡ 512
+long start = search needs
+
 array-copy-out-l2-set-in : tie.Need-array-copy-out-l2-set-in Inv-loop μ-loop
 array-copy-out-l2-set-in c = search needs
 
--- src/lib.rt:170:9
 l2-set-in-requires : tie.Need-l2-set-in-requires Inv-loop μ-loop
 l2-set-in-requires c κs = search needs
 
--- src/lib.rt:172:5
 loop-holds : tie.Need-loop-holds Inv-loop μ-loop
-loop-holds c = (search needs, length-replicate 512 (c .l2-set-in .result), refl)
+loop-holds c = filling-first l2SetIn 512 (c .before .before .args .t1) (c .l2-set-in .result)
 
--- src/lib.rt:173:27
 mul-l2-set-in : tie.Need-mul-l2-set-in Inv-loop μ-loop
 mul-l2-set-in c = search needs
 
--- src/lib.rt:173:27
 array-copy-out-l2-set-in-2 : tie.Need-array-copy-out-l2-set-in-2 Inv-loop μ-loop
 array-copy-out-l2-set-in-2 c = search needs
 
--- src/lib.rt:173:13
 l2-set-in-requires-2 : tie.Need-l2-set-in-requires-2 Inv-loop μ-loop
 l2-set-in-requires-2 c κs = search needs
 
--- src/lib.rt:174:9
 mul-ys : tie.Need-mul-ys Inv-loop μ-loop
 mul-ys c = search needs
 
--- src/lib.rt:174:9
 array-set-from-ys : tie.Need-array-set-from-ys Inv-loop μ-loop
 array-set-from-ys c = search needs
 
--- src/lib.rt:172:9
 add-t : tie.Need-add-t Inv-loop μ-loop
 add-t c = search needs
 
--- src/lib.rt:172:5
 loop-less : tie.Need-loop-less Inv-loop μ-loop
 loop-less c = search needs
 
--- src/lib.rt:172:5
 loop-again : tie.Need-loop-again Inv-loop μ-loop
 loop-again c =
-    let start = c .before .before .before .before .before .before in let n : length (c .before .before .before .before .before .before .args .t1) ≡ 512 = search needs in
-    let m : length (replicate 512 (c .before .before .before .before .l2-set-in .result)) ≡ 512 = length-replicate 512 (c .before .before .before .before .l2-set-in .result) in
-    (omega arith, simp length-set (c .before .before .before .loop .inv .1), fill-turn l2SetIn noCL2Set noL2Set (c .before .before .before .before .before .before .args .t1) (replicate 512 (c .before .before .before .before .l2-set-in .result)) (c .before .before .before .loop .ys) (c .before .before .before .loop .t) (c .before .before .before .loop .inv .2) (c .l2-set-in2 .result) (c .l2-set-in2 .ensures) (omega arith) (omega arith))
+    let p-loop = c .before .before .before in
+    let p-first = p-loop .before in
+    let start = p-first .before .before in
+    filling-next l2SetIn noCL2Set noL2Set 512 (start .args .t1) (long start) (p-first .l2-set-in .result) (p-loop .loop .ys) (p-loop .loop .t)
+    (p-loop .loop .inv) (c .l2-set-in2 .result) (c .l2-set-in2 .ensures) (omega arith)
 
--- src/lib.rt:167:1
 returns : tie.Need-returns Inv-loop μ-loop
 returns c =
-    let start = c .before .before .before .before in let n : length (c .before .before .before .before .args .t1) ≡ 512 = search needs in
-    let m : length (replicate 512 (c .before .before .l2-set-in .result)) ≡ 512 = length-replicate 512 (c .before .before .l2-set-in .result) in
-    fill-end l2SetIn noCL2Set noL2Set (c .before .before .before .before .args .t1) (replicate 512 (c .before .before .l2-set-in .result)) (c .before .loop .ys) (c .before .loop .t) (c .before .loop .inv .2) (omega arith) (omega arith)
+    let p-loop = c .before in
+    let p-first = p-loop .before in
+    let start = p-first .before .before in
+    filling-last l2SetIn noCL2Set noL2Set 512 (start .args .t1) (long start) (p-first .l2-set-in .result) (p-loop .loop .ys) (p-loop .loop .t)
+    (p-loop .loop .inv) (omega arith)
 
 pub l2-in-spec : {M : Type 1} → statement M
 l2-in-spec =

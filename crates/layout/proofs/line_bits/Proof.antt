@@ -1,10 +1,8 @@
+-- `layout::line_bits` meets its contract: the code joins the two tests by `&`, the definition by `both`. Assumes nothing.
 use Rattle.layout.specs.Loops.{line-joined}
 use Rattle.layout.proofs.line_bits.Statement.{statement}
 use Rattle.layout.proofs.line_bits.Tie as tie
-use Rattle.layout.proofs.line_bits.Reads as reads
-use Rattle.layout.proofs.line_bits.Lts as lts
 
--- src/lib.rt:59:1
 returns : tie.Need-returns
 returns c = line-joined (c .before .before .args .x)
 

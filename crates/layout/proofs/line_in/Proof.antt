@@ -1,11 +1,9 @@
+-- `layout::line_in` meets its contract: it is the definition, field by field. Assumes nothing.
 use mathlib.Core.Path.{refl}
 use Rattle.layout.specs.Layout.{lineIn}
 use Rattle.layout.proofs.line_in.Statement.{statement}
 use Rattle.layout.proofs.line_in.Tie as tie
-use Rattle.layout.proofs.line_in.Reads as reads
-use Rattle.layout.proofs.line_in.Lts as lts
 
--- src/lib.rt:113:1
 returns : tie.Need-returns
 unfolding lineIn
 returns c = refl
