@@ -6,26 +6,19 @@ use borrow.Author.Needs.{needs}
 use Rattle.blocks.specs.Blocks.{touched-small, number-small}
 use Rattle.blocks.proofs.line_after.Statement.{statement}
 use Rattle.blocks.proofs.line_after.Tie as tie
-use Rattle.blocks.proofs.line_after.Reads as reads
-use Rattle.blocks.proofs.line_after.Lts as lts
 
--- src/lib.rt:43:7
 div-result : tie.Need-div-result
 div-result c = search needs
 
--- src/lib.rt:43:7
 add-result : tie.Need-add-result
 add-result c = let a = c .args in let b : a .base < 4294967296 = omega arith in let t = number-small (a .length) (a .base) (a .count) (c .pre .0) b (a .k) (c .pre .1) in omega arith
 
--- src/lib.rt:43:6
 mul-result : tie.Need-mul-result
 mul-result c = let a = c .args in let b : a .base < 4294967296 = omega arith in let t = touched-small (a .length) (a .base) (a .count) (c .pre .0) b (a .k) (c .pre .1) in omega arith
 
--- src/lib.rt:43:5
 cast-result : tie.Need-cast-result
 cast-result c = let a = c .args in let b : a .base < 4294967296 = omega arith in let t = touched-small (a .length) (a .base) (a .count) (c .pre .0) b (a .k) (c .pre .1) in omega arith
 
--- src/lib.rt:38:1
 returns : tie.Need-returns
 returns c = search needs
 

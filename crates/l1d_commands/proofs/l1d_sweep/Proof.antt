@@ -11,21 +11,8 @@ use Rattle.stages.specs.Stages.{sentAs}
 use Rattle.blocks.specs.Sweeping.{each-none, each-next, sets-now, sram-now}
 use Rattle.l1d_commands.specs.Turn.{l1d-off, l1d-on}
 use Rattle.l1d_commands.specs.Sweep.{sentLine, l1dTurn, l1dSweep}
-use Rattle.eviction.proofs.send_home.Reads as send-home-reads
 use Rattle.l1d_commands.proofs.l1d_sweep.Statement.{statement}
 use Rattle.l1d_commands.proofs.l1d_sweep.Tie as tie
-use Rattle.l1d_commands.proofs.l1d_sweep.Reads as reads
-use Rattle.l1d_commands.proofs.l1d_sweep.Lts as lts
-use Rattle.l1d_commands.proofs.l1d_target.Reads as l1d-target-reads
-use Rattle.l1d_commands.proofs.l1d_turns.Reads as l1d-turns-reads
-use Rattle.l1d_commands.proofs.l1d_way.Reads as l1d-way-reads
-use Rattle.l1d_commands.proofs.sent_line.Reads as sent-line-reads
-use Rattle.sets.proofs.L2.set_of.Reads as set-of-reads
-use Rattle.sets.proofs.L2.sets.Reads as sets-reads
-use Rattle.sets.proofs.L2.sram.Reads as sram-reads
-use Rattle.sets.proofs.empty_line.Reads as empty-line-reads
-use Rattle.sets.proofs.l1d_get.Reads as l1d-get-reads
-use Rattle.sets.proofs.l1d_put.Reads as l1d-put-reads
 
 abbrev Inv-loop : tie.InvT-loop
 Inv-loop code base count l1d l2₀ ext₀ sets sram n q₀ k₀ l2 ext q k =
@@ -35,47 +22,36 @@ Inv-loop code base count l1d l2₀ ext₀ sets sram n q₀ k₀ l2 ext q k =
 abbrev μ-loop : tie.MeasureT-loop
 μ-loop code base count l1d l2₀ ext₀ sets sram n q₀ k₀ l2 ext q k = n - k
 
--- src/lib.rt:72:9
 sets-requires : tie.Need-sets-requires Inv-loop μ-loop
 sets-requires c κs = search needs
 
--- src/lib.rt:73:9
 sram-requires : tie.Need-sram-requires Inv-loop μ-loop
 sram-requires c κs = search needs
 
--- src/lib.rt:74:9
 l1d-turns-requires : tie.Need-l1d-turns-requires Inv-loop μ-loop
 l1d-turns-requires c κs = search needs
 
--- src/lib.rt:76:5
 loop-holds : tie.Need-loop-holds Inv-loop μ-loop
 loop-holds c = (omega arith, refl, refl, refl, refl, each-none _ _)
 
--- src/lib.rt:77:13
 l1d-target-requires : tie.Need-l1d-target-requires Inv-loop μ-loop
 l1d-target-requires c κs = let t = c .loop-test .taken in let e = c .before .before .l1d-turns .ensures in omega arith
 
--- src/lib.rt:79:17
 mul-s : tie.Need-mul-s Inv-loop μ-loop
 mul-s c = search needs
 
--- src/lib.rt:79:17
 element-copy-out-s : tie.Need-element-copy-out-s Inv-loop μ-loop
 element-copy-out-s c = search needs
 
--- src/lib.rt:80:13
 l1d-way-requires : tie.Need-l1d-way-requires Inv-loop μ-loop
 l1d-way-requires c κs = search needs
 
--- src/lib.rt:82:13
 add-k : tie.Need-add-k Inv-loop μ-loop
 add-k c = search needs
 
--- src/lib.rt:76:5
 loop-less : tie.Need-loop-less Inv-loop μ-loop
 loop-less c = search needs
 
--- src/lib.rt:76:5
 loop-again : tie.Need-loop-again Inv-loop μ-loop
 loop-again c =
     let p-l1d-way = c .before in
@@ -98,63 +74,64 @@ loop-again c =
       each-next f (l .k) z₀ z z (l .inv .5) (l1d-off (a .code) (a .base) (l .k) (l .q) (a .l1d .now) (l .l2) (l .ext) p w (p-l1d-target .l1d-target .ensures .0) (p-l1d-way .l1d-way .ensures .0) (c .if1 .taken)),
     )
 
--- src/lib.rt:84:13
 l1d-get-requires : tie.Need-l1d-get-requires Inv-loop μ-loop
 l1d-get-requires c κs = search needs
 
--- src/lib.rt:85:13
 sent-line-requires : tie.Need-sent-line-requires Inv-loop μ-loop
 sent-line-requires c κs = search needs
 
--- src/lib.rt:86:13
 set-of-requires : tie.Need-set-of-requires Inv-loop μ-loop
 set-of-requires c κs = search needs
 
--- src/lib.rt:87:17
 mul-u : tie.Need-mul-u Inv-loop μ-loop
 mul-u c = search needs
 
--- src/lib.rt:87:17
 element-copy-out-u : tie.Need-element-copy-out-u Inv-loop μ-loop
 element-copy-out-u c = search needs
 
--- src/lib.rt:88:13
 send-home-requires : tie.Need-send-home-requires Inv-loop μ-loop
-send-home-requires c κs = (c .before .before .before .before .before .before .before .before .before .l1d-target .ensures .1 .0, (c .before .before .before .before .before .before .if1 .left, (c .before .before .before .before .before .before .before .before .before .before .before .before .before .sram .ensures .1, (c .before .before .before .before .before .before .before .before .before .before .before .before .before .before .sets .ensures .1, c .before .before .before .set-of .ensures .1))))
+send-home-requires c κs =
+    let p-set-of = c .before .before .before in
+    let p-if1 = p-set-of .before .before .before in
+    let p-l1d-target = p-if1 .before .before .before in
+    let p-sram = p-l1d-target .before .before .before .before in
+    let p-sets = p-sram .before in
+    (p-l1d-target .l1d-target .ensures .1 .0, (p-if1 .if1 .left, (p-sram .sram .ensures .1, (p-sets .sets .ensures .1, p-set-of .set-of .ensures .1))))
 
--- src/lib.rt:89:9
 mul-t : tie.Need-mul-t Inv-loop μ-loop
 mul-t c = search needs
 
--- src/lib.rt:89:9
 element-set-from-t : tie.Need-element-set-from-t Inv-loop μ-loop
 element-set-from-t c = search needs
 
--- src/lib.rt:90:37
 empty-line-requires : tie.Need-empty-line-requires Inv-loop μ-loop
 empty-line-requires c κs = search needs
 
--- src/lib.rt:90:13
 l1d-put-requires : tie.Need-l1d-put-requires Inv-loop μ-loop
 l1d-put-requires c κs = search needs
 
--- src/lib.rt:91:9
 mul-v : tie.Need-mul-v Inv-loop μ-loop
-mul-v c = let t = c .before .before .before .before .before .before .before .before .before .before .before .before .before .before .before .before .l1d-target .ensures .1 .0 in omega arith
+mul-v c =
+    let p-l1d-target = c .before .before .before .before .before .before .before .before .before .before .before .before .before .before .before .before in
+    let t = p-l1d-target .l1d-target .ensures .1 .0 in omega arith
 
--- src/lib.rt:91:9
 element-set-from-v : tie.Need-element-set-from-v Inv-loop μ-loop
-element-set-from-v c = let t = c .before .before .before .before .before .before .before .before .before .before .before .before .before .before .before .before .l1d-target .ensures .1 .0 in omega arith
+element-set-from-v c =
+    let p-l1d-target = c .before .before .before .before .before .before .before .before .before .before .before .before .before .before .before .before in
+    let t = p-l1d-target .l1d-target .ensures .1 .0 in omega arith
 
--- src/lib.rt:76:9
 add-k-2 : tie.Need-add-k-2 Inv-loop μ-loop
-add-k-2 c = let t = c .before .before .before .before .before .before .before .before .before .before .before .before .before .before .before .before .before .loop-test .taken in let g = c .before .before .before .before .before .before .before .before .before .before .before .before .before .before .before .before .before .before .before .l1d-turns .ok in omega arith
+add-k-2 c =
+    let p-loop-test = c .before .before .before .before .before .before .before .before .before .before .before .before .before .before .before .before .before in
+    let p-l1d-turns = p-loop-test .before .before in
+    let t = p-loop-test .loop-test .taken in let g = p-l1d-turns .l1d-turns .ok in omega arith
 
--- src/lib.rt:76:5
 loop-less-2 : tie.Need-loop-less-2 Inv-loop μ-loop
-loop-less-2 c = let t = c .before .before .before .before .before .before .before .before .before .before .before .before .before .before .before .before .before .loop-test .taken in let g = c .before .before .before .before .before .before .before .before .before .before .before .before .before .before .before .before .before .before .before .l1d-turns .ok in omega arith
+loop-less-2 c =
+    let p-loop-test = c .before .before .before .before .before .before .before .before .before .before .before .before .before .before .before .before .before in
+    let p-l1d-turns = p-loop-test .before .before in
+    let t = p-loop-test .loop-test .taken in let g = p-l1d-turns .l1d-turns .ok in omega arith
 
--- src/lib.rt:76:5
 loop-again-2 : tie.Need-loop-again-2 Inv-loop μ-loop
 loop-again-2 c =
     let p-empty-line = c .before in
@@ -185,21 +162,21 @@ loop-again-2 c =
     (c .l1d-put .ensures ∙ ap (l1dPut _ w) (p-empty-line .empty-line .ensures)) in
     (omega arith, p-send-home .send-home .kept .1 .1 .1 .1 .1 .1 .1 .1 .0 ∙ l .inv .1, p-send-home .send-home .kept .1 .1 .1 .1 .1 .1 .1 .1 .1 .0 ∙ l .inv .2, l .inv .3, l .inv .4, each-next f (l .k) z₀ z z′ (l .inv .5) e)
 
--- src/lib.rt:68:1
 same-length : tie.Need-same-length Inv-loop μ-loop
 same-length c = c .before .loop .inv .1
 
--- src/lib.rt:68:1
 same-length-2 : tie.Need-same-length-2 Inv-loop μ-loop
 same-length-2 c = c .before .loop .inv .2
 
--- src/lib.rt:68:1
 returns : tie.Need-returns Inv-loop μ-loop
 unfolding l1dSweep
 returns c =
-    let l = c .before .loop in let a = c .before .before .before .before .before .before .before .before .args in
-    let e : l .k ≡ c .before .before .l1d-turns .result = omega arith in
-    (rw (e, c .before .before .l1d-turns .ensures) at (l .inv .5), l .inv .4)
+    let p-loop = c .before in
+    let p-l1d-turns = p-loop .before in
+    let p-args = p-l1d-turns .before .before .before .before .before .before in
+    let l = p-loop .loop in let a = p-args .args in
+    let e : l .k ≡ p-l1d-turns .l1d-turns .result = omega arith in
+    (rw (e, p-l1d-turns .l1d-turns .ensures) at (l .inv .5), l .inv .4)
 
 pub l1d-sweep-spec : {M : Type 1} → statement M
 l1d-sweep-spec =

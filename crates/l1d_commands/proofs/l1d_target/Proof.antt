@@ -5,28 +5,20 @@ use native.Mathlib.Omega.{arith}
 use borrow.Author.Tests.{le-leb, lt-leb}
 use borrow.Author.Needs.{needs}
 use Rattle.l1d_commands.specs.Sweep.{l1dTurns, l1dTarget}
-use Rattle.blocks.proofs.line_after.Reads as line-after-reads
 use Rattle.l1d_commands.proofs.l1d_target.Statement.{statement}
 use Rattle.l1d_commands.proofs.l1d_target.Tie as tie
-use Rattle.l1d_commands.proofs.l1d_target.Reads as reads
-use Rattle.l1d_commands.proofs.l1d_target.Lts as lts
-use Rattle.sets.proofs.L1d.set_of.Reads as set-of-reads
 
--- src/lib.rt:28:13
 line-after-requires : tie.Need-line-after-requires
 unfolding l1dTurns
 line-after-requires c κs = (omega arith, rw (le-leb _ _ (c .if1 .taken)) at (c .before .pre))
 
--- src/lib.rt:32:18
 set-of-requires : tie.Need-set-of-requires
 set-of-requires c κs = search needs
 
--- src/lib.rt:29:9
 returns : tie.Need-returns
 unfolding l1dTarget
 returns c = (rw (le-leb _ _ (c .before .before .if1 .taken), c .set-of .ensures .0, c .before .line-after .ensures) refl, (c .set-of .ensures .1, omega arith))
 
--- src/lib.rt:23:1
 returns-2 : tie.Need-returns-2
 unfolding l1dTurns l1dTarget
 returns-2 c =

@@ -3,26 +3,19 @@ use mathlib.Core.Path.{refl}
 use borrow.Author.Tests.{le-leb, lt-leb}
 use borrow.Author.Needs.{needs}
 use Rattle.l1d_commands.specs.Sweep.{l1dTurns}
-use Rattle.blocks.proofs.lines_touched.Reads as lines-touched-reads
 use Rattle.l1d_commands.proofs.l1d_turns.Statement.{statement}
 use Rattle.l1d_commands.proofs.l1d_turns.Tie as tie
-use Rattle.l1d_commands.proofs.l1d_turns.Reads as reads
-use Rattle.l1d_commands.proofs.l1d_turns.Lts as lts
 
--- src/lib.rt:18:9
 lines-touched-requires : tie.Need-lines-touched-requires
 lines-touched-requires c κs = search needs
 
--- src/lib.rt:18:9
 returns : tie.Need-returns
 unfolding l1dTurns
 returns c = rw (le-leb _ _ (c .before .if1 .taken)) (c .lines-touched .ensures)
 
--- src/lib.rt:20:5
 mul-result : tie.Need-mul-result
 mul-result c = search needs
 
--- src/lib.rt:14:1
 returns-2 : tie.Need-returns-2
 unfolding l1dTurns
 returns-2 c = rw (lt-leb _ _ (c .if1 .left)) refl

@@ -5,20 +5,14 @@ use Rattle.model.specs.Basics.{pick-true, pick-false}
 use Rattle.l2_commands.specs.Sweep.{cleaned}
 use Rattle.l2_commands.proofs.cleaned.Statement.{statement}
 use Rattle.l2_commands.proofs.cleaned.Tie as tie
-use Rattle.l2_commands.proofs.cleaned.Reads as reads
-use Rattle.l2_commands.proofs.cleaned.Lts as lts
-use Rattle.sets.proofs.line_at.Reads as line-at-reads
 
--- src/lib.rt:101:9
 line-at-requires : tie.Need-line-at-requires
 line-at-requires c κs = search needs
 
--- src/lib.rt:101:9
 returns : tie.Need-returns
 unfolding cleaned
 returns c = c .line-at .ensures ∙ pick-true (c .before .before .args .x .valid) _ _ (c .before .if1 .taken)
 
--- src/lib.rt:97:1
 returns-2 : tie.Need-returns-2
 unfolding cleaned
 returns-2 c = pick-false (c .before .args .x .valid) _ _ (c .if1 .left)

@@ -11,18 +11,8 @@ use Rattle.model.specs.Records.{state, withL2Set}
 use Rattle.model.specs.Basics.{each}
 use Rattle.blocks.specs.Sweeping.{each-none, each-next, sets-now, sram-now, data-now}
 use Rattle.l2_commands.specs.Turn.{flushed}
-use Rattle.stages.proofs.goes_out.Reads as goes-out-reads
-use Rattle.eviction.proofs.write_out.Reads as write-out-reads
 use Rattle.l2_commands.proofs.flush_l2.Statement.{statement}
 use Rattle.l2_commands.proofs.flush_l2.Tie as tie
-use Rattle.l2_commands.proofs.flush_l2.Reads as reads
-use Rattle.l2_commands.proofs.flush_l2.Lts as lts
-use Rattle.l2_commands.proofs.cleaned.Reads as cleaned-reads
-use Rattle.sets.proofs.L2.data_at.Reads as data-at-reads
-use Rattle.sets.proofs.L2.sets.Reads as sets-reads
-use Rattle.sets.proofs.L2.sram.Reads as sram-reads
-use Rattle.sets.proofs.l2_get.Reads as l2-get-reads
-use Rattle.sets.proofs.l2_put.Reads as l2-put-reads
 
 abbrev Inv-loop : tie.InvT-loop
 Inv-loop l2 ext₀ sets sram n q₀ k₀ ext q k =
@@ -32,71 +22,70 @@ Inv-loop l2 ext₀ sets sram n q₀ k₀ ext q k =
 abbrev μ-loop : tie.MeasureT-loop
 μ-loop l2 ext₀ sets sram n q₀ k₀ ext q k = n - k
 
--- src/lib.rt:162:9
 sets-requires : tie.Need-sets-requires Inv-loop μ-loop
 sets-requires c κs = search needs
 
--- src/lib.rt:163:9
 sram-requires : tie.Need-sram-requires Inv-loop μ-loop
 sram-requires c κs = search needs
 
--- src/lib.rt:164:13
 mul-n : tie.Need-mul-n Inv-loop μ-loop
 mul-n c = search needs
 
--- src/lib.rt:166:5
 loop-holds : tie.Need-loop-holds Inv-loop μ-loop
 loop-holds c = (omega arith, refl, refl, refl, λ d. each-none _ _)
 
--- src/lib.rt:169:17
 mul-u : tie.Need-mul-u Inv-loop μ-loop
 mul-u c = let t = c .loop-test .taken in let b = c .before .before .before .sets .ensures .1 in omega arith
 
--- src/lib.rt:169:17
 element-copy-out-u : tie.Need-element-copy-out-u Inv-loop μ-loop
 element-copy-out-u c = let t = c .loop-test .taken in let b = c .before .before .before .sets .ensures .1 in omega arith
 
--- src/lib.rt:170:13
 l2-get-requires : tie.Need-l2-get-requires Inv-loop μ-loop
 l2-get-requires c κs = omega arith
 
--- src/lib.rt:171:13
 data-at-requires : tie.Need-data-at-requires Inv-loop μ-loop
-data-at-requires c κs = (c .before .before .before .before .sram .ensures .1, (c .before .before .before .before .before .sets .ensures .1, (let t = c .before .before .loop-test .taken in let b = c .before .before .before .before .before .sets .ensures .1 in omega arith, omega arith)))
+data-at-requires c κs =
+    let p-loop-test = c .before .before in
+    let p-sram = p-loop-test .before .before in
+    let p-sets = p-sram .before in
+    (p-sram .sram .ensures .1, (p-sets .sets .ensures .1, (let t = p-loop-test .loop-test .taken in let b = p-sets .sets .ensures .1 in omega arith, omega arith)))
 
--- src/lib.rt:172:13
 goes-out-requires : tie.Need-goes-out-requires Inv-loop μ-loop
 goes-out-requires c κs = search needs
 
--- src/lib.rt:173:9
 write-out-requires : tie.Need-write-out-requires Inv-loop μ-loop
 write-out-requires c κs = search needs
 
--- src/lib.rt:174:13
 cleaned-requires : tie.Need-cleaned-requires Inv-loop μ-loop
 cleaned-requires c κs = search needs
 
--- src/lib.rt:175:13
 l2-put-requires : tie.Need-l2-put-requires Inv-loop μ-loop
 l2-put-requires c κs = omega arith
 
--- src/lib.rt:176:9
 mul-w : tie.Need-mul-w Inv-loop μ-loop
-mul-w c = let t = c .before .before .before .before .before .before .before .before .before .before .loop-test .taken in let b = c .before .before .before .before .before .before .before .before .before .before .before .before .before .sets .ensures .1 in omega arith
+mul-w c =
+    let p-loop-test = c .before .before .before .before .before .before .before .before .before .before in
+    let p-sets = p-loop-test .before .before .before in
+    let t = p-loop-test .loop-test .taken in let b = p-sets .sets .ensures .1 in omega arith
 
--- src/lib.rt:176:9
 element-set-from-w : tie.Need-element-set-from-w Inv-loop μ-loop
-element-set-from-w c = let t = c .before .before .before .before .before .before .before .before .before .before .loop-test .taken in let b = c .before .before .before .before .before .before .before .before .before .before .before .before .before .sets .ensures .1 in omega arith
+element-set-from-w c =
+    let p-loop-test = c .before .before .before .before .before .before .before .before .before .before in
+    let p-sets = p-loop-test .before .before .before in
+    let t = p-loop-test .loop-test .taken in let b = p-sets .sets .ensures .1 in omega arith
 
--- src/lib.rt:166:9
 add-k : tie.Need-add-k Inv-loop μ-loop
-add-k c = let t = c .before .before .before .before .before .before .before .before .before .before .loop-test .taken in let b = c .before .before .before .before .before .before .before .before .before .before .before .before .before .sets .ensures .1 in omega arith
+add-k c =
+    let p-loop-test = c .before .before .before .before .before .before .before .before .before .before in
+    let p-sets = p-loop-test .before .before .before in
+    let t = p-loop-test .loop-test .taken in let b = p-sets .sets .ensures .1 in omega arith
 
--- src/lib.rt:166:5
 loop-less : tie.Need-loop-less Inv-loop μ-loop
-loop-less c = let t = c .before .before .before .before .before .before .before .before .before .before .loop-test .taken in let b = c .before .before .before .before .before .before .before .before .before .before .before .before .before .sets .ensures .1 in omega arith
+loop-less c =
+    let p-loop-test = c .before .before .before .before .before .before .before .before .before .before in
+    let p-sets = p-loop-test .before .before .before in
+    let t = p-loop-test .loop-test .taken in let b = p-sets .sets .ensures .1 in omega arith
 
--- src/lib.rt:166:5
 loop-again : tie.Need-loop-again Inv-loop μ-loop
 loop-again c =
     let p-cleaned = c .before in
@@ -124,17 +113,18 @@ loop-again c =
           (p-goes-out .goes-out .ensures) (p-write-out .write-out .ensures) (p-cleaned .cleaned .ensures) (c .l2-put .ensures)),
     )
 
--- src/lib.rt:158:1
 same-length : tie.Need-same-length Inv-loop μ-loop
 same-length c = c .before .loop .inv .1
 
--- src/lib.rt:158:1
 returns : tie.Need-returns Inv-loop μ-loop
 unfolding flushL2
 returns c =
-    let l = c .before .loop in let a = c .before .before .before .before .before .before .args in
-    let e : l .k ≡ c .before .before .before .sets .result * 4 = omega arith in
-    (λ d. rw (e, c .before .before .before .sets .ensures .0) at (l .inv .4 d), l .inv .3)
+    let p-loop = c .before in
+    let p-sets = p-loop .before .before in
+    let p-args = p-sets .before .before .before in
+    let l = p-loop .loop in let a = p-args .args in
+    let e : l .k ≡ p-sets .sets .result * 4 = omega arith in
+    (λ d. rw (e, p-sets .sets .ensures .0) at (l .inv .4 d), l .inv .3)
 
 pub flush-l2-spec : {M : Type 1} → statement M
 flush-l2-spec =

@@ -3,22 +3,16 @@ use mathlib.Core.Path.{refl}
 use borrow.Author.Tests.{eq-eqb, ne-eqb}
 use borrow.Author.Needs.{needs}
 use Rattle.l2_commands.specs.Sweep.{goes}
-use Rattle.stages.proofs.goes_out.Reads as goes-out-reads
 use Rattle.l2_commands.proofs.goes.Statement.{statement}
 use Rattle.l2_commands.proofs.goes.Tie as tie
-use Rattle.l2_commands.proofs.goes.Reads as reads
-use Rattle.l2_commands.proofs.goes.Lts as lts
 
--- src/lib.rt:92:9
 returns : tie.Need-returns
 unfolding goes
 returns c = rw (eq-eqb _ _ (c .if1 .taken)) refl
 
--- src/lib.rt:94:5
 goes-out-requires : tie.Need-goes-out-requires
 goes-out-requires c κs = search needs
 
--- src/lib.rt:88:1
 returns-2 : tie.Need-returns-2
 unfolding goes
 returns-2 c = rw (ne-eqb _ _ (c .before .if1 .left)) (c .goes-out .ensures)

@@ -11,24 +11,8 @@ use Rattle.joins.specs.Sets.{withSets}
 use Rattle.blocks.specs.Sweeping.{each-none, each-next, sets-now, sram-now, data-now}
 use Rattle.l2_commands.specs.Turn.{l2-off, l2-on, swept}
 use Rattle.l2_commands.specs.Sweep.{l2Turn, l2Sweep}
-use Rattle.eviction.proofs.write_out.Reads as write-out-reads
 use Rattle.l2_commands.proofs.l2_sweep.Statement.{statement}
 use Rattle.l2_commands.proofs.l2_sweep.Tie as tie
-use Rattle.l2_commands.proofs.l2_sweep.Reads as reads
-use Rattle.l2_commands.proofs.l2_sweep.Lts as lts
-use Rattle.l2_commands.proofs.goes.Reads as goes-reads
-use Rattle.l2_commands.proofs.l2_target.Reads as l2-target-reads
-use Rattle.l2_commands.proofs.l2_turns.Reads as l2-turns-reads
-use Rattle.l2_commands.proofs.l2_way.Reads as l2-way-reads
-use Rattle.l2_commands.proofs.left_line.Reads as left-line-reads
-use Rattle.l2_commands.proofs.release.Reads as release-reads
-use Rattle.sets.proofs.L1d.set_of.Reads as set-of-reads
-use Rattle.sets.proofs.L2.data_at.Reads as data-at-reads
-use Rattle.sets.proofs.L2.sets.Reads as sets-reads
-use Rattle.sets.proofs.L2.sram.Reads as sram-reads
-use Rattle.sets.proofs.L2.upper_half.Reads as upper-half-reads
-use Rattle.sets.proofs.l2_get.Reads as l2-get-reads
-use Rattle.sets.proofs.l2_put.Reads as l2-put-reads
 
 abbrev Inv-loop : tie.InvT-loop
 Inv-loop code base count l1d l2₀ ext₀ sets sram n q₀ k₀ l2 ext q k =
@@ -38,47 +22,39 @@ Inv-loop code base count l1d l2₀ ext₀ sets sram n q₀ k₀ l2 ext q k =
 abbrev μ-loop : tie.MeasureT-loop
 μ-loop code base count l1d l2₀ ext₀ sets sram n q₀ k₀ l2 ext q k = n - k
 
--- src/lib.rt:123:9
 sets-requires : tie.Need-sets-requires Inv-loop μ-loop
 sets-requires c κs = search needs
 
--- src/lib.rt:124:9
 sram-requires : tie.Need-sram-requires Inv-loop μ-loop
 sram-requires c κs = search needs
 
--- src/lib.rt:125:9
 l2-turns-requires : tie.Need-l2-turns-requires Inv-loop μ-loop
 l2-turns-requires c κs = search needs
 
--- src/lib.rt:127:5
 loop-holds : tie.Need-loop-holds Inv-loop μ-loop
 loop-holds c = (omega arith, refl, refl, refl, refl, each-none _ _)
 
--- src/lib.rt:128:13
 l2-target-requires : tie.Need-l2-target-requires Inv-loop μ-loop
-l2-target-requires c κs = (c .before .before .before .before .sets .ensures .1, let t = c .loop-test .taken in let e = c .before .before .l2-turns .ensures in omega arith)
+l2-target-requires c κs =
+    let p-l2-turns = c .before .before in
+    let p-sets = p-l2-turns .before .before in
+    (p-sets .sets .ensures .1, let t = c .loop-test .taken in let e = p-l2-turns .l2-turns .ensures in omega arith)
 
--- src/lib.rt:130:17
 mul-u : tie.Need-mul-u Inv-loop μ-loop
 mul-u c = search needs
 
--- src/lib.rt:130:17
 element-copy-out-u : tie.Need-element-copy-out-u Inv-loop μ-loop
 element-copy-out-u c = search needs
 
--- src/lib.rt:131:13
 l2-way-requires : tie.Need-l2-way-requires Inv-loop μ-loop
 l2-way-requires c κs = search needs
 
--- src/lib.rt:133:13
 add-k : tie.Need-add-k Inv-loop μ-loop
 add-k c = search needs
 
--- src/lib.rt:127:5
 loop-less : tie.Need-loop-less Inv-loop μ-loop
 loop-less c = search needs
 
--- src/lib.rt:127:5
 loop-again : tie.Need-loop-again Inv-loop μ-loop
 loop-again c =
     let p-l2-way = c .before in
@@ -95,99 +71,102 @@ loop-again c =
     let p = p-l2-target .l2-target .result in let v = p-l2-way .l2-way .result in
     (omega arith, l .inv .1, l .inv .2, l .inv .3, l .inv .4, each-next f (l .k) z₀ z z (l .inv .5) (l2-off (a .code) (a .base) (l .k) (p-sets .sets .result) (l .q) (a .l1d .now) (l .l2) (l .ext) p v g (p-l2-target .l2-target .ensures .0) (p-l2-way .l2-way .ensures .0) (c .if1 .taken)))
 
--- src/lib.rt:135:13
 l2-get-requires : tie.Need-l2-get-requires Inv-loop μ-loop
 l2-get-requires c κs = search needs
 
--- src/lib.rt:136:13
 data-at-requires : tie.Need-data-at-requires Inv-loop μ-loop
-data-at-requires c κs = (c .before .before .before .before .before .before .before .before .sram .ensures .1, (c .before .before .before .before .before .before .before .before .before .sets .ensures .1, (c .before .before .before .before .l2-target .ensures .1 .0, c .before .if1 .left)))
+data-at-requires c κs =
+    let p-if1 = c .before in
+    let p-l2-target = p-if1 .before .before .before in
+    let p-sram = p-l2-target .before .before .before .before in
+    let p-sets = p-sram .before in
+    (p-sram .sram .ensures .1, (p-sets .sets .ensures .1, (p-l2-target .l2-target .ensures .1 .0, p-if1 .if1 .left)))
 
--- src/lib.rt:137:13
 set-of-requires : tie.Need-set-of-requires Inv-loop μ-loop
 set-of-requires c κs = search needs
 
--- src/lib.rt:138:17
 mul-s : tie.Need-mul-s Inv-loop μ-loop
 mul-s c = search needs
 
--- src/lib.rt:138:17
 element-copy-out-s : tie.Need-element-copy-out-s Inv-loop μ-loop
 element-copy-out-s c = search needs
 
--- src/lib.rt:139:13
 release-requires : tie.Need-release-requires Inv-loop μ-loop
 release-requires c κs = c .before .before .before .data-at .ensures .1
 
--- src/lib.rt:141:9
 mul-sa : tie.Need-mul-sa Inv-loop μ-loop
-mul-sa c = let t = c .before .before .before .before .before .before .set-of .ensures .1 in omega arith
+mul-sa c =
+    let p-set-of = c .before .before .before .before .before .before in
+    let t = p-set-of .set-of .ensures .1 in omega arith
 
--- src/lib.rt:141:9
 element-set-from-sa : tie.Need-element-set-from-sa Inv-loop μ-loop
-element-set-from-sa c = let t = c .before .before .before .before .before .before .set-of .ensures .1 in omega arith
+element-set-from-sa c =
+    let p-set-of = c .before .before .before .before .before .before in
+    let t = p-set-of .set-of .ensures .1 in omega arith
 
--- src/lib.rt:142:13
 upper-half-requires : tie.Need-upper-half-requires Inv-loop μ-loop
 upper-half-requires c κs = search needs
 
--- src/lib.rt:143:13
 set-of-requires-2 : tie.Need-set-of-requires-2 Inv-loop μ-loop
 set-of-requires-2 c κs = search needs
 
--- src/lib.rt:144:17
 mul-t : tie.Need-mul-t Inv-loop μ-loop
 mul-t c = let t = c .set-of2 .ensures .1 in omega arith
 
--- src/lib.rt:144:17
 element-copy-out-t : tie.Need-element-copy-out-t Inv-loop μ-loop
 element-copy-out-t c = let t = c .set-of2 .ensures .1 in omega arith
 
--- src/lib.rt:145:13
 release-requires-2 : tie.Need-release-requires-2 Inv-loop μ-loop
-release-requires-2 c κs = c .before .before .before .before .before .before .before .before .before .before .before .data-at .ensures .1
+release-requires-2 c κs =
+    let p-data-at = c .before .before .before .before .before .before .before .before .before .before .before in
+    p-data-at .data-at .ensures .1
 
--- src/lib.rt:147:9
 mul-sb : tie.Need-mul-sb Inv-loop μ-loop
-mul-sb c = let t = c .before .before .before .before .before .before .set-of2 .ensures .1 in omega arith
+mul-sb c =
+    let p-set-of2 = c .before .before .before .before .before .before in
+    let t = p-set-of2 .set-of2 .ensures .1 in omega arith
 
--- src/lib.rt:147:9
 element-set-from-sb : tie.Need-element-set-from-sb Inv-loop μ-loop
-element-set-from-sb c = let t = c .before .before .before .before .before .before .set-of2 .ensures .1 in omega arith
+element-set-from-sb c =
+    let p-set-of2 = c .before .before .before .before .before .before in
+    let t = p-set-of2 .set-of2 .ensures .1 in omega arith
 
--- src/lib.rt:148:13
 goes-requires : tie.Need-goes-requires Inv-loop μ-loop
 goes-requires c κs = search needs
 
--- src/lib.rt:149:9
 write-out-requires : tie.Need-write-out-requires Inv-loop μ-loop
 write-out-requires c κs = search needs
 
--- src/lib.rt:150:13
 left-line-requires : tie.Need-left-line-requires Inv-loop μ-loop
 left-line-requires c κs = search needs
 
--- src/lib.rt:151:13
 l2-put-requires : tie.Need-l2-put-requires Inv-loop μ-loop
-l2-put-requires c κs = c .before .before .before .before .before .before .before .before .before .before .before .before .before .before .before .before .before .before .before .before .before .before .before .before .if1 .left
+l2-put-requires c κs =
+    let p-if1 = c .before .before .before .before .before .before .before .before .before .before .before .before .before .before .before .before .before .before .before .before .before .before .before .before in
+    p-if1 .if1 .left
 
--- src/lib.rt:152:9
 mul-w : tie.Need-mul-w Inv-loop μ-loop
-mul-w c = let t = c .before .before .before .before .before .before .before .before .before .before .before .before .before .before .before .before .before .before .before .before .before .before .before .before .before .before .before .before .l2-target .ensures .1 .0 in omega arith
+mul-w c =
+    let p-l2-target = c .before .before .before .before .before .before .before .before .before .before .before .before .before .before .before .before .before .before .before .before .before .before .before .before .before .before .before .before in
+    let t = p-l2-target .l2-target .ensures .1 .0 in omega arith
 
--- src/lib.rt:152:9
 element-set-from-w : tie.Need-element-set-from-w Inv-loop μ-loop
-element-set-from-w c = let t = c .before .before .before .before .before .before .before .before .before .before .before .before .before .before .before .before .before .before .before .before .before .before .before .before .before .before .before .before .l2-target .ensures .1 .0 in omega arith
+element-set-from-w c =
+    let p-l2-target = c .before .before .before .before .before .before .before .before .before .before .before .before .before .before .before .before .before .before .before .before .before .before .before .before .before .before .before .before in
+    let t = p-l2-target .l2-target .ensures .1 .0 in omega arith
 
--- src/lib.rt:127:9
 add-k-2 : tie.Need-add-k-2 Inv-loop μ-loop
-add-k-2 c = let t = c .before .before .before .before .before .before .before .before .before .before .before .before .before .before .before .before .before .before .before .before .before .before .before .before .before .before .before .before .before .loop-test .taken in let g = c .before .before .before .before .before .before .before .before .before .before .before .before .before .before .before .before .before .before .before .before .before .before .before .before .before .before .before .before .before .before .before .l2-turns .ok in omega arith
+add-k-2 c =
+    let p-loop-test = c .before .before .before .before .before .before .before .before .before .before .before .before .before .before .before .before .before .before .before .before .before .before .before .before .before .before .before .before .before in
+    let p-l2-turns = p-loop-test .before .before in
+    let t = p-loop-test .loop-test .taken in let g = p-l2-turns .l2-turns .ok in omega arith
 
--- src/lib.rt:127:5
 loop-less-2 : tie.Need-loop-less-2 Inv-loop μ-loop
-loop-less-2 c = let t = c .before .before .before .before .before .before .before .before .before .before .before .before .before .before .before .before .before .before .before .before .before .before .before .before .before .before .before .before .before .loop-test .taken in let g = c .before .before .before .before .before .before .before .before .before .before .before .before .before .before .before .before .before .before .before .before .before .before .before .before .before .before .before .before .before .before .before .l2-turns .ok in omega arith
+loop-less-2 c =
+    let p-loop-test = c .before .before .before .before .before .before .before .before .before .before .before .before .before .before .before .before .before .before .before .before .before .before .before .before .before .before .before .before .before in
+    let p-l2-turns = p-loop-test .before .before in
+    let t = p-loop-test .loop-test .taken in let g = p-l2-turns .l2-turns .ok in omega arith
 
--- src/lib.rt:127:5
 loop-again-2 : tie.Need-loop-again-2 Inv-loop μ-loop
 loop-again-2 c =
     let p-left-line = c .before in
@@ -241,21 +220,22 @@ loop-again-2 c =
       each-next f (l .k) z₀ z z′ (l .inv .5) (l2-on (a .code) (a .base) (l .k) (p-sets .sets .result) (l .q) (a .l1d .now) (l .l2) (l .ext) p v g (p-l2-target .l2-target .ensures .0) (p-l2-way .l2-way .ensures .0) z′ (p-if1 .if1 .left) s),
     )
 
--- src/lib.rt:120:1
 same-length : tie.Need-same-length Inv-loop μ-loop
 same-length c = c .before .loop .inv .1
 
--- src/lib.rt:120:1
 same-length-2 : tie.Need-same-length-2 Inv-loop μ-loop
 same-length-2 c = c .before .loop .inv .2
 
--- src/lib.rt:120:1
 returns : tie.Need-returns Inv-loop μ-loop
 unfolding l2Sweep
 returns c =
-    let l = c .before .loop in let a = c .before .before .before .before .before .before .before .before .args in
-    let e : l .k ≡ c .before .before .l2-turns .result = omega arith in
-    rw (e, c .before .before .l2-turns .ensures, c .before .before .before .before .sets .ensures .0) at (l .inv .5)
+    let p-loop = c .before in
+    let p-l2-turns = p-loop .before in
+    let p-sets = p-l2-turns .before .before in
+    let p-args = p-sets .before .before .before .before in
+    let l = p-loop .loop in let a = p-args .args in
+    let e : l .k ≡ p-l2-turns .l2-turns .result = omega arith in
+    rw (e, p-l2-turns .l2-turns .ensures, p-sets .sets .ensures .0) at (l .inv .5)
 
 pub l2-sweep-spec : {M : Type 1} → statement M
 l2-sweep-spec =

@@ -4,27 +4,23 @@ use native.Mathlib.Omega.{arith}
 use borrow.Author.Tests.{le-leb, lt-leb}
 use borrow.Author.Needs.{needs}
 use Rattle.l2_commands.specs.Sweep.{l2Target, block-turn, way-turn}
-use Rattle.blocks.proofs.line_after.Reads as line-after-reads
 use Rattle.l2_commands.proofs.l2_target.Statement.{statement}
 use Rattle.l2_commands.proofs.l2_target.Tie as tie
-use Rattle.l2_commands.proofs.l2_target.Reads as reads
-use Rattle.l2_commands.proofs.l2_target.Lts as lts
-use Rattle.sets.proofs.L2.set_of.Reads as set-of-reads
 
--- src/lib.rt:37:13
 line-after-requires : tie.Need-line-after-requires
 line-after-requires c κs = (omega arith, block-turn (c .before .args .code) (c .before .args .base) (c .before .args .count) (c .before .args .sets) (c .before .args .k) (c .before .pre .1) (c .if1 .taken) .1)
 
--- src/lib.rt:41:18
 set-of-requires : tie.Need-set-of-requires
 set-of-requires c κs = search needs
 
--- src/lib.rt:38:9
 returns : tie.Need-returns
 unfolding l2Target
-returns c = (rw (le-leb _ _ (c .before .before .if1 .taken), c .set-of .ensures .0 (block-turn (c .before .before .before .args .code) (c .before .before .before .args .base) (c .before .before .before .args .count) (c .before .before .before .args .sets) (c .before .before .before .args .k) (c .before .before .before .pre .1) (c .before .before .if1 .taken) .0), c .before .line-after .ensures) refl, (c .set-of .ensures .1, omega arith))
+returns c =
+    let p-line-after = c .before in
+    let p-if1 = p-line-after .before in
+    let p-args = p-if1 .before in
+    (rw (le-leb _ _ (p-if1 .if1 .taken), c .set-of .ensures .0 (block-turn (p-args .args .code) (p-args .args .base) (p-args .args .count) (p-args .args .sets) (p-args .args .k) (p-args .pre .1) (p-if1 .if1 .taken) .0), p-line-after .line-after .ensures) refl, (c .set-of .ensures .1, omega arith))
 
--- src/lib.rt:32:1
 returns-2 : tie.Need-returns-2
 unfolding l2Target
 returns-2 c =
