@@ -20,8 +20,8 @@ use Rattle.model.specs.declared.Command.{Command}
 use Rattle.model.specs.declared.Record.{Record}
 use Rattle.model.proofs.Due.{first-none, unless-none}
 use Rattle.stages.specs.declared.Answer.{Answer}
-use Rattle.engine.specs.Executed.{Executed, executed, sourceOf, endOf, executes, executes-run, executes-one, noAnswer, answerOf, executedAs}
-use Rattle.engine.specs.declared.Ran.{Ran}
+use Rattle.turns.specs.Executed.{Executed, executed, sourceOf, endOf, executes, executes-run, executes-one, noAnswer, answerOf, executedAs}
+use Rattle.turns.specs.declared.Ran.{Ran}
 use Rattle.calls.specs.declared.Called.{Called}
 use Rattle.calls.specs.declared.RunResult.{RunResult}
 

@@ -1,20 +1,23 @@
--- Which sweep or change a code is, and the parts of a mode change put together.
-use Prim.Native.Nat.{ℕ, suc, _≤_, _<_}
-use mathlib.Core.Path.{_≡_, refl, ap, _∙_}
+-- Which sweep or change a code is, the parts of a mode change put together, and which number is due.
+use Prim.Native.Nat.{ℕ, zero, suc, _≤_, _<_}
+use mathlib.Core.Path.{_≡_, refl, sym, ap, _∙_}
+use mathlib.Core.Bool.{true, false, not}
+use mathlib.Core.Logic.{_≢_}
 use mathlib.Core.List.{List}
 use native.Mathlib.Omega.{arith}
 use lib.ListN.{length, replicate}
 use lib.Dec.{leb, eqb}
-use borrow.Author.Tests.{eqb-true, eqb-false, ne-eqb, leb-true}
-use Rattle.model.specs.Basics.{both, either, bool}
+use borrow.Author.Tests.{eqb-true, eqb-false, eq-eqb, ne-eqb, leb-true, le-leb, lt-leb}
+use Rattle.model.specs.Basics.{pick, both, either, bool}
 use Rattle.model.specs.Bytes.{zeroFrom}
 use Rattle.model.specs.Memories.{cacheSize, isMode, sramLength}
 use Rattle.model.specs.Records.{State, state, sramOf, freshL1dSet, freshL2Set}
-use Rattle.model.specs.Modes.{smaller, flushL2, newMode, changeMode, changeMar}
-use Rattle.model.specs.Refusals.{unless, modeDue}
-use Rattle.model.specs.Calls.{commandDue, commandState}
+use Rattle.model.specs.Modes.{holdsRange, smaller, flushL2, newMode, changeMode, changeMar}
+use Rattle.model.specs.Refusals.{first, unless, blockDue, modeDue}
+use Rattle.model.specs.Calls.{reply, commandDue, commandState, accepted, step}
 use Rattle.model.specs.declared.Command.{Command}
 use Rattle.model.specs.declared.Record.{Record}
+use Rattle.mar.specs.Range.{marOperandsDue, due-in-turn}
 use Rattle.l1d_commands.specs.Sweep.{l1dSweep, l1d-7, l1d-8, l1d-9, l1d-10}
 use Rattle.l2_commands.specs.Sweep.{l2Sweep, l2-2, l2-3, l2-4, l2-5, l2-6}
 
@@ -31,14 +34,19 @@ newRecord m r =
       l2 = replicate 512 freshL2Set;
     }
 
--- a mode change: p, q: the record once L1D, and L2, have gone home; k: the smaller of old and new S; n: the new record
-pub changed : (mode : ℕ) (r p q n : Record) (l m m₁ m₂ e e₁ e₂ : List ℕ) (k : ℕ) → state p l m₁ e₁ ≡ l1dSweep 10 0 0 (state r l m e) →
-    state q l m₁ e₂ ≡ flushL2 (state p l m₁ e₁) → k ≡ smaller (sramOf q) (sramLength (q .l2len) mode) → m₂ ≡ zeroFrom k m₁ (length m₁) →
-    n ≡ newRecord mode q → state n l m₂ e₂ ≡ changeMode mode (state r l m e)
-unfolding changeMode newMode
-changed mode r p q n l m m₁ m₂ e e₁ e₂ k e1 e2 ek em en =
-    let last : state n l m₂ e₂ ≡ newMode mode (state q l m₁ e₂) = rw (en, em, ek) refl in
-    last ∙ ap (newMode mode) (e2 ∙ ap flushL2 (e1 ∙ l1d-10 0 0 (state r l m e)))
+-- ---- a mode change
+-- what follows once L1D has gone home
+unfoldable pub afterL1d : ℕ → State → State
+afterL1d m z = newMode m (flushL2 z)
+
+-- q: the record once L2 has gone out; k: the smaller of old and new S; n: the new record
+pub changed : (mode : ℕ) (r q n : Record) (l m m₂ e e₂ : List ℕ) (k : ℕ) → state q l m e₂ ≡ flushL2 (state r l m e) →
+    k ≡ smaller (sramOf q) (sramLength (q .l2len) mode) → m₂ ≡ zeroFrom k m (length m) → n ≡ newRecord mode q →
+    state n l m₂ e₂ ≡ afterL1d mode (state r l m e)
+unfolding afterL1d newMode
+changed mode r q n l m m₂ e e₂ k e2 ek em en =
+    let last : state n l m₂ e₂ ≡ newMode mode (state q l m e₂) = rw (en, em, ek) refl in
+    last ∙ ap (newMode mode) e2
 
 -- ---- by the code
 -- a number from n on is n, or lies above it
@@ -69,9 +77,10 @@ module _ (c : Command) (z : State) where
       (λ e. rw e (l1d-8 (c .first) (c .second) z)) (λ h₉.
       let e : c .code ≡ 9 = omega arith in rw e (l1d-9 (c .first) (c .second) z)))
 
-  pub changed-mode : c .code ≡ 10 → changeMode (c .first) z ≡ commandState c z
-  unfolding commandState
-  changed-mode e = rw e refl
+  -- L1D's sweep, and what follows it
+  pub changed-mode : c .code ≡ 10 → (p : State) → p ≡ l1dSweep (c .code) (c .first) (c .second) z → afterL1d (c .first) p ≡ commandState c z
+  unfolding commandState changeMode afterL1d
+  changed-mode e p ep = rw (ep, e, l1d-10 (c .first) (c .second) z) refl
 
   pub changed-mar : c .code ≡ 11 → changeMar (c .first) (c .second) z ≡ commandState c z
   unfolding commandState
@@ -94,7 +103,87 @@ module _ (c : Command) (z : State) where
         ne-eqb (c .code) 11 (omega arith),
       ) refl
 
+-- ---- which number is due
+-- by L and the operands alone: all but 10
+unfoldable pub operandsDue : ℕ → Command → ℕ
+operandsDue l c =
+    pick (both (leb 4 (c .code)) (leb (c .code) 8)) (blockDue (c .first) (c .second))
+    (pick (eqb (c .code) 10) (modeDue l (c .first)) (pick (eqb (c .code) 11) (marOperandsDue (c .first) (c .second)) 0))
+
+module _ (l : ℕ) (c : Command) where
+  pub due-below-4 : c .code < 4 → 0 ≡ operandsDue l c
+  unfolding operandsDue
+  due-below-4 k = rw (lt-leb 4 (c .code) k, ne-eqb (c .code) 10 (λ e. absurd (omega arith)), ne-eqb (c .code) 11 (λ e. absurd (omega arith))) refl
+
+  pub due-block : 4 ≤ c .code → c .code ≤ 8 → blockDue (c .first) (c .second) ≡ operandsDue l c
+  unfolding operandsDue
+  due-block k g = rw (le-leb 4 (c .code) k, le-leb (c .code) 8 g) refl
+
+  pub due-mode : c .code ≡ 10 → modeDue l (c .first) ≡ operandsDue l c
+  unfolding operandsDue
+  due-mode e = rw e refl
+
+  pub due-mar : c .code ≡ 11 → marOperandsDue (c .first) (c .second) ≡ operandsDue l c
+  unfolding operandsDue
+  due-mar e = rw e refl
+
+  pub due-else : 8 < c .code → c .code ≢ 10 → c .code ≢ 11 → 0 ≡ operandsDue l c
+  unfolding operandsDue
+  due-else k n m = let four : 4 ≤ c .code = omega arith in
+      rw (le-leb 4 (c .code) four, lt-leb (c .code) 8 k, ne-eqb (c .code) 10 n, ne-eqb (c .code) 11 m) refl
+
   -- what an accepted mode change knows of its mode: it is a byte
-  pub accepted-mode : commandDue c z ≡ 0 → c .code ≡ 10 → c .first < 256
-  unfolding commandDue modeDue isMode
-  accepted-mode h e = mode-byte (c .first) (cacheSize (c .first)) (z .rec .l2len) (rw e at h)
+  pub accepted-mode : operandsDue l c ≡ 0 → c .code ≡ 10 → c .first < 256
+  unfolding operandsDue modeDue isMode
+  accepted-mode h e = mode-byte (c .first) (cacheSize (c .first)) l (rw e at h)
+
+first-none : (n : ℕ) → first n 0 ≡ n
+first-none zero = refl
+first-none (suc n) = refl
+
+first-some : (n k : ℕ) → n ≢ 0 → first n k ≡ n
+first-some zero k h = absurd (h refl)
+first-some (suc n) k h = refl
+
+module _ (c : Command) (z : State) (h : 2 ≤ c .code) where
+  not-access : (eqb (c .code) 0 ≡ false) × (eqb (c .code) 1 ≡ false)
+  not-access = (ne-eqb (c .code) 0 (λ e. absurd (omega arith)), ne-eqb (c .code) 1 (λ e. absurd (omega arith)))
+
+  -- the operands' number first; then, for a MAR bit, 10
+  in-turn : commandDue c z ≡ first (operandsDue (z .rec .l2len) c) (unless (not (both (eqb (c .code) 11) (both (eqb (c .second) 0) (holdsRange (c .first) (z .rec))))) 10)
+  unfolding commandDue operandsDue
+  in-turn =
+      bool (eqb (c .code) 11)
+      (λ e. rw (eqb-true (c .code) 11 e) (due-in-turn (c .first) (c .second) (z .rec)))
+      (λ e. rw (not-access .0, not-access .1, e) (sym (first-none (pick (both (leb 4 (c .code)) (leb (c .code) 8)) (blockDue (c .first) (c .second)) (pick (eqb (c .code) 10) (modeDue (z .rec .l2len) (c .first)) 0)))))
+
+  pub refused-by-operands : (n : ℕ) → n ≡ operandsDue (z .rec .l2len) c → n ≢ 0 → reply n 0 0 z ≡ step c z
+  unfolding step
+  refused-by-operands n e k =
+      let d : commandDue c z ≡ n = in-turn ∙ rw (← e) (first-some n _ k) in
+      rw (d, ne-eqb n 0 k) refl
+
+  carried-by : commandDue c z ≡ 0 → (x : State) → x ≡ commandState c z → reply 0 0 0 x ≡ step c z
+  unfolding step accepted
+  carried-by d x e = rw (e, eq-eqb (commandDue c z) 0 d, not-access .0, not-access .1) refl
+
+  module _ (none : operandsDue (z .rec .l2len) c ≡ 0) where
+    due-held : commandDue c z ≡ unless (not (both (eqb (c .code) 11) (both (eqb (c .second) 0) (holdsRange (c .first) (z .rec))))) 10
+    due-held = in-turn ∙ rw none refl
+
+    pub carried : c .code ≢ 11 → (x : State) → x ≡ commandState c z → reply 0 0 0 x ≡ step c z
+    carried m = carried-by (due-held ∙ rw (ne-eqb (c .code) 11 m) refl)
+
+    pub mar-set : c .second ≢ 0 → (x : State) → x ≡ commandState c z → reply 0 0 0 x ≡ step c z
+    mar-set m = carried-by (due-held ∙ bool (eqb (c .code) 11) (λ e. rw (e, ne-eqb (c .second) 0 m) refl) (λ e. rw e refl))
+
+    pub mar-cleared : holdsRange (c .first) (z .rec) ≡ false → (x : State) → x ≡ commandState c z → reply 0 0 0 x ≡ step c z
+    mar-cleared m =
+        carried-by (due-held ∙ bool (eqb (c .code) 11)
+        (λ e. bool (eqb (c .second) 0) (λ k. rw (e, k, m) refl) (λ k. rw (e, k) refl)) (λ e. rw e refl))
+
+    pub mar-held : c .code ≡ 11 → c .second ≡ 0 → holdsRange (c .first) (z .rec) ≡ true → reply 10 0 0 z ≡ step c z
+    unfolding step
+    mar-held e k m =
+        let d : commandDue c z ≡ 10 = due-held ∙ rw (e, k, m) refl in
+        rw d refl

@@ -1,15 +1,21 @@
-// What an accepted command does that is neither a read nor a write: the cache commands by their sweeps, the mode change and the MAR change.
-// Each takes the record and gives it back; its contract is one equation between the states before and after.
+// A command that is neither a read nor a write: refused by its number, or carried out. The cache commands are sweeps, the mode change is L1D's sweep and
+// what follows it. The record goes in and comes back by value, so each sweep has its one call site here: inlined there, it works on this record.
 ghost use mathlib.Core.Path.{_≡_};
 ghost use mathlib.Core.List.{List};
 ghost use Prim.Native.Nat.{ℕ, _≤_, _<_};
 ghost use Rattle.model.specs.Records.{state};
-ghost use Rattle.model.specs.Modes.{changeMode, changeMar, smaller};
-ghost use Rattle.model.specs.Calls.{commandState};
-ghost use Rattle.commands.specs.Commands.{newRecord};
+ghost use Rattle.model.specs.Modes.{changeMar, smaller};
+ghost use Rattle.model.specs.Calls.{reply, step};
+ghost use Rattle.commands.specs.Commands.{newRecord, operandsDue, afterL1d};
 use model::Command;
 use model::Record;
 use sets::L2;
+
+// The record after a command, and the number of its refusal.
+pub struct Carried {
+    pub number: u8,
+    pub record: Record,
+}
 
 pub fn smaller(a: usize, b: usize) -> usize
     ensures { λ r. ⌜ r ≡ smaller a b ⌝ }
@@ -31,12 +37,12 @@ pub fn new_record(r: Record, mode: u8) -> Record
     q
 }
 
-// Dirty lines of L1D go home, then those of L2; then everything is empty, and L2 is zero from the smaller of old and new S on.
-pub fn change_mode(r: Record, mode: u8, l1d: &[u8], l2: &mut [u8], ext: &mut [u8]) -> Record
-    ensures { λ q. ⌜ state q (now (l1d .entry)) (now (l2 .exit)) (now (ext .exit)) ≡ changeMode mode (state r (now (l1d .entry)) (now (l2 .entry)) (now (ext .entry))) ⌝ }
+// A mode change once the dirty lines of L1D have gone home: those of L2 go out; then everything is empty, and L2 is zero from the smaller of old and
+// new S on. L1D's bytes, whatever they are, are not looked at.
+pub fn change_mode(r: Record, mode: u8, l2: &mut [u8], ext: &mut [u8]) -> Record
+    ensures { λ q. ⌜ ((d : List ℕ) → state q d (now (l2 .exit)) (now (ext .exit)) ≡ afterL1d mode (state r d (now (l2 .entry)) (now (ext .entry)))) ⌝ }
 {
-    let p = l1d_commands::l1d_sweep(r, 10, 0, 0, l1d, l2, ext);
-    let q = l2_commands::flush_l2(p, l2, ext);
+    let q = l2_commands::flush_l2(r, l2, ext);
     let old = L2::sram(q.l2len, q.mode);
     let new = L2::sram(q.l2len, mode);
     let keep = smaller(old, new);
@@ -60,24 +66,80 @@ pub fn change_mar(r: Record, n: u32, bit: u32) -> Record
     q
 }
 
-// An accepted command that is neither a read nor a write. A mode change needs a mode that is a byte, which an accepted one is (`accepted-mode` of
-// specs/Commands).
-pub fn perform(r: Record, c: Command, l1d: &[u8], l2: &mut [u8], ext: &mut [u8]) -> Record
-    requires { ⌜ 2 ≤ c .code ⌝ }
-    requires { ⌜ (c .code ≡ 10 → c .first < 256) ⌝ }
-    ensures { λ q. ⌜ state q (now (l1d .entry)) (now (l2 .exit)) (now (ext .exit)) ≡ commandState c (state r (now (l1d .entry)) (now (l2 .entry)) (now (ext .entry))) ⌝ }
+// The number that is due by L and the operands alone: 4, 7, 8 or 9. Only 10 is left, for which lines are looked at.
+pub fn operands_due(l2len: u32, c: Command) -> u8
+    ensures { λ n. ⌜ n ≡ operandsDue l2len c ⌝ }
 {
-    if c.code < 7 {
-        return l2_commands::l2_sweep(r, c.code, c.first, c.second, l1d, l2, ext);
+    if c.code < 4 {
+        return 0;
     }
-    if c.code < 10 {
-        return l1d_commands::l1d_sweep(r, c.code, c.first, c.second, l1d, l2, ext);
+    if c.code <= 8 {
+        return refusals::block_due(c.first, c.second);
     }
     if c.code == 10 {
-        return change_mode(r, c.first as u8, l1d, l2, ext);
+        return refusals::mode_due(l2len, c.first);
     }
     if c.code == 11 {
-        return change_mar(r, c.first, c.second);
+        return mar::operands_due(c.first, c.second);
     }
-    r
+    0
+}
+
+pub fn carry_out(r: Record, c: Command, l1d: &[u8], l2: &mut [u8], ext: &mut [u8]) -> Carried
+    requires { ⌜ 2 ≤ c .code ⌝ }
+    ensures { λ o. ⌜ reply (o .number) 0 0 (state (o .«record») (now (l1d .entry)) (now (l2 .exit)) (now (ext .exit))) ≡ step c (state r (now (l1d .entry)) (now (l2 .entry)) (now (ext .entry))) ⌝ }
+{
+    let due = operands_due(r.l2len, c);
+    if due != 0 {
+        return Carried {
+            number: due,
+            record: r,
+        };
+    }
+    if c.code < 7 {
+        let q = l2_commands::l2_sweep(r, c.code, c.first, c.second, l1d, l2, ext);
+        return Carried {
+            number: 0,
+            record: q,
+        };
+    }
+    if c.code < 11 {
+        let p = l1d_commands::l1d_sweep(r, c.code, c.first, c.second, l1d, l2, ext);
+        if c.code < 10 {
+            return Carried {
+                number: 0,
+                record: p,
+            };
+        }
+        let q = change_mode(p, c.first as u8, l2, ext);
+        return Carried {
+            number: 0,
+            record: q,
+        };
+    }
+    if c.code != 11 {
+        return Carried {
+            number: 0,
+            record: r,
+        };
+    }
+    // only a bit that is to be 0 asks what the caches hold
+    if c.second != 0 {
+        let q = change_mar(r, c.first, c.second);
+        return Carried {
+            number: 0,
+            record: q,
+        };
+    }
+    if mar::holds_range(r, c.first) {
+        return Carried {
+            number: 10,
+            record: r,
+        };
+    }
+    let q = change_mar(r, c.first, c.second);
+    Carried {
+        number: 0,
+        record: q,
+    }
 }

@@ -4,7 +4,7 @@ ghost use mathlib.Core.Bool.{true};
 ghost use mathlib.Core.Path.{_≡_};
 ghost use Prim.Native.Nat.{_+_, _≤_, _<_};
 ghost use Rattle.model.specs.Refusals.{sizeOk};
-ghost use Rattle.stages.specs.Stages.{sentAs, sendHome, takenAs, takeHalf, writeOut};
+ghost use Rattle.stages.specs.Stages.{sentAs, sendHome, belowAs, sendBelow, takenAs, takeHalf, writeOut};
 use model::L1dSet;
 use model::L2Set;
 use model::Line;
@@ -56,6 +56,36 @@ pub fn send_home(
     );
     let y = sets::l2_get(u, v);
     sets::l2_put(u, v, sets::line_at(y.address, true))
+}
+
+// The same for a dirty line whose home is not the L2 cache: no set is needed.
+pub fn send_below(
+    sets: usize,
+    i: usize,
+    w: usize,
+    x: Line,
+    l1d: &[u8],
+    l2: &mut [u8],
+    ext: &mut [u8],
+)
+    requires { ⌜ (i < 128) × (w < 2) ⌝ }
+    ensures { λ _. ⌜ belowAs (now (l2 .exit)) (now (ext .exit)) ≡ sendBelow sets i w x (now (l1d .entry)) (now (l2 .entry)) (now (ext .entry)) ⌝ }
+{
+    if !x.valid {
+        return;
+    }
+    if !x.dirty {
+        return;
+    }
+    let from = L1d::data_at(i, w);
+    if !sets::is_external(x.address) {
+        memory::move64(l2, sets::place_of(x.address), l1d, from);
+        return;
+    }
+    if sets != 0 {
+        return;
+    }
+    memory::move64(ext, sets::external_place(x.address), l1d, from);
 }
 
 // The half at b of an L2 line that leaves (or goes out) leaves L1D; a dirty one is taken into the L2 line, whose bytes begin at `to`.

@@ -21,11 +21,11 @@ use Rattle.model.specs.declared.L1dSet.{L1dSet}
 use Rattle.model.specs.declared.L2Set.{L2Set}
 use Rattle.model.specs.declared.Record.{Record}
 use Rattle.model.specs.declared.Command.{Command}
-use Rattle.stages.specs.Stages.{isWrite, written, leaving, emptied, Sent, sentAs, sendHome, homed, choice, choose, Taken, takeHalf, goesOut, writeOut, marked, Brought, broughtAs, bring, homeOf, Stored, storeHome, fetchLine, Finished, finish, serverOf}
+use Rattle.stages.specs.Stages.{isWrite, written, leaving, emptied, Sent, sentAs, sendHome, homed, goesInside, Below, sendBelow, choice, choose, Taken, takeHalf, goesOut, writeOut, marked, Brought, broughtAs, bring, homeOf, Stored, storeHome, fetchLine, Finished, finish, serverBelow, serverOf}
 use Rattle.stages.specs.declared.Departure.{Departure}
 use Rattle.stages.specs.declared.Choice.{Choice}
 use Rattle.joins.specs.Sets.{set-again, putLine, put-put, keep-l1d, keep-l2, withSets}
-use Rattle.joins.specs.Leaving.{sent-home, Left, evicted}
+use Rattle.joins.specs.Leaving.{none-below, all-below, sent-home, Left, evicted}
 use Rattle.joins.specs.Access.{performed}
 
 -- ---- a read miss sends home and empties the way that it chose; a write miss does nothing to L1D
@@ -52,6 +52,25 @@ roomed r l m e write a i t g s q ei eg et es eq =
     let q′ : q ≡ l1dPut (l1dSetAt r i) (l1dVictim (l1dSetAt r i)) emptyLine = rw g′ at eq in
     let h = ap (emptyL1d i (l1dVictim (l1dSetAt r i))) (sent-home r l m e t i (l1dVictim (l1dSetAt r i)) s t′ s′) in
     rw (q′, w, ei) (rw ei at h))
+
+-- the same as the code has it: the L2 set is changed only where the line goes inside, and what goes below follows
+module _ (r : Record) (l m e : List ℕ) (write : Bool) (a i : ℕ) (g : Departure) (q : L1dSet) (b : Below) (ei : i ≡ l1dSetOf a)
+    (eg : g ≡ leaving (l1dSetAt r i) write) (eq : q ≡ emptied (l1dSetAt r i) g) where
+  pub room-inside : (t : ℕ) (s : Sent) → goesInside (l2SetsOf r) (g .line) ≡ true → (l2SetsOf r ≢ 0 → t ≡ l2SetOf r (g .line .address)) →
+      s ≡ sendHome (l2SetAt r t) (sramOf r) (l2SetsOf r) t i (g .way) (g .line) l m e → b ≡ sendBelow (l2SetsOf r) i (g .way) (g .line) l (s .l2) (s .ext) →
+      state (withL1dSet (withL2Set r t (s .set)) i q) l (b .l2) (b .ext) ≡ room write a (state r l m e)
+  room-inside t s k et es eb =
+      ap (λ (x : Below). state (withL1dSet (withL2Set r t (s .set)) i q) l (x .l2) (x .ext)) (eb ∙ none-below (l2SetsOf r) i (g .way) (g .line) l (s .l2) (s .ext) k)
+      ∙ roomed r l m e write a i t g s q ei eg et es eq
+
+  pub room-below : goesInside (l2SetsOf r) (g .line) ≡ false → b ≡ sendBelow (l2SetsOf r) i (g .way) (g .line) l m e →
+      state (withL1dSet r i q) l (b .l2) (b .ext) ≡ room write a (state r l m e)
+  room-below k eb =
+      let t = l2SetOf r (g .line .address) in
+      let es : sentAs (l2SetAt r t) (b .l2) (b .ext) ≡ sendHome (l2SetAt r t) (sramOf r) (l2SetsOf r) t i (g .way) (g .line) l m e
+      = ap (λ (x : Below). sentAs (l2SetAt r t) (x .l2) (x .ext)) eb ∙ sym (all-below (l2SetsOf r) i (g .way) (g .line) l m e (l2SetAt r t) (sramOf r) t k) in
+      ap (λ (x : Record). state (withL1dSet x i q) l (b .l2) (b .ext)) (sym (keep-l2 r t))
+      ∙ roomed r l m e write a i t g (sentAs (l2SetAt r t) (b .l2) (b .ext)) q ei eg (λ n. refl) es eq
 
 -- what a fetch leaves in external memory
 brought-ext : (u : L2Set) (ch : Choice) (d write : Bool) (a at : ℕ) (m e : List ℕ) (b : Brought) → ch .found ≡ false → b ≡ bring u ch d write a at m e →
@@ -193,6 +212,13 @@ filled-is : (x n a : ℕ) (y : State) →
 unfolding readEmptied readFilled
 filled-is x n a y = refl
 
+-- ---- the server where the home is not L2
+pub server-below : (z : State) (a : ℕ) → homeIsL2 (z .rec) a ≡ false → serverBelow a ≡ homeServer a z
+unfolding serverBelow homeServer homeIsL2
+server-below z a h =
+    bool (ltb a externalBase) (λ b. rw b refl)
+    (λ b. bool (eqb (l2SetsOf (z .rec)) 0) (λ n. rw (b, n) refl) (λ n. false-true (sym (rw (b, n) at h))))
+
 -- ---- what the choice of a way told
 module _ (z : State) (a t : ℕ) (ch : Choice) (et : homeIsL2 (z .rec) a ≡ true → t ≡ l2SetOf (z .rec) a)
     (ec : ch ≡ choose (l2SetAt (z .rec) t) (homeIsL2 (z .rec) a) a) where
@@ -203,6 +229,9 @@ module _ (z : State) (a t : ℕ) (ch : Choice) (et : homeIsL2 (z .rec) a ≡ tru
       bool (ltb (l2Find (l2SetAt (z .rec) (l2SetOf (z .rec) a)) (l2Line a)) 4)
       (λ f. ap (λ (x : Choice). x .way) (rw (h, q, f) at ec) ∙ rw f refl)
       (λ f. ap (λ (x : Choice). x .way) (rw (h, q, f) at ec) ∙ rw f refl)
+
+  pub place-for : (at : ℕ) → at ≡ l2Data (z .rec) t (ch .way) → homeIsL2 (z .rec) a ≡ true → at ≡ l2Data (z .rec) (l2SetOf (z .rec) a) (l2WayFor z a)
+  place-for at ea h = ea ∙ rw (et h, way-for h) refl
 
   pub server-is : serverOf ch a ≡ homeServer a z
   unfolding serverOf homeServer choose inL2 l2Way homeIsL2
@@ -218,10 +247,9 @@ module _ (z : State) (a t : ℕ) (ch : Choice) (et : homeIsL2 (z .rec) a ≡ tru
 
 -- ---- the access itself. z₁: the state in which L1D has room; r, l, m, e: the state in which L2 is ready
 module _ (z₁ : State) (r : Record) (l m e : List ℕ) (c : Command) (mode : r .mode ≡ z₁ .rec .mode) (len : r .l2len ≡ z₁ .rec .l2len)
-    (i w t at : ℕ) (ch : Choice) (n : Finished)
-    (ei : i ≡ l1dSetOf (c .second)) (et : homeIsL2 (z₁ .rec) (c .second) ≡ true → t ≡ l2SetOf (z₁ .rec) (c .second))
-    (ec : ch ≡ choose (l2SetAt (z₁ .rec) t) (homeIsL2 (z₁ .rec) (c .second)) (c .second))
-    (ea : at ≡ l2Data (z₁ .rec) t (ch .way))
+    (i w at server : ℕ) (n : Finished) (ei : i ≡ l1dSetOf (c .second))
+    (ea : homeIsL2 (z₁ .rec) (c .second) ≡ true → at ≡ l2Data (z₁ .rec) (l2SetOf (z₁ .rec) (c .second)) (l2WayFor z₁ (c .second)))
+    (ek : server ≡ homeServer (c .second) z₁)
     (e₂ : state r l m e ≡ ready (isWrite c) (c .second) z₁)
     (en : n ≡ finish (l1dSetAt r i) i w (homeIsL2 (z₁ .rec) (c .second)) at c l m e) where
   abbrev a : ℕ
@@ -231,7 +259,7 @@ module _ (z₁ : State) (r : Record) (l m e : List ℕ) (c : Command) (mode : r 
   v = l2WayFor z₁ a
 
   abbrev served : Reply
-  served = reply 0 (serverOf ch a) (n .out .value) (state (withL1dSet r i (n .out .set)) (n .l1d) (n .l2) (n .ext))
+  served = reply 0 server (n .out .value) (state (withL1dSet r i (n .out .set)) (n .l1d) (n .l2) (n .ext))
 
   same-home : homeIsL2 r a ≡ homeIsL2 (z₁ .rec) a
   unfolding homeIsL2
@@ -239,9 +267,7 @@ module _ (z₁ : State) (r : Record) (l m e : List ℕ) (c : Command) (mode : r 
 
   -- the place of the L2 line, by the record as it is now
   place : homeIsL2 r a ≡ true → at ≡ l2Data r (l2SetOf r a) v
-  place h =
-      let h₁ = sym same-home ∙ h in
-      ea ∙ rw (et h₁, way-for z₁ a t ch et ec h₁) (rw (mode, len) refl)
+  place h = ea (sym same-home ∙ h) ∙ rw (mode, len) refl
 
   read-done : isWrite c ≡ false → served ≡ reply 0 (homeServer a z₁) (little (readFilled w (homeServer a z₁) (c .first) a (fillL1d w v a (fetchL2 a z₁)) .bytes))
       (readFilled w (homeServer a z₁) (c .first) a (fillL1d w v a (fetchL2 a z₁)) .next)
@@ -253,8 +279,8 @@ module _ (z₁ : State) (r : Record) (l m e : List ℕ) (c : Command) (mode : r 
       let z₂ : state r l m e ≡ fetchL2 a z₁ = e₂ ∙ ready-read z₁ a (isWrite c) k in
       let after : served ≡ reply 0 (homeServer a z₁) (little (part (stored l (l1dData i w) (homeLine v a (state r l m e))) (l1dData i w + a % 64) (c .first)))
       (state (withSets r (set (r .l1d) i (l1dUse (l1dPut (l1dSetAt r i) w (lineOf (l1dLine a) false)) w)) (r .l2)) (stored l (l1dData i w) (homeLine v a (state r l m e))) m e)
-      = ap (λ (x : Finished). reply 0 (serverOf ch a) (x .out .value) (state (withL1dSet r i (x .out .set)) (x .l1d) (x .l2) (x .ext))) n′
-      ∙ rw (server-is z₁ a t ch et ec, bytes) refl in
+      = ap (λ (x : Finished). reply 0 server (x .out .value) (state (withL1dSet r i (x .out .set)) (x .l1d) (x .l2) (x .ext))) n′
+      ∙ rw (ek, bytes) refl in
       after
       ∙ ap (λ (k : List L1dSet). reply 0 (homeServer a z₁) (little (part (stored l (l1dData i w) (homeLine v a (state r l m e))) (l1dData i w + a % 64) (c .first)))
       (state (withSets r k (r .l2)) (stored l (l1dData i w) (homeLine v a (state r l m e))) m e))
@@ -296,8 +322,8 @@ module _ (z₁ : State) (r : Record) (l m e : List ℕ) (c : Command) (mode : r 
       let n′ = rw k at en in
       let stay : state (withL1dSet r i (l1dSetAt r i)) l (home .l2) (home .ext) ≡ state r l (home .l2) (home .ext) = ap (λ (x : Record). state x l (home .l2) (home .ext)) (keep-l1d r i) in
       let all : state r l (home .l2) (home .ext) ≡ writeHome v a (written c) (fetchL2 a z₁) = bool (homeIsL2 (z₁ .rec) a) (λ h. into-l2 k h) (λ h. into-memory h) in
-      ap (λ (x : Finished). reply 0 (serverOf ch a) (x .out .value) (state (withL1dSet r i (x .out .set)) (x .l1d) (x .l2) (x .ext))) n′
-      ∙ rw (server-is z₁ a t ch et ec) (ap (λ (y : State). reply 0 (homeServer a z₁) 0 y) (stay ∙ all))
+      ap (λ (x : Finished). reply 0 server (x .out .value) (state (withL1dSet r i (x .out .set)) (x .l1d) (x .l2) (x .ext))) n′
+      ∙ rw ek (ap (λ (y : State). reply 0 (homeServer a z₁) 0 y) (stay ∙ all))
 
   -- ---- the whole miss, from the state z before it
   pub miss-done : (z : State) → cacheable (z .rec) a ≡ true → inL1d z a ≡ false → z₁ ≡ room (isWrite c) a z → (isWrite c ≡ false → w ≡ victimOf a z) →

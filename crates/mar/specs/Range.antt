@@ -8,7 +8,7 @@ use lib.ListN.{length, getD, drop, drop-of-length-le}
 use lib.Seq.{drop-cons}
 use lib.Dec.{leb, eqb}
 use borrow.Author.Tests.{eq-eqb, ne-eqb}
-use Rattle.model.specs.Basics.{both, any}
+use Rattle.model.specs.Basics.{both, either, any}
 use Rattle.model.specs.Lines.{emptyLine}
 use Rattle.model.specs.Modes.{inRange, holdsRange}
 use Rattle.model.specs.Refusals.{first, unless, marDue}
@@ -20,25 +20,27 @@ use Rattle.sizes.specs.Join.{and-both, or-either, or-pick}
 use Rattle.ways.specs.Ways.{two, four, any-two, any-four}
 
 -- ---- a MAR bit
-module _ (r : Record) (n b : ℕ) where
+-- 9 goes by the operands alone, 10 by the lines that are held
+unfoldable pub marOperandsDue : ℕ → ℕ → ℕ
+marOperandsDue n b = unless (both (either (eqb n 128) (eqb n 129)) (leb b 1)) 9
+
+module _ (n b : ℕ) where
   abbrev marFlag : Bool
   marFlag = (eqb n 128 || eqb n 129) && leb b 1
 
-  by-mar : marDue r n b ≡ first (unless marFlag 9) (unless (not (both (eqb b 0) (holdsRange n r))) 10)
-  unfolding marDue
-  by-mar = simp (and-both, or-either)
+  by-operands : marOperandsDue n b ≡ unless marFlag 9
+  unfolding marOperandsDue
+  by-operands = simp (and-both, or-either)
 
-  pub mar-nine : marFlag ≡ false → 9 ≡ marDue r n b
-  mar-nine e = sym (by-mar ∙ rw e refl)
+  pub operands-none : marFlag ≡ true → 0 ≡ marOperandsDue n b
+  operands-none e = sym (by-operands ∙ rw e refl)
 
-  pub mar-set : marFlag ≡ true → (b ≡ 0 → ⊥) → 0 ≡ marDue r n b
-  mar-set e z = sym (by-mar ∙ rw (e, ne-eqb b 0 z) refl)
+  pub operands-nine : marFlag ≡ false → 9 ≡ marOperandsDue n b
+  operands-nine e = sym (by-operands ∙ rw e refl)
 
-  pub mar-ten : marFlag ≡ true → b ≡ 0 → holdsRange n r ≡ true → 10 ≡ marDue r n b
-  mar-ten e z h = sym (by-mar ∙ rw (e, eq-eqb b 0 z, h) refl)
-
-  pub mar-cleared : marFlag ≡ true → b ≡ 0 → holdsRange n r ≡ false → 0 ≡ marDue r n b
-  mar-cleared e z h = sym (by-mar ∙ rw (e, eq-eqb b 0 z, h) refl)
+  pub due-in-turn : (r : Record) → marDue r n b ≡ first (marOperandsDue n b) (unless (not (both (eqb b 0) (holdsRange n r))) 10)
+  unfolding marDue marOperandsDue
+  due-in-turn r = refl
 
 module _ (r : Record) (n : ℕ) where
   pub range-l1d : any (λ (v : L1dSet). any (inRange n) (v .lines)) (r .l1d) ≡ true → true ≡ holdsRange n r

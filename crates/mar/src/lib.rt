@@ -2,7 +2,7 @@
 ghost use mathlib.Core.Path.{_≡_};
 ghost use Rattle.model.specs.Basics.{any};
 ghost use Rattle.model.specs.Modes.{inRange, holdsRange};
-ghost use Rattle.model.specs.Refusals.{marDue};
+ghost use Rattle.mar.specs.Range.{marOperandsDue};
 use model::L1dSet;
 use model::L2Set;
 use model::Line;
@@ -59,18 +59,12 @@ pub fn holds_range(r: Record, n: u32) -> bool
     l2_holds(r, n)
 }
 
-// The caches are looked through only where the bit is to be 0.
-pub fn mar_due(r: Record, n: u32, bit: u32) -> u8
-    ensures { λ k. ⌜ k ≡ marDue r n bit ⌝ }
+// Refusal 9, which goes by the operands alone.
+pub fn operands_due(n: u32, bit: u32) -> u8
+    ensures { λ k. ⌜ k ≡ marOperandsDue n bit ⌝ }
 {
-    if ((n == 128) | (n == 129)) & (bit <= 1) {} else {
-        return 9;
-    }
-    if bit == 0 {} else {
+    if ((n == 128) | (n == 129)) & (bit <= 1) {
         return 0;
     }
-    if holds_range(r, n) {
-        return 10;
-    }
-    0
+    9
 }

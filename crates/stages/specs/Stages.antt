@@ -116,9 +116,31 @@ unfoldable pub sendHome : L2Set → ℕ → ℕ → ℕ → ℕ → ℕ → Line
 sendHome u sram sets t i w x l m e =
     pick (x .valid) (pick (x .dirty) (sendBytes u sram sets t (x .address) (part l (l1dData i w) 64) m e) (sentAs u m e)) (sentAs u m e)
 
--- ---- the way of L2
+-- ---- the same by where it goes: into a line of the L2 cache, or below it, for which no set is needed
 unfoldable pub homed : ℕ → ℕ → Bool
 homed sets a = pick (ltb a externalBase) false (not (eqb sets 0))
+
+unfoldable pub goesInside : ℕ → Line → Bool
+goesInside sets x = pick (x .valid) (pick (x .dirty) (homed sets (x .address)) false) false
+
+pub record Below : Type 0 where
+  pub l2 : List ℕ
+  pub ext : List ℕ
+
+abbrev pub belowAs : List ℕ → List ℕ → Below
+belowAs m e = record { l2 = m; ext = e }
+
+-- to SRAM, or to external memory where there is no L2 cache
+unfoldable pub sendBelow : ℕ → ℕ → ℕ → Line → List ℕ → List ℕ → List ℕ → Below
+sendBelow sets i w x l m e =
+    pick (x .valid)
+    (pick (x .dirty)
+    (pick (ltb (x .address) externalBase) (belowAs (stored m (x .address) (part l (l1dData i w) 64)) e)
+    (pick (eqb sets 0) (belowAs m (stored e (x .address - externalBase) (part l (l1dData i w) 64))) (belowAs m e)))
+    (belowAs m e))
+    (belowAs m e)
+
+-- ---- the way of L2
 
 abbrev pub choice : Bool → Bool → ℕ → Line → Choice
 choice h f w x = record { homed = h; found = f; way = w; old = x }
@@ -214,6 +236,10 @@ finish s i w h at c l m e =
     (served (l1dUse (l1dPut s w (lineOf (l1dLine (c .second)) false)) w)
     (little (part (fetchLine (homeOf h at (l1dLine (c .second))) (l1dData i w) l m e) (l1dData i w + c .second % 64) (c .first))))
     (fetchLine (homeOf h at (l1dLine (c .second))) (l1dData i w) l m e) m e)
+
+-- where the home is not L2
+unfoldable pub serverBelow : ℕ → ℕ
+serverBelow a = pick (ltb a externalBase) 2 4
 
 unfoldable pub serverOf : Choice → ℕ → ℕ
 serverOf ch a = pick (ch .homed) (pick (ch .found) 3 4) (pick (ltb a externalBase) 2 4)

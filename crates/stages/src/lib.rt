@@ -2,7 +2,7 @@
 // record. The stages that move bytes (crates eviction and service) are cut from the same definitions, specs/Stages. All are total.
 ghost use mathlib.Core.Path.{_≡_};
 ghost use Prim.Native.Nat.{_+_, _<_};
-ghost use Rattle.stages.specs.Stages.{isWrite, leaving, emptied, homed, choose, goesOut, marked, homeOf, serverOf};
+ghost use Rattle.stages.specs.Stages.{isWrite, leaving, emptied, homed, goesInside, choose, goesOut, marked, homeOf, serverBelow, serverOf};
 use model::Command;
 use model::L1dSet;
 use model::L2Set;
@@ -111,6 +111,19 @@ pub fn homed(sets: usize, a: u32) -> bool
     sets != 0
 }
 
+// Does a line that leaves L1D go into the L2 cache? A clean one goes nowhere.
+pub fn goes_inside(sets: usize, x: Line) -> bool
+    ensures { λ r. ⌜ r ≡ goesInside sets x ⌝ }
+{
+    if !x.valid {
+        return false;
+    }
+    if !x.dirty {
+        return false;
+    }
+    homed(sets, x.address)
+}
+
 pub fn choose(u: L2Set, homed: bool, a: u32) -> Choice
     ensures { λ r. ⌜ (r ≡ choose u homed a) × (r .way < 4) ⌝ }
 {
@@ -180,6 +193,16 @@ pub fn home_of(homed: bool, at: usize, a: u32) -> Home
         return Home::InExternal(sets::external_place(a));
     }
     Home::InL2(sets::place_of(a))
+}
+
+// The server where the home is not L2's cache.
+pub fn server_below(a: u32) -> u8
+    ensures { λ r. ⌜ r ≡ serverBelow a ⌝ }
+{
+    if sets::is_external(a) {
+        return 4;
+    }
+    2
 }
 
 pub fn server_of(ch: Choice, a: u32) -> u8

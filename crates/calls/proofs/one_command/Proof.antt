@@ -1,5 +1,5 @@
 -- `calls::one_command` meets its contract: the checks, then the one step of the loop.
-use Rattle.engine.specs.Executed.{executedAs}
+use Rattle.turns.specs.Executed.{executedAs}
 use Rattle.calls.specs.Called.{call-refused, call-done}
 use Rattle.model.specs.Records.{state}
 use lib.ListN.{length-replicate, replicate}

@@ -1,5 +1,5 @@
 -- `calls::run` meets its contract: the checks, then the loop over the trace.
-use Rattle.engine.specs.Executed.{executedAs}
+use Rattle.turns.specs.Executed.{executedAs}
 use Rattle.calls.specs.Called.{run-refused, run-done}
 use Rattle.model.specs.Records.{state}
 use Prim.Native.Nat.{_-_}

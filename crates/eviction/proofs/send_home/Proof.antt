@@ -2,7 +2,6 @@
 use Rattle.stages.specs.Stages.{sendHome, sendBytes}
 use borrow.Author.Tests.{eq-eqb, ne-eqb, not-true, not-false, lt-ltb, le-ltb}
 use mathlib.Core.Path.{refl, _∙_}
-use Prim.Native.Nat.{_-_}
 use borrow.Author.Needs.{needs}
 use Rattle.eviction.proofs.send_home.Statement.{statement}
 use Rattle.eviction.proofs.send_home.Tie as tie

@@ -2,7 +2,6 @@
 use Rattle.stages.specs.Stages.{takeHalf}
 use borrow.Author.Tests.{not-true, not-false, lt-ltb, le-ltb}
 use mathlib.Core.Path.{refl}
-use Prim.Native.Nat.{_-_}
 use borrow.Author.Needs.{needs}
 use Rattle.eviction.proofs.take_half.Statement.{statement}
 use Rattle.eviction.proofs.take_half.Tie as tie

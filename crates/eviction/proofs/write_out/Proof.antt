@@ -2,7 +2,6 @@
 use Rattle.stages.specs.Stages.{writeOut}
 use borrow.Author.Tests.{not-true, not-false}
 use mathlib.Core.Path.{refl, _∙_}
-use Prim.Native.Nat.{_-_}
 use borrow.Author.Needs.{needs}
 use Rattle.eviction.proofs.write_out.Statement.{statement}
 use Rattle.eviction.proofs.write_out.Tie as tie

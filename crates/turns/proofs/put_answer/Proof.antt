@@ -1,12 +1,12 @@
--- `engine::put_answer` meets its contract: two bytes and a value of eight are an answer of ten.
-use Rattle.engine.specs.Turn.{answered}
+-- `turns::put_answer` meets its contract: two bytes and a value of eight are an answer of ten.
+use Rattle.turns.specs.Turn.{answered}
 use lib.ListN.{length-set}
 use native.Mathlib.Omega.{arith}
 use mathlib.Core.Path.{refl, _∙_}
 use Prim.Native.Nat.{_-_}
 use borrow.Author.Needs.{needs}
-use Rattle.engine.proofs.put_answer.Statement.{statement}
-use Rattle.engine.proofs.put_answer.Tie as tie
+use Rattle.turns.proofs.put_answer.Statement.{statement}
+use Rattle.turns.proofs.put_answer.Tie as tie
 
 mul-at : tie.Need-mul-at
 mul-at c = search needs

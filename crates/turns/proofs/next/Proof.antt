@@ -1,9 +1,9 @@
--- `engine::next` meets its contract: the given command, or that of the trace.
-use Rattle.engine.specs.Executed.{next-given, next-trace}
+-- `turns::next` meets its contract: the given command, or that of the trace.
+use Rattle.turns.specs.Executed.{next-given, next-trace}
 use Prim.Native.Nat.{_-_}
 use borrow.Author.Needs.{needs}
-use Rattle.engine.proofs.next.Statement.{statement}
-use Rattle.engine.proofs.next.Tie as tie
+use Rattle.turns.proofs.next.Statement.{statement}
+use Rattle.turns.proofs.next.Tie as tie
 
 returns : tie.Need-returns
 returns c = next-given (c .before .before .args .single) (c .before .before .args .given) (c .before .before .args .trace .now) (c .before .before .args .at) (c .if1 .taken)

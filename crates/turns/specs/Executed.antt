@@ -20,7 +20,7 @@ use Rattle.decode.specs.Told.{told}
 use Rattle.decode.specs.Codes.{DecodedAt}
 use Rattle.decode.specs.declared.Decoded.{Decoded as Next}
 use Rattle.stages.specs.declared.Answer.{Answer}
-use Rattle.engine.specs.declared.Ran.{Ran}
+use Rattle.turns.specs.declared.Ran.{Ran}
 
 -- ---- where commands come from
 abbrev pub sourceOf : Bool → Command → List ℕ → ℕ → Decoded

@@ -1,11 +1,11 @@
--- `engine::stop_of` meets its contract: each return is a case of the definition, by the tests on its way and what its callees ensure.
-use Rattle.engine.specs.Executed.{stopOf}
+-- `turns::stop_of` meets its contract: each return is a case of the definition, by the tests on its way and what its callees ensure.
+use Rattle.turns.specs.Executed.{stopOf}
 use borrow.Author.Tests.{not-true, not-false, le-leb, lt-leb}
 use native.Mathlib.Omega.{arith}
 use mathlib.Core.Path.{refl}
 use Prim.Native.Nat.{_+_, _-_, _*_}
-use Rattle.engine.proofs.stop_of.Statement.{statement}
-use Rattle.engine.proofs.stop_of.Tie as tie
+use Rattle.turns.proofs.stop_of.Statement.{statement}
+use Rattle.turns.proofs.stop_of.Tie as tie
 
 returns : tie.Need-returns
 unfolding stopOf

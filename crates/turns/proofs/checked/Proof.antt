@@ -1,9 +1,9 @@
--- `engine::checked` meets its contract: each return is a case of the definition, by the tests on its way and what its callees ensure.
+-- `turns::checked` meets its contract: each return is a case of the definition, by the tests on its way and what its callees ensure.
 use mathlib.Core.Path.{refl, sym, _∙_}
 use Prim.Native.Nat.{_-_}
 use borrow.Author.Needs.{needs}
-use Rattle.engine.proofs.checked.Statement.{statement}
-use Rattle.engine.proofs.checked.Tie as tie
+use Rattle.turns.proofs.checked.Statement.{statement}
+use Rattle.turns.proofs.checked.Tie as tie
 
 is-write-requires : tie.Need-is-write-requires
 is-write-requires c κs = search needs

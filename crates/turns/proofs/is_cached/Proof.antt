@@ -1,11 +1,11 @@
--- `engine::is_cached` meets its contract: each return is a case of the definition, by the tests on its way and what its callees ensure.
-use Rattle.engine.specs.Executed.{cachedBy}
+-- `turns::is_cached` meets its contract: each return is a case of the definition, by the tests on its way and what its callees ensure.
+use Rattle.turns.specs.Executed.{cachedBy}
 use borrow.Author.Tests.{lt-ltb, le-ltb}
 use mathlib.Core.Path.{refl, _∙_}
 use Prim.Native.Nat.{_-_}
 use borrow.Author.Needs.{needs}
-use Rattle.engine.proofs.is_cached.Statement.{statement}
-use Rattle.engine.proofs.is_cached.Tie as tie
+use Rattle.turns.proofs.is_cached.Statement.{statement}
+use Rattle.turns.proofs.is_cached.Tie as tie
 
 is-external-requires : tie.Need-is-external-requires
 is-external-requires c κs = search needs
