@@ -1,11 +1,8 @@
 // The exported calls. None requires anything: every number a caller can pass, every record and every length of a lent buffer meets a check, and a refused
 // call leaves all as it was. Each contract equates the answer, the record and every lent byte with paper 01's definitions (model/specs/Calls).
 ghost use mathlib.Core.Path.{_≡_};
-ghost use Prim.Native.Nat.{_≤_};
-ghost use lib.ListN.{length};
 ghost use Rattle.model.specs.Records.{state};
 ghost use Rattle.model.specs.Refusals.{viewDue};
-ghost use Rattle.model.specs.Trace.{command};
 ghost use Rattle.model.specs.Calls.{call, freshCall, freshOk, runCall, viewCall};
 ghost use Rattle.calls.specs.Called.{calledAs, ranAs};
 use model::Command;
@@ -59,151 +56,6 @@ pub fn one_command(r: Record, c: Command, l1d: &mut [u8], l2: &mut [u8], ext: &m
     }
 }
 
-fn command(code: u8, first: u32, second: u32, value: u64) -> Command
-    ensures { λ c. ⌜ c ≡ command code first second value ⌝ }
-{
-    Command {
-        code: code,
-        first: first,
-        second: second,
-        value: value,
-    }
-}
-
-pub fn read(
-    r: Record,
-    size: u32,
-    address: u32,
-    l1d: &mut [u8],
-    l2: &mut [u8],
-    ext: &mut [u8],
-) -> Called
-    ensures { λ x. ⌜ calledAs x (now (l1d .exit)) (now (l2 .exit)) (now (ext .exit)) ≡ call (command 0 size address 0) (state r (now (l1d .entry)) (now (l2 .entry)) (now (ext .entry))) ⌝ }
-{
-    one_command(r, command(0, size, address, 0), l1d, l2, ext)
-}
-
-pub fn write(
-    r: Record,
-    size: u32,
-    address: u32,
-    value: u64,
-    l1d: &mut [u8],
-    l2: &mut [u8],
-    ext: &mut [u8],
-) -> Called
-    ensures { λ x. ⌜ calledAs x (now (l1d .exit)) (now (l2 .exit)) (now (ext .exit)) ≡ call (command 1 size address value) (state r (now (l1d .entry)) (now (l2 .entry)) (now (ext .entry))) ⌝ }
-{
-    one_command(r, command(1, size, address, value), l1d, l2, ext)
-}
-
-pub fn l2_writeback_all(r: Record, l1d: &mut [u8], l2: &mut [u8], ext: &mut [u8]) -> Called
-    ensures { λ x. ⌜ calledAs x (now (l1d .exit)) (now (l2 .exit)) (now (ext .exit)) ≡ call (command 2 0 0 0) (state r (now (l1d .entry)) (now (l2 .entry)) (now (ext .entry))) ⌝ }
-{
-    one_command(r, command(2, 0, 0, 0), l1d, l2, ext)
-}
-
-pub fn l2_writeback_invalidate_all(
-    r: Record,
-    l1d: &mut [u8],
-    l2: &mut [u8],
-    ext: &mut [u8],
-) -> Called
-    ensures { λ x. ⌜ calledAs x (now (l1d .exit)) (now (l2 .exit)) (now (ext .exit)) ≡ call (command 3 0 0 0) (state r (now (l1d .entry)) (now (l2 .entry)) (now (ext .entry))) ⌝ }
-{
-    one_command(r, command(3, 0, 0, 0), l1d, l2, ext)
-}
-
-pub fn l2_writeback_block(
-    r: Record,
-    base: u32,
-    count: u32,
-    l1d: &mut [u8],
-    l2: &mut [u8],
-    ext: &mut [u8],
-) -> Called
-    ensures { λ x. ⌜ calledAs x (now (l1d .exit)) (now (l2 .exit)) (now (ext .exit)) ≡ call (command 4 base count 0) (state r (now (l1d .entry)) (now (l2 .entry)) (now (ext .entry))) ⌝ }
-{
-    one_command(r, command(4, base, count, 0), l1d, l2, ext)
-}
-
-pub fn l2_writeback_invalidate_block(
-    r: Record,
-    base: u32,
-    count: u32,
-    l1d: &mut [u8],
-    l2: &mut [u8],
-    ext: &mut [u8],
-) -> Called
-    ensures { λ x. ⌜ calledAs x (now (l1d .exit)) (now (l2 .exit)) (now (ext .exit)) ≡ call (command 5 base count 0) (state r (now (l1d .entry)) (now (l2 .entry)) (now (ext .entry))) ⌝ }
-{
-    one_command(r, command(5, base, count, 0), l1d, l2, ext)
-}
-
-pub fn l2_invalidate_block(
-    r: Record,
-    base: u32,
-    count: u32,
-    l1d: &mut [u8],
-    l2: &mut [u8],
-    ext: &mut [u8],
-) -> Called
-    ensures { λ x. ⌜ calledAs x (now (l1d .exit)) (now (l2 .exit)) (now (ext .exit)) ≡ call (command 6 base count 0) (state r (now (l1d .entry)) (now (l2 .entry)) (now (ext .entry))) ⌝ }
-{
-    one_command(r, command(6, base, count, 0), l1d, l2, ext)
-}
-
-pub fn l1d_writeback_invalidate_block(
-    r: Record,
-    base: u32,
-    count: u32,
-    l1d: &mut [u8],
-    l2: &mut [u8],
-    ext: &mut [u8],
-) -> Called
-    ensures { λ x. ⌜ calledAs x (now (l1d .exit)) (now (l2 .exit)) (now (ext .exit)) ≡ call (command 7 base count 0) (state r (now (l1d .entry)) (now (l2 .entry)) (now (ext .entry))) ⌝ }
-{
-    one_command(r, command(7, base, count, 0), l1d, l2, ext)
-}
-
-pub fn l1d_invalidate_block(
-    r: Record,
-    base: u32,
-    count: u32,
-    l1d: &mut [u8],
-    l2: &mut [u8],
-    ext: &mut [u8],
-) -> Called
-    ensures { λ x. ⌜ calledAs x (now (l1d .exit)) (now (l2 .exit)) (now (ext .exit)) ≡ call (command 8 base count 0) (state r (now (l1d .entry)) (now (l2 .entry)) (now (ext .entry))) ⌝ }
-{
-    one_command(r, command(8, base, count, 0), l1d, l2, ext)
-}
-
-pub fn l1d_invalidate_all(r: Record, l1d: &mut [u8], l2: &mut [u8], ext: &mut [u8]) -> Called
-    ensures { λ x. ⌜ calledAs x (now (l1d .exit)) (now (l2 .exit)) (now (ext .exit)) ≡ call (command 9 0 0 0) (state r (now (l1d .entry)) (now (l2 .entry)) (now (ext .entry))) ⌝ }
-{
-    one_command(r, command(9, 0, 0, 0), l1d, l2, ext)
-}
-
-pub fn change_mode(r: Record, mode: u32, l1d: &mut [u8], l2: &mut [u8], ext: &mut [u8]) -> Called
-    ensures { λ x. ⌜ calledAs x (now (l1d .exit)) (now (l2 .exit)) (now (ext .exit)) ≡ call (command 10 mode 0 0) (state r (now (l1d .entry)) (now (l2 .entry)) (now (ext .entry))) ⌝ }
-{
-    one_command(r, command(10, mode, 0, 0), l1d, l2, ext)
-}
-
-pub fn change_mar(
-    r: Record,
-    mar: u32,
-    bit: u32,
-    l1d: &mut [u8],
-    l2: &mut [u8],
-    ext: &mut [u8],
-) -> Called
-    ensures { λ x. ⌜ calledAs x (now (l1d .exit)) (now (l2 .exit)) (now (ext .exit)) ≡ call (command 11 mar bit 0) (state r (now (l1d .entry)) (now (l2 .entry)) (now (ext .entry))) ⌝ }
-{
-    one_command(r, command(11, mar, bit, 0), l1d, l2, ext)
-}
-
 // A fresh start: L and E are the lengths that are lent.
 pub fn fresh(l1d: &mut [u8], l2: &mut [u8], ext: &mut [u8]) -> Called
     ensures { λ x. ⌜ calledAs x (now (l1d .exit)) (now (l2 .exit)) (now (ext .exit)) ≡ freshCall (now (l1d .entry)) (now (l2 .entry)) (now (ext .entry)) ⌝ }
@@ -251,7 +103,14 @@ pub fn run(
             stop: due,
         };
     }
-    let q = engine::execute(r, false, command(0, 0, 0, 0), trace, l1d, l2, ext, answers);
+    // the commands come from the trace, and the loop does not look at this one
+    let unused = Command {
+        code: 0,
+        first: 0,
+        second: 0,
+        value: 0,
+    };
+    let q = engine::execute(r, false, unused, trace, l1d, l2, ext, answers);
     let after = q.record;
     RunResult {
         record: after,

@@ -26,9 +26,6 @@ returns c =
     let a = p-args .args in
     run-refused (state (a .r) (a .l1d .now) (a .l2 .now) (a .ext .now)) (p-lent-due .lent-due .result) (p-lent-due .lent-due .ensures) (a .trace .now) (a .answers .now) (c .if1 .taken)
 
-command-requires : tie.Need-command-requires
-command-requires c κs = search needs
-
 execute-requires : tie.Need-execute-requires
 execute-requires c κs = search needs
 
@@ -47,12 +44,11 @@ same-length-7 c = search needs
 returns-2 : tie.Need-returns-2
 returns-2 c =
     let p-execute = c .before .before .before .before .before .before .before .before .before in
-    let p-command = p-execute .before .before .before .before .before in
-    let p-if1 = p-command .before in
+    let p-if1 = p-execute .before .before .before .before .before in
     let p-lent-due = p-if1 .before in
     let p-args = p-lent-due .before .before .before .before .before .before .before .before .before in
     let a = p-args .args in
-    run-done (state (a .r) (a .l1d .now) (a .l2 .now) (a .ext .now)) (p-lent-due .lent-due .result) (p-lent-due .lent-due .ensures) (p-command .command .result) (a .trace .now) (a .answers .now) (executedAs (p-execute .execute .result) (p-execute .execute .last .1 .1 .1 .1 .0) (p-execute .execute .last .1 .1 .1 .1 .1 .0) (p-execute .execute .last .1 .1 .1 .1 .1 .1 .0) (p-execute .execute .last .1 .1 .1 .1 .1 .1 .1 .0)) (p-if1 .if1 .left) (p-execute .execute .ensures)
+    run-done (state (a .r) (a .l1d .now) (a .l2 .now) (a .ext .now)) (p-lent-due .lent-due .result) (p-lent-due .lent-due .ensures) (record { code = 0; first = 0; second = 0; value = 0 }) (a .trace .now) (a .answers .now) (executedAs (p-execute .execute .result) (p-execute .execute .last .1 .1 .1 .1 .0) (p-execute .execute .last .1 .1 .1 .1 .1 .0) (p-execute .execute .last .1 .1 .1 .1 .1 .1 .0) (p-execute .execute .last .1 .1 .1 .1 .1 .1 .1 .0)) (p-if1 .if1 .left) (p-execute .execute .ensures)
 
 pub run-spec : {M : Type 1} → statement M
 run-spec =
@@ -63,7 +59,6 @@ run-spec =
     same-length-2
     same-length-3
     returns
-    command-requires
     execute-requires
     same-length-4
     same-length-5
