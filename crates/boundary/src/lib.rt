@@ -7,7 +7,6 @@ ghost use Rattle.crossing.specs.Crossing.{calledAs, ranAs, seenAs, through, com
 use crossing::CCalled;
 use crossing::CRun;
 use layout::CRecord;
-use model::Command;
 
 #[no_mangle]
 pub extern "C" fn c64x_read(
@@ -21,13 +20,7 @@ pub extern "C" fn c64x_read(
     ensures { λ x. ⌜ calledAs x (now (l1d .exit)) (now (l2 .exit)) (now (ext .exit))
         ≡ commandCall (command 0 size address 0) c (now (l1d .entry)) (now (l2 .entry)) (now (ext .entry)) ⌝ }
 {
-    let q = Command {
-        code: 0,
-        first: size,
-        second: address,
-        value: 0,
-    };
-    crossing::carry_out(c, q, l1d, l2, ext)
+    crossing::carry_out(c, 0, size, address, 0, l1d, l2, ext)
 }
 
 #[no_mangle]
@@ -43,13 +36,7 @@ pub extern "C" fn c64x_write(
     ensures { λ x. ⌜ calledAs x (now (l1d .exit)) (now (l2 .exit)) (now (ext .exit))
         ≡ commandCall (command 1 size address value) c (now (l1d .entry)) (now (l2 .entry)) (now (ext .entry)) ⌝ }
 {
-    let q = Command {
-        code: 1,
-        first: size,
-        second: address,
-        value: value,
-    };
-    crossing::carry_out(c, q, l1d, l2, ext)
+    crossing::carry_out(c, 1, size, address, value, l1d, l2, ext)
 }
 
 #[no_mangle]
@@ -62,13 +49,7 @@ pub extern "C" fn c64x_l2_writeback_all(
     ensures { λ x. ⌜ calledAs x (now (l1d .exit)) (now (l2 .exit)) (now (ext .exit))
         ≡ commandCall (command 2 0 0 0) c (now (l1d .entry)) (now (l2 .entry)) (now (ext .entry)) ⌝ }
 {
-    let q = Command {
-        code: 2,
-        first: 0,
-        second: 0,
-        value: 0,
-    };
-    crossing::carry_out(c, q, l1d, l2, ext)
+    crossing::carry_out(c, 2, 0, 0, 0, l1d, l2, ext)
 }
 
 #[no_mangle]
@@ -81,13 +62,7 @@ pub extern "C" fn c64x_l2_writeback_invalidate_all(
     ensures { λ x. ⌜ calledAs x (now (l1d .exit)) (now (l2 .exit)) (now (ext .exit))
         ≡ commandCall (command 3 0 0 0) c (now (l1d .entry)) (now (l2 .entry)) (now (ext .entry)) ⌝ }
 {
-    let q = Command {
-        code: 3,
-        first: 0,
-        second: 0,
-        value: 0,
-    };
-    crossing::carry_out(c, q, l1d, l2, ext)
+    crossing::carry_out(c, 3, 0, 0, 0, l1d, l2, ext)
 }
 
 #[no_mangle]
@@ -102,13 +77,7 @@ pub extern "C" fn c64x_l2_writeback_block(
     ensures { λ x. ⌜ calledAs x (now (l1d .exit)) (now (l2 .exit)) (now (ext .exit))
         ≡ commandCall (command 4 base count 0) c (now (l1d .entry)) (now (l2 .entry)) (now (ext .entry)) ⌝ }
 {
-    let q = Command {
-        code: 4,
-        first: base,
-        second: count,
-        value: 0,
-    };
-    crossing::carry_out(c, q, l1d, l2, ext)
+    crossing::carry_out(c, 4, base, count, 0, l1d, l2, ext)
 }
 
 #[no_mangle]
@@ -123,13 +92,7 @@ pub extern "C" fn c64x_l2_writeback_invalidate_block(
     ensures { λ x. ⌜ calledAs x (now (l1d .exit)) (now (l2 .exit)) (now (ext .exit))
         ≡ commandCall (command 5 base count 0) c (now (l1d .entry)) (now (l2 .entry)) (now (ext .entry)) ⌝ }
 {
-    let q = Command {
-        code: 5,
-        first: base,
-        second: count,
-        value: 0,
-    };
-    crossing::carry_out(c, q, l1d, l2, ext)
+    crossing::carry_out(c, 5, base, count, 0, l1d, l2, ext)
 }
 
 #[no_mangle]
@@ -144,13 +107,7 @@ pub extern "C" fn c64x_l2_invalidate_block(
     ensures { λ x. ⌜ calledAs x (now (l1d .exit)) (now (l2 .exit)) (now (ext .exit))
         ≡ commandCall (command 6 base count 0) c (now (l1d .entry)) (now (l2 .entry)) (now (ext .entry)) ⌝ }
 {
-    let q = Command {
-        code: 6,
-        first: base,
-        second: count,
-        value: 0,
-    };
-    crossing::carry_out(c, q, l1d, l2, ext)
+    crossing::carry_out(c, 6, base, count, 0, l1d, l2, ext)
 }
 
 #[no_mangle]
@@ -165,13 +122,7 @@ pub extern "C" fn c64x_l1d_writeback_invalidate_block(
     ensures { λ x. ⌜ calledAs x (now (l1d .exit)) (now (l2 .exit)) (now (ext .exit))
         ≡ commandCall (command 7 base count 0) c (now (l1d .entry)) (now (l2 .entry)) (now (ext .entry)) ⌝ }
 {
-    let q = Command {
-        code: 7,
-        first: base,
-        second: count,
-        value: 0,
-    };
-    crossing::carry_out(c, q, l1d, l2, ext)
+    crossing::carry_out(c, 7, base, count, 0, l1d, l2, ext)
 }
 
 #[no_mangle]
@@ -186,13 +137,7 @@ pub extern "C" fn c64x_l1d_invalidate_block(
     ensures { λ x. ⌜ calledAs x (now (l1d .exit)) (now (l2 .exit)) (now (ext .exit))
         ≡ commandCall (command 8 base count 0) c (now (l1d .entry)) (now (l2 .entry)) (now (ext .entry)) ⌝ }
 {
-    let q = Command {
-        code: 8,
-        first: base,
-        second: count,
-        value: 0,
-    };
-    crossing::carry_out(c, q, l1d, l2, ext)
+    crossing::carry_out(c, 8, base, count, 0, l1d, l2, ext)
 }
 
 #[no_mangle]
@@ -205,13 +150,7 @@ pub extern "C" fn c64x_l1d_invalidate_all(
     ensures { λ x. ⌜ calledAs x (now (l1d .exit)) (now (l2 .exit)) (now (ext .exit))
         ≡ commandCall (command 9 0 0 0) c (now (l1d .entry)) (now (l2 .entry)) (now (ext .entry)) ⌝ }
 {
-    let q = Command {
-        code: 9,
-        first: 0,
-        second: 0,
-        value: 0,
-    };
-    crossing::carry_out(c, q, l1d, l2, ext)
+    crossing::carry_out(c, 9, 0, 0, 0, l1d, l2, ext)
 }
 
 #[no_mangle]
@@ -225,13 +164,7 @@ pub extern "C" fn c64x_change_mode(
     ensures { λ x. ⌜ calledAs x (now (l1d .exit)) (now (l2 .exit)) (now (ext .exit))
         ≡ commandCall (command 10 mode 0 0) c (now (l1d .entry)) (now (l2 .entry)) (now (ext .entry)) ⌝ }
 {
-    let q = Command {
-        code: 10,
-        first: mode,
-        second: 0,
-        value: 0,
-    };
-    crossing::carry_out(c, q, l1d, l2, ext)
+    crossing::carry_out(c, 10, mode, 0, 0, l1d, l2, ext)
 }
 
 #[no_mangle]
@@ -246,13 +179,7 @@ pub extern "C" fn c64x_change_mar(
     ensures { λ x. ⌜ calledAs x (now (l1d .exit)) (now (l2 .exit)) (now (ext .exit))
         ≡ commandCall (command 11 mar bit 0) c (now (l1d .entry)) (now (l2 .entry)) (now (ext .entry)) ⌝ }
 {
-    let q = Command {
-        code: 11,
-        first: mar,
-        second: bit,
-        value: 0,
-    };
-    crossing::carry_out(c, q, l1d, l2, ext)
+    crossing::carry_out(c, 11, mar, bit, 0, l1d, l2, ext)
 }
 
 // A fresh start: L and E are the lengths that are lent.

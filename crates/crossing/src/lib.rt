@@ -2,6 +2,7 @@
 // anything. Each contract equates the answer, the record and every lent byte with paper 01's definitions, through C's layout (specs/Crossing).
 ghost use mathlib.Core.Path.{_≡_};
 ghost use lib.ListN.{length};
+ghost use Rattle.model.specs.Trace.{command};
 ghost use Rattle.model.specs.Calls.{freshCall};
 ghost use Rattle.crossing.specs.Crossing.{sizesAlike, unreadDue, calledAs, ranAs, seenAs, through, givenBack, commandCall, runBy, viewNumber, viewInto};
 use layout::CRecord;
@@ -62,12 +63,27 @@ fn given_back(x: calls::Called) -> CCalled
     }
 }
 
-pub fn carry_out(c: CRecord, q: Command, l1d: &mut [u8], l2: &mut [u8], ext: &mut [u8]) -> CCalled
+pub fn carry_out(
+    c: CRecord,
+    code: u8,
+    first: u32,
+    second: u32,
+    value: u64,
+    l1d: &mut [u8],
+    l2: &mut [u8],
+    ext: &mut [u8],
+) -> CCalled
     ensures { λ x. ⌜ calledAs x (now (l1d .exit)) (now (l2 .exit)) (now (ext .exit))
-        ≡ commandCall q c (now (l1d .entry)) (now (l2 .entry)) (now (ext .entry)) ⌝ }
+        ≡ commandCall (command code first second value) c (now (l1d .entry)) (now (l2 .entry)) (now (ext .entry)) ⌝ }
 {
     if layout::bits(c) {
         let r = layout::record_in(c);
+        let q = Command {
+            code: code,
+            first: first,
+            second: second,
+            value: value,
+        };
         return given_back(calls::one_command(r, q, l1d, l2, ext));
     }
     CCalled {

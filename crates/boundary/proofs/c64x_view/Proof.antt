@@ -7,7 +7,7 @@ view-requires : tie.Need-view-requires
 view-requires c κs = search needs
 
 same-length : tie.Need-same-length
-same-length c = c .before .before .view .kept .1 .1 .1 .1 .0
+same-length c = search needs
 
 returns : tie.Need-returns
 returns c = c .before .before .view .ensures

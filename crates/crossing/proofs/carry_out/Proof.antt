@@ -1,6 +1,7 @@
 -- `crossing::carry_out` meets its contract: a record with bits only goes in, through the call and back out, as the definition goes; any other comes back
 -- as given, with the number that the lengths decide. Assumes nothing.
 use Rattle.crossing.specs.Joined.{command-read, command-unread}
+use Rattle.model.specs.Trace.{command}
 use mathlib.Core.Path.{sym, _∙_}
 use borrow.Author.Needs.{needs}
 use Rattle.crossing.proofs.carry_out.Statement.{statement}
@@ -35,7 +36,7 @@ returns c =
     let p-bits = p-if1 .before in
     let a = p-bits .before .before .before .before .args in
     let back = p-one-command .one-command .last .1 .1 in
-    command-read (a .q) (a .c) (a .l1d .now) (a .l2 .now) (a .ext .now) (sym (p-bits .bits .ensures) ∙ p-if1 .if1 .taken)
+    command-read (command (a .code) (a .first) (a .second) (a .value)) (a .c) (a .l1d .now) (a .l2 .now) (a .ext .now) (sym (p-bits .bits .ensures) ∙ p-if1 .if1 .taken)
     (p-record-in .record-in .result)
     (p-record-in .record-in .ensures) (p-one-command .one-command .result) (c .given-back .result) (back .0) (back .1 .0) (back .1 .1 .0)
     (p-one-command .one-command .ensures) (c .given-back .ensures)
@@ -57,7 +58,7 @@ returns-2 c =
     let p-if1 = c .before .before .before .before in
     let p-bits = p-if1 .before in
     let a = p-bits .before .before .before .before .args in
-    command-unread (a .q) (a .c) (a .l1d .now) (a .l2 .now) (a .ext .now) (sym (p-bits .bits .ensures) ∙ p-if1 .if1 .left) (c .unread-due .result)
+    command-unread (command (a .code) (a .first) (a .second) (a .value)) (a .c) (a .l1d .now) (a .l2 .now) (a .ext .now) (sym (p-bits .bits .ensures) ∙ p-if1 .if1 .left) (c .unread-due .result)
     (c .unread-due .ensures)
 
 pub carry-out-spec : {M : Type 1} → statement M
