@@ -182,7 +182,8 @@ pub fn finish(
     requires { ⌜ (i < 128) × ((w < 2) × ((at < 8589934592) × (sizeOk (c .first) ≡ true))) ⌝ }
     ensures { λ r. ⌜ finishedAs r (now (l1d .exit)) (now (l2 .exit)) (now (ext .exit)) ≡ finish s i w homed at c (now (l1d .entry)) (now (l2 .entry)) (now (ext .entry)) ⌝ }
 {
-    if stages::is_write(c) {
+    let write = stages::is_write(c);
+    if write {
         store_home(
             stages::home_of(homed, at, c.second),
             c.first,
