@@ -90,7 +90,7 @@ pub fn execute(
         if stages::goes_inside(sets, gl) {
             let th = L2::set_of(sets, gl.address);
             let hv = r.l2[th];
-            let hu = eviction::send_home(hv, sram, sets, th, i, gone.way, gl, l1d, l2, ext);
+            let hu = eviction::send_inside(hv, sram, sets, th, i, gone.way, gl.address, l1d, l2);
             r.l2[th] = hu;
         }
         eviction::send_below(sets, i, gone.way, gl, l1d, l2, ext);

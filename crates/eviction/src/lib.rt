@@ -4,7 +4,7 @@ ghost use mathlib.Core.Bool.{true};
 ghost use mathlib.Core.Path.{_≡_};
 ghost use Prim.Native.Nat.{_+_, _≤_, _<_};
 ghost use Rattle.model.specs.Refusals.{sizeOk};
-ghost use Rattle.stages.specs.Stages.{sentAs, sendHome, belowAs, sendBelow, takenAs, takeHalf, writeOut};
+ghost use Rattle.stages.specs.Stages.{sentAs, sendHome, insideAs, sendInside, belowAs, sendBelow, takenAs, takeHalf, writeOut};
 use model::L1dSet;
 use model::L2Set;
 use model::Line;
@@ -12,53 +12,36 @@ use sets::L1d;
 use sets::L2;
 use stages::Half;
 
-// A dirty line of L1D set i, way w, is written back to its home: to SRAM, into its L2 line (set u, which becomes dirty and is not used), or to
-// external memory where there is no L2 cache.
-pub fn send_home(
+// The 64 bytes of L1D set i, way w, go into the L2 line of their address a: set u, where the line becomes dirty and is not used.
+pub fn send_inside(
     u: L2Set,
     sram: usize,
     sets: usize,
     t: usize,
     i: usize,
     w: usize,
-    x: Line,
+    a: u32,
     l1d: &[u8],
     l2: &mut [u8],
-    ext: &mut [u8],
 ) -> L2Set
     requires { ⌜ (i < 128) × ((w < 2) × ((sram < 4294967296) × ((sets ≤ 512) × (t < 512)))) ⌝ }
-    ensures { λ r. ⌜ sentAs r (now (l2 .exit)) (now (ext .exit)) ≡ sendHome u sram sets t i w x (now (l1d .entry)) (now (l2 .entry)) (now (ext .entry)) ⌝ }
+    ensures { λ r. ⌜ insideAs r (now (l2 .exit)) ≡ sendInside u sram sets t i w a (now (l1d .entry)) (now (l2 .entry)) ⌝ }
 {
-    if !x.valid {
-        return u;
-    }
-    if !x.dirty {
-        return u;
-    }
-    let from = L1d::data_at(i, w);
-    if !sets::is_external(x.address) {
-        memory::move64(l2, sets::place_of(x.address), l1d, from);
-        return u;
-    }
-    if sets == 0 {
-        memory::move64(ext, sets::external_place(x.address), l1d, from);
-        return u;
-    }
-    let v = sets::l2_find(u, L2::line_of(x.address));
+    let v = sets::l2_find(u, L2::line_of(a));
     if 4 <= v {
         return u;
     }
     memory::move64(
         l2,
-        L2::data_at(sram, sets, t, v) + L2::offset_of(x.address),
+        L2::data_at(sram, sets, t, v) + L2::offset_of(a),
         l1d,
-        from,
+        L1d::data_at(i, w),
     );
     let y = sets::l2_get(u, v);
     sets::l2_put(u, v, sets::line_at(y.address, true))
 }
 
-// The same for a dirty line whose home is not the L2 cache: no set is needed.
+// A dirty line whose home is not the L2 cache goes to SRAM, or to external memory where there is no L2 cache: no set is needed.
 pub fn send_below(
     sets: usize,
     i: usize,
@@ -86,6 +69,29 @@ pub fn send_below(
         return;
     }
     memory::move64(ext, sets::external_place(x.address), l1d, from);
+}
+
+// A dirty line of L1D set i, way w, is written back to its home: into the L2 cache, or below it.
+pub fn send_home(
+    u: L2Set,
+    sram: usize,
+    sets: usize,
+    t: usize,
+    i: usize,
+    w: usize,
+    x: Line,
+    l1d: &[u8],
+    l2: &mut [u8],
+    ext: &mut [u8],
+) -> L2Set
+    requires { ⌜ (i < 128) × ((w < 2) × ((sram < 4294967296) × ((sets ≤ 512) × (t < 512)))) ⌝ }
+    ensures { λ r. ⌜ sentAs r (now (l2 .exit)) (now (ext .exit)) ≡ sendHome u sram sets t i w x (now (l1d .entry)) (now (l2 .entry)) (now (ext .entry)) ⌝ }
+{
+    if stages::goes_inside(sets, x) {
+        return send_inside(u, sram, sets, t, i, w, x.address, l1d, l2);
+    }
+    send_below(sets, i, w, x, l1d, l2, ext);
+    u
 }
 
 // The half at b of an L2 line that leaves (or goes out) leaves L1D; a dirty one is taken into the L2 line, whose bytes begin at `to`.

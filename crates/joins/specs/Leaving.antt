@@ -19,7 +19,7 @@ use Rattle.model.specs.declared.Line.{Line}
 use Rattle.model.specs.declared.L1dSet.{L1dSet}
 use Rattle.model.specs.declared.L2Set.{L2Set}
 use Rattle.model.specs.declared.Record.{Record}
-use Rattle.stages.specs.Stages.{Sent, sentAs, sendBytes, sendHome, homed, goesInside, belowAs, sendBelow, Taken, takeHalf, goesOut, writeOut}
+use Rattle.stages.specs.Stages.{Sent, sendBytes, sendHome, Taken, takeHalf, goesOut, writeOut}
 use Rattle.joins.specs.Sets.{putLine, lineIn, put-same, put-put, mark, dirtied, mark-line, mark-put, keep-l1d, keep-l2, withSets}
 
 -- none of three holds
@@ -38,31 +38,6 @@ turned false true true = refl
 turned false true false = refl
 turned false false true = refl
 turned false false false = refl
-
--- ---- by where a line goes: into the L2 cache, or below it
-module _ (sets i w : ℕ) (x : Line) (l m e : List ℕ) where
-  pub none-below : goesInside sets x ≡ true → sendBelow sets i w x l m e ≡ belowAs m e
-  unfolding goesInside sendBelow homed
-  none-below g =
-      bool (x .valid)
-      (λ v. bool (x .dirty)
-      (λ d. bool (ltb (x .address) externalBase)
-      (λ b. false-true (rw (v, d, b) at g))
-      (λ b. bool (eqb sets 0) (λ n. false-true (rw (v, d, b, n) at g)) (λ n. rw (v, d, b, n) refl)))
-      (λ d. rw (v, d) refl))
-      (λ v. rw v refl)
-
-  pub all-below : (u : L2Set) (sram t : ℕ) → goesInside sets x ≡ false →
-      sendHome u sram sets t i w x l m e ≡ sentAs u (sendBelow sets i w x l m e .l2) (sendBelow sets i w x l m e .ext)
-  unfolding goesInside sendBelow homed sendHome sendBytes
-  all-below u sram t g =
-      bool (x .valid)
-      (λ v. bool (x .dirty)
-      (λ d. bool (ltb (x .address) externalBase)
-      (λ b. rw (v, d, b) refl)
-      (λ b. bool (eqb sets 0) (λ n. rw (v, d, b, n) refl) (λ n. false-true (sym (rw (v, d, b, n) at g)))))
-      (λ d. rw (v, d) refl))
-      (λ v. rw v refl)
 
 -- ---- an L1D line goes home
 module _ (r : Record) (l m e : List ℕ) where

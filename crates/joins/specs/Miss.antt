@@ -21,11 +21,12 @@ use Rattle.model.specs.declared.L1dSet.{L1dSet}
 use Rattle.model.specs.declared.L2Set.{L2Set}
 use Rattle.model.specs.declared.Record.{Record}
 use Rattle.model.specs.declared.Command.{Command}
-use Rattle.stages.specs.Stages.{isWrite, written, leaving, emptied, Sent, sentAs, sendHome, homed, goesInside, Below, sendBelow, choice, choose, Taken, takeHalf, goesOut, writeOut, marked, Brought, broughtAs, bring, homeOf, Stored, storeHome, fetchLine, Finished, finish, serverBelow, serverOf}
+use Rattle.stages.specs.Stages.{isWrite, written, leaving, emptied, Sent, sentAs, sendHome, homed, goesInside, Inside, sendInside, Below, sendBelow, choice, choose, Taken, takeHalf, goesOut, writeOut, marked, Brought, broughtAs, bring, homeOf, Stored, storeHome, fetchLine, Finished, finish, serverBelow, serverOf}
 use Rattle.stages.specs.declared.Departure.{Departure}
 use Rattle.stages.specs.declared.Choice.{Choice}
 use Rattle.joins.specs.Sets.{set-again, putLine, put-put, keep-l1d, keep-l2, withSets}
-use Rattle.joins.specs.Leaving.{none-below, all-below, sent-home, Left, evicted}
+use Rattle.stages.specs.Apart.{none-below, all-inside, all-below}
+use Rattle.joins.specs.Leaving.{sent-home, Left, evicted}
 use Rattle.joins.specs.Access.{performed}
 
 -- ---- a read miss sends home and empties the way that it chose; a write miss does nothing to L1D
@@ -56,12 +57,14 @@ roomed r l m e write a i t g s q ei eg et es eq =
 -- the same as the code has it: the L2 set is changed only where the line goes inside, and what goes below follows
 module _ (r : Record) (l m e : List ℕ) (write : Bool) (a i : ℕ) (g : Departure) (q : L1dSet) (b : Below) (ei : i ≡ l1dSetOf a)
     (eg : g ≡ leaving (l1dSetAt r i) write) (eq : q ≡ emptied (l1dSetAt r i) g) where
-  pub room-inside : (t : ℕ) (s : Sent) → goesInside (l2SetsOf r) (g .line) ≡ true → (l2SetsOf r ≢ 0 → t ≡ l2SetOf r (g .line .address)) →
-      s ≡ sendHome (l2SetAt r t) (sramOf r) (l2SetsOf r) t i (g .way) (g .line) l m e → b ≡ sendBelow (l2SetsOf r) i (g .way) (g .line) l (s .l2) (s .ext) →
-      state (withL1dSet (withL2Set r t (s .set)) i q) l (b .l2) (b .ext) ≡ room write a (state r l m e)
-  room-inside t s k et es eb =
-      ap (λ (x : Below). state (withL1dSet (withL2Set r t (s .set)) i q) l (x .l2) (x .ext)) (eb ∙ none-below (l2SetsOf r) i (g .way) (g .line) l (s .l2) (s .ext) k)
-      ∙ roomed r l m e write a i t g s q ei eg et es eq
+  pub room-inside : (t : ℕ) (n : Inside) → goesInside (l2SetsOf r) (g .line) ≡ true → (l2SetsOf r ≢ 0 → t ≡ l2SetOf r (g .line .address)) →
+      n ≡ sendInside (l2SetAt r t) (sramOf r) (l2SetsOf r) t i (g .way) (g .line .address) l m → b ≡ sendBelow (l2SetsOf r) i (g .way) (g .line) l (n .l2) e →
+      state (withL1dSet (withL2Set r t (n .set)) i q) l (b .l2) (b .ext) ≡ room write a (state r l m e)
+  room-inside t n k et en eb =
+      let es : sentAs (n .set) (n .l2) e ≡ sendHome (l2SetAt r t) (sramOf r) (l2SetsOf r) t i (g .way) (g .line) l m e
+      = ap (λ (x : Inside). sentAs (x .set) (x .l2) e) en ∙ sym (all-inside (l2SetsOf r) i (g .way) (g .line) l m e (l2SetAt r t) (sramOf r) t k) in
+      ap (λ (x : Below). state (withL1dSet (withL2Set r t (n .set)) i q) l (x .l2) (x .ext)) (eb ∙ none-below (l2SetsOf r) i (g .way) (g .line) l (n .l2) e k)
+      ∙ roomed r l m e write a i t g (sentAs (n .set) (n .l2) e) q ei eg et es eq
 
   pub room-below : goesInside (l2SetsOf r) (g .line) ≡ false → b ≡ sendBelow (l2SetsOf r) i (g .way) (g .line) l m e →
       state (withL1dSet r i q) l (b .l2) (b .ext) ≡ room write a (state r l m e)

@@ -123,6 +123,21 @@ homed sets a = pick (ltb a externalBase) false (not (eqb sets 0))
 unfoldable pub goesInside : ℕ → Line → Bool
 goesInside sets x = pick (x .valid) (pick (x .dirty) (homed sets (x .address)) false) false
 
+pub record Inside : Type 0 where
+  pub set : L2Set
+  pub l2 : List ℕ
+
+abbrev pub insideAs : L2Set → List ℕ → Inside
+insideAs u m = record { set = u; l2 = m }
+
+-- into its L2 line, of set u, which becomes dirty and is not used
+unfoldable pub sendInside : L2Set → ℕ → ℕ → ℕ → ℕ → ℕ → ℕ → List ℕ → List ℕ → Inside
+sendInside u sram sets t i w a l m =
+    pick (ltb (l2Find u (l2Line a)) 4)
+    (insideAs (l2Put u (l2Find u (l2Line a)) (lineOf (l2Get u (l2Find u (l2Line a)) .address) true))
+    (stored m (l2DataIn sram sets t (l2Find u (l2Line a)) + a % 128) (part l (l1dData i w) 64)))
+    (insideAs u m)
+
 pub record Below : Type 0 where
   pub l2 : List ℕ
   pub ext : List ℕ

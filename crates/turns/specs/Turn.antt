@@ -22,7 +22,7 @@ use Rattle.model.specs.declared.L2Set.{L2Set}
 use Rattle.model.specs.declared.Record.{Record}
 use Rattle.model.specs.declared.Command.{Command}
 use Rattle.memory.specs.Values.{stored-sets}
-use Rattle.stages.specs.Stages.{isWrite, Fronted, frontOut, leaving, emptied, Sent, sendHome, homed, goesInside, Below, sendBelow, choose, Taken, takeHalf, goesOut, Brought, bring, Finished, finish, serverBelow, serverOf}
+use Rattle.stages.specs.Stages.{isWrite, Fronted, frontOut, leaving, emptied, homed, goesInside, Inside, sendInside, Below, sendBelow, choose, Taken, takeHalf, goesOut, Brought, bring, Finished, finish, serverBelow, serverOf}
 use Rattle.stages.specs.declared.Departure.{Departure}
 use Rattle.stages.specs.declared.Choice.{Choice}
 use Rattle.joins.specs.Access.{checked, performed, access-due, access-accepted, front-done, Missed, front-missed}
@@ -112,13 +112,13 @@ module _ (q : Asked) where
 
   -- L1D has room, whether the line that left went into the L2 cache or below it
   module _ (g : Departure) (x : L1dSet) (b : Below) (eg : g ≡ leaving (l1dSetAt (q .r) (q .i)) (q .write)) (ex : x ≡ emptied (l1dSetAt (q .r) (q .i)) g) where
-    pub inside-of : (th : ℕ) (s : Sent) → goesInside (q .sets) (g .line) ≡ true → (q .sets ≢ 0 → th ≡ l2SetIn (q .sets) (g .line .address)) →
-        s ≡ sendHome (l2SetAt (q .r) th) (q .sram) (q .sets) th (q .i) (g .way) (g .line) (q .f .l1d) (q .m) (q .f .ext) →
-        b ≡ sendBelow (q .sets) (q .i) (g .way) (g .line) (q .f .l1d) (s .l2) (s .ext) →
-        state (withL1dSet (withL2Set (q .r) th (s .set)) (q .i) x) (q .f .l1d) (b .l2) (b .ext) ≡ room (q .write) (q .c .second) (state (q .r) (q .f .l1d) (q .m) (q .f .ext))
-    inside-of th s k et es eb =
-        room-inside (q .r) (q .f .l1d) (q .m) (q .f .ext) (q .write) (q .c .second) (q .i) g x b (q .ei) eg ex th s (rw (q .es) at k)
-        (λ n. rw (q .es) at (et (λ o. n (sym (q .es) ∙ o)))) (rw (q .es, q .er) at es) (rw (q .es) at eb)
+    pub inside-of : (th : ℕ) (n : Inside) → goesInside (q .sets) (g .line) ≡ true → (q .sets ≢ 0 → th ≡ l2SetIn (q .sets) (g .line .address)) →
+        n ≡ sendInside (l2SetAt (q .r) th) (q .sram) (q .sets) th (q .i) (g .way) (g .line .address) (q .f .l1d) (q .m) →
+        b ≡ sendBelow (q .sets) (q .i) (g .way) (g .line) (q .f .l1d) (n .l2) (q .f .ext) →
+        state (withL1dSet (withL2Set (q .r) th (n .set)) (q .i) x) (q .f .l1d) (b .l2) (b .ext) ≡ room (q .write) (q .c .second) (state (q .r) (q .f .l1d) (q .m) (q .f .ext))
+    inside-of th n k et en eb =
+        room-inside (q .r) (q .f .l1d) (q .m) (q .f .ext) (q .write) (q .c .second) (q .i) g x b (q .ei) eg ex th n (rw (q .es) at k)
+        (λ z. rw (q .es) at (et (λ o. z (sym (q .es) ∙ o)))) (rw (q .es, q .er) at en) (rw (q .es) at eb)
 
     pub below-of : goesInside (q .sets) (g .line) ≡ false → b ≡ sendBelow (q .sets) (q .i) (g .way) (g .line) (q .f .l1d) (q .m) (q .f .ext) →
         state (withL1dSet (q .r) (q .i) x) (q .f .l1d) (b .l2) (b .ext) ≡ room (q .write) (q .c .second) (state (q .r) (q .f .l1d) (q .m) (q .f .ext))
