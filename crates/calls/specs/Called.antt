@@ -1,27 +1,25 @@
 -- What the exported calls return, in the model's terms, and that the checks followed by the loop are the calls of paper 01.
-use Prim.Native.Nat.{ℕ, zero, suc, _+_, _*_, _-_, _%_, _≤_, _<_}
-use mathlib.Core.Bool.{Bool, true, false}
-use mathlib.Core.List.{List, [], _∷_}
+use Prim.Native.Nat.{ℕ, zero, suc, _+_, _-_, _%_, _≤_, _<_}
+use mathlib.Core.Bool.{true, false}
+use mathlib.Core.List.{List, []}
 use mathlib.Core.Path.{_≡_, refl, sym, ap, _∙_}
 use native.Mathlib.Omega.{arith}
 use native.Mathlib.Nat.{add-sub-cancel-left}
 use lib.ListN.{length, take, drop, replicate}
 use lib.Dec.{ltb, leb, eqb}
 use borrow.Author.Tests.{eq-eqb, ne-eqb, eqb-true, leb-true, ltb-true, ltb-false, lt-ltb, le-ltb}
-use Rattle.model.specs.Basics.{pick, both, bool, both-true, false-true, pick-true, pick-false}
-use Rattle.model.specs.Bytes.{part, part-inside, zeroFrom}
-use Rattle.model.specs.Memories.{externalBase, legalL2, legalExternal, cacheSize}
+use Rattle.model.specs.Basics.{both, both-true, pick-true}
+use Rattle.model.specs.Bytes.{part-inside, zeroFrom}
+use Rattle.model.specs.Memories.{externalBase, legalL2, legalExternal}
 use Rattle.model.specs.Records.{State, state, sramOf, wellFormed, freshRecord, freshState}
 use Rattle.model.specs.Access.{memoryPart}
 use Rattle.model.specs.Refusals.{lentDue, viewDue, viewLentDue, lentL2, lentExternal, placeOk, first, unless}
-use Rattle.model.specs.Trace.{Decoded, decode, command}
-use Rattle.model.specs.Calls.{Reply, reply, refused, carriedOut, step, call, freshOk, freshCall, Run, ran, runFrom, runCall, viewCall, putAnswer}
+use Rattle.model.specs.Trace.{decode}
+use Rattle.model.specs.Calls.{Reply, reply, refused, carriedOut, step, call, freshOk, freshCall, Run, ran, runFrom, runCall, viewCall}
 use Rattle.model.specs.declared.Command.{Command}
 use Rattle.model.specs.declared.Record.{Record}
 use Rattle.model.proofs.Due.{first-none, unless-none}
-use Rattle.stages.specs.declared.Answer.{Answer}
-use Rattle.turns.specs.Executed.{Executed, executed, sourceOf, endOf, executes, executes-run, executes-one, noAnswer, answerOf, executedAs}
-use Rattle.turns.specs.declared.Ran.{Ran}
+use Rattle.turns.specs.Executed.{Executed, sourceOf, endOf, executes, executes-run, executes-one, noAnswer}
 use Rattle.calls.specs.declared.Called.{Called}
 use Rattle.calls.specs.declared.RunResult.{RunResult}
 

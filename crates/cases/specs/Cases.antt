@@ -1,11 +1,11 @@
 -- The lines marked C of paper 01, "Contracts and bench cases", as rows of one table: what the definitions give, and what the paper states. One theorem,
 -- `cases-hold`, says that they are equal; it holds by computing.
-use Prim.Native.Nat.{ℕ, zero, suc, _+_, _*_, _-_}
-use mathlib.Core.Bool.{Bool, true, false}
+use Prim.Native.Nat.{ℕ, _-_}
+use mathlib.Core.Bool.{Bool}
 use mathlib.Core.List.{List, [], _∷_, map}
 use mathlib.Core.Path.{_≡_, refl}
-use lib.ListN.{replicate, drop, length}
-use Rattle.model.specs.Basics.{pick, both, either, each, any, all}
+use lib.ListN.{replicate, drop}
+use Rattle.model.specs.Basics.{pick, each, any, all}
 use Rattle.model.specs.Bytes.{part, stored, splice, little, littleBytes, zeroFrom}
 use Rattle.model.specs.Memories.{legalL2, legalExternal, cacheSize, isMode}
 use Rattle.model.specs.Lines.{l1dSetOf, l2SetIn, l2Sets, l2Slot, used2, used4, l1dPut, l2Put, l1dUse, l2Use, wayHolding, lowestInvalid, l1dFind, l2Find, l1dVictim, l2Victim, holds}

@@ -1,7 +1,6 @@
 // The calls on C's record: it is turned into the record it stands for, the call is made, and the record that comes back is turned into C's. None requires
 // anything. Each contract equates the answer, the record and every lent byte with paper 01's definitions, through C's layout (specs/Crossing).
 ghost use mathlib.Core.Path.{_≡_};
-ghost use lib.ListN.{length};
 ghost use Rattle.model.specs.Trace.{command};
 ghost use Rattle.model.specs.Calls.{freshCall};
 ghost use Rattle.crossing.specs.Crossing.{sizesAlike, unreadDue, calledAs, ranAs, seenAs, through, givenBack, commandCall, runBy, viewNumber, viewInto};

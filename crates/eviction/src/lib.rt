@@ -3,7 +3,6 @@
 ghost use mathlib.Core.Bool.{true};
 ghost use mathlib.Core.Path.{_≡_};
 ghost use Prim.Native.Nat.{_+_, _≤_, _<_};
-ghost use Rattle.model.specs.Refusals.{sizeOk};
 ghost use Rattle.stages.specs.Stages.{sentAs, sendHome, insideAs, sendInside, belowAs, sendBelow, takenAs, takeHalf, writeOut};
 use model::L1dSet;
 use model::L2Set;

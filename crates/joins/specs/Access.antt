@@ -1,32 +1,27 @@
 -- A read or write, from what the stages return: its front (refused, direct, a hit), and a miss stage by stage. Every lemma is over plain variables,
 -- its hypotheses are what the stages ensure, and its conclusion is a step of model/specs.
-use Prim.Native.Nat.{ℕ, zero, suc, _+_, _*_, _-_, _/_, _%_, _≤_, _<_}
-use mathlib.Core.Bool.{Bool, true, false, not}
+use Prim.Native.Nat.{ℕ, _+_, _%_, _<_}
+use mathlib.Core.Bool.{Bool, true, false}
 use mathlib.Core.Path.{_≡_, refl, sym, ap, _∙_}
 use mathlib.Core.Logic.{_≢_}
-use mathlib.Core.List.{List, [], _∷_}
+use mathlib.Core.List.{List}
 use native.Mathlib.Omega.{arith}
-use lib.ListN.{length, getD, set}
+use lib.ListN.{set}
 use lib.Dec.{ltb, eqb}
 use borrow.Author.Tests.{eqb-true, eqb-false, eq-eqb, ne-eqb}
-use Rattle.model.specs.Basics.{pick, either, bool, false-true, pick-true, pick-false}
-use Rattle.model.specs.Bytes.{part, stored, little, littleBytes}
+use Rattle.model.specs.Basics.{pick, bool, false-true, pick-false}
+use Rattle.model.specs.Bytes.{stored}
 use Rattle.model.specs.Memories.{externalBase}
-use Rattle.model.specs.Lines.{l1dSetOf, l1dData, l1dLine, l2Line, l2DataIn, l2SetIn, upperHalf, emptyLine, lineOf, l1dGet, l2Get, l1dPut, l2Put, l1dUse, l2Use, l1dFind, l2Find, l1dVictim, l2Victim}
-use Rattle.model.specs.Records.{State, state, sramOf, l2SetsOf, l2SetOf, l2Data, marBit, noL1dSet, noL2Set, l1dSetAt, l2SetAt, l1dLineAt, l2LineAt, withL1dSet, withL2Set, l1dSetLine, l2SetLine}
-use Rattle.model.specs.Access.{inL1d, inL2, l1dWay, l2Way, cacheable, homeIsL2, memoryPart, putMemory, useL1d, useL2, putL2, putL1d, homeL1d, emptyL1d, evictL1d, evictL2, emptyL2, fillL2, l2WayFor, fetchL2, homeLine, fillL1d, homeServer, access, l1dBytes, readHit, readFilled, readEmptied, readMiss, readAccess, writeHit, writeHome, writeMiss, writeAccess}
+use Rattle.model.specs.Lines.{l1dSetOf, l1dData, l1dLine, lineOf, l1dGet, l1dPut, l1dUse, l1dFind}
+use Rattle.model.specs.Records.{State, state, sramOf, noL1dSet, l1dSetAt, withL1dSet, l1dSetLine}
+use Rattle.model.specs.Access.{inL1d, l1dWay, cacheable, memoryPart, putMemory, useL1d, putL1d, readHit, readAccess, writeHit, writeAccess}
 use Rattle.model.specs.Calls.{Reply, reply, refused, commandDue, readDone, writeDone, accepted, step}
 use Rattle.model.specs.Refusals.{accessDue}
-use Rattle.model.specs.declared.Line.{Line}
 use Rattle.model.specs.declared.L1dSet.{L1dSet}
-use Rattle.model.specs.declared.L2Set.{L2Set}
 use Rattle.model.specs.declared.Record.{Record}
 use Rattle.model.specs.declared.Command.{Command}
-use Rattle.stages.specs.Stages.{isWrite, written, Direct, direct, Hit, hit, Fronted, frontOut, leaving, emptied, Sent, sendHome, homed, choose, Taken, takeHalf, goesOut, writeOut, marked, Brought, bring, homeOf, Stored, storeHome, fetchLine, Finished, finish, serverOf}
-use Rattle.stages.specs.declared.Departure.{Departure}
-use Rattle.stages.specs.declared.Choice.{Choice}
-use Rattle.joins.specs.Sets.{set-again, putLine, put-put, keep-l1d, keep-l2, withSets}
-use Rattle.joins.specs.Leaving.{sent-home, Left, evicted}
+use Rattle.stages.specs.Stages.{isWrite, written, direct, Hit, hit, Fronted, frontOut}
+use Rattle.joins.specs.Sets.{set-again, keep-l1d, withSets}
 
 -- ---- which number is due for a read or write: a read's value is checked as 0
 abbrev pub checked : Command → ℕ

@@ -1,18 +1,18 @@
 -- A line leaves: the stages `sendHome`, `takeHalf`, `goesOut` and `writeOut`, with the sets stored back, are the steps homeL1d, takeHalf,
 -- writebackL2 and evictL2 of paper 01.
-use Prim.Native.Nat.{ℕ, zero, suc, _+_, _-_, _/_, _%_}
-use mathlib.Core.Bool.{Bool, true, false, not}
+use Prim.Native.Nat.{ℕ, _-_}
+use mathlib.Core.Bool.{Bool, true, false}
 use mathlib.Core.Path.{_≡_, refl, sym, ap, _∙_}
 use mathlib.Core.Logic.{_≢_}
-use mathlib.Core.List.{List, [], _∷_}
-use lib.ListN.{length, getD, set}
+use mathlib.Core.List.{List}
+use lib.ListN.{set}
 use lib.Dec.{ltb, eqb}
 use borrow.Author.Tests.{eqb-false}
 use Rattle.model.specs.Basics.{pick, either, bool, false-true, pick-false}
 use Rattle.model.specs.Bytes.{part, stored}
 use Rattle.model.specs.Memories.{externalBase}
-use Rattle.model.specs.Lines.{l1dSetOf, l1dData, l1dLine, l2Line, l2DataIn, upperHalf, emptyLine, lineOf, l1dGet, l2Get, l1dPut, l2Put, l1dFind, l2Find}
-use Rattle.model.specs.Records.{State, state, sramOf, l2SetsOf, l2SetOf, l2Data, noL1dSet, noL2Set, l1dSetAt, l2SetAt, l1dLineAt, l2LineAt, withL1dSet, withL2Set, l1dSetLine, l2SetLine}
+use Rattle.model.specs.Lines.{l1dSetOf, l1dData, l1dLine, l2Line, upperHalf, emptyLine, lineOf, l1dGet, l1dFind, l2Find}
+use Rattle.model.specs.Records.{State, state, sramOf, l2SetsOf, l2SetOf, l2Data, l1dSetAt, l2SetAt, l1dLineAt, l2LineAt, withL1dSet, withL2Set, l1dSetLine, l2SetLine}
 use Rattle.model.specs.Access.{inL1d, inL2, l1dWay, l2Way, homeIsL2, putMemory, putL2, putHome, homeL1d, emptyL1d, emptyL2, takeHalves, writeOutL2, writebackL2, evictL2}
 use Rattle.model.specs.Access as Model
 use Rattle.model.specs.declared.Line.{Line}

@@ -1,27 +1,27 @@
 -- A miss in L1D, stage by stage: a read makes room in L1D (`room`), L2 gets the line if it is the line's home (`ready`), and the access itself is
 -- served from the home (`finished`). Put together (`miss-done`) they are readMiss and writeMiss of paper 01.
-use Prim.Native.Nat.{ℕ, zero, suc, _+_, _*_, _-_, _/_, _%_, _≤_, _<_}
+use Prim.Native.Nat.{ℕ, _+_, _-_, _%_}
 use mathlib.Core.Bool.{Bool, true, false, not}
 use mathlib.Core.Path.{_≡_, refl, sym, ap, _∙_}
 use mathlib.Core.Logic.{_≢_}
-use mathlib.Core.List.{List, [], _∷_}
+use mathlib.Core.List.{List}
 use native.Mathlib.Omega.{arith}
-use lib.ListN.{length, getD, set}
+use lib.ListN.{set}
 use lib.Dec.{ltb, eqb}
-use borrow.Author.Tests.{eqb-true, eqb-false, eq-eqb, ne-eqb, ltb-true, ltb-false, lt-ltb, le-ltb}
-use Rattle.model.specs.Basics.{pick, either, bool, false-true, pick-true, pick-false}
-use Rattle.model.specs.Bytes.{part, stored, little, littleBytes}
+use borrow.Author.Tests.{ltb-true, ltb-false, lt-ltb, le-ltb}
+use Rattle.model.specs.Basics.{pick, bool, false-true, pick-true, pick-false}
+use Rattle.model.specs.Bytes.{part, stored, little}
 use Rattle.model.specs.Memories.{externalBase}
-use Rattle.model.specs.Lines.{l1dSetOf, l1dData, l1dLine, l2Line, l2DataIn, l2SetIn, l2Sets, upperHalf, emptyLine, lineOf, l1dGet, l2Get, l1dPut, l2Put, l1dUse, l2Use, l1dFind, l2Find, l1dVictim, l2Victim}
+use Rattle.model.specs.Lines.{l1dSetOf, l1dData, l1dLine, l2Line, l2SetIn, l2Sets, upperHalf, emptyLine, lineOf, l2Get, l1dPut, l2Put, l1dUse, l2Use, l2Find, l1dVictim, l2Victim}
 use Rattle.model.specs.Records.{State, state, sramOf, l2SetsOf, l2SetOf, l2Data, noL1dSet, noL2Set, l1dSetAt, l2SetAt, l1dLineAt, l2LineAt, withL1dSet, withL2Set, l1dSetLine, l2SetLine}
-use Rattle.model.specs.Access.{inL1d, inL2, l2Way, cacheable, homeIsL2, memoryPart, putMemory, useL1d, useL2, putL2, homeL1d, emptyL1d, evictL1d, evictL2, emptyL2, fillL2, l2WayFor, fetchL2, homeLine, fillL1d, homeServer, Access, access, l1dBytes, readFilled, readEmptied, readMiss, readAccess, writeHome, writeMiss, writeAccess}
+use Rattle.model.specs.Access.{inL1d, inL2, l2Way, cacheable, homeIsL2, memoryPart, putMemory, useL1d, useL2, putL2, emptyL1d, evictL1d, evictL2, fillL2, l2WayFor, fetchL2, homeLine, fillL1d, homeServer, l1dBytes, readFilled, readEmptied, readMiss, readAccess, writeHome, writeMiss, writeAccess}
 use Rattle.model.specs.Calls.{Reply, reply, readDone, writeDone}
 use Rattle.model.specs.declared.Line.{Line}
 use Rattle.model.specs.declared.L1dSet.{L1dSet}
 use Rattle.model.specs.declared.L2Set.{L2Set}
 use Rattle.model.specs.declared.Record.{Record}
 use Rattle.model.specs.declared.Command.{Command}
-use Rattle.stages.specs.Stages.{isWrite, written, leaving, emptied, Sent, sentAs, sendHome, homed, goesInside, Inside, sendInside, Below, sendBelow, choice, choose, Taken, takeHalf, goesOut, writeOut, marked, Brought, broughtAs, bring, homeOf, Stored, storeHome, fetchLine, Finished, finish, serverBelow, serverOf}
+use Rattle.stages.specs.Stages.{isWrite, written, leaving, emptied, Sent, sentAs, sendHome, goesInside, Inside, sendInside, Below, sendBelow, choice, choose, Taken, takeHalf, goesOut, writeOut, marked, Brought, broughtAs, bring, homeOf, Stored, storeHome, fetchLine, Finished, finish, serverBelow, serverOf}
 use Rattle.stages.specs.declared.Departure.{Departure}
 use Rattle.stages.specs.declared.Choice.{Choice}
 use Rattle.joins.specs.Sets.{set-again, putLine, put-put, keep-l1d, keep-l2, withSets}

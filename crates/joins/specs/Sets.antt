@@ -1,17 +1,16 @@
 -- A set loaded from a list of sets, changed and stored back. The laws need no lengths: where the index lies past the end, neither side changes
 -- anything. A line of a set is read back only where it is valid, and that it is valid shows that it is there.
-use Prim.Native.Nat.{ℕ, zero, suc, _≤_, _<_}
+use Prim.Native.Nat.{ℕ, _<_}
 use mathlib.Core.Bool.{Bool, true, false}
 use mathlib.Core.Path.{_≡_, refl, sym, ap, _∙_}
-use mathlib.Core.List.{List, [], _∷_}
-use native.Mathlib.Omega.{arith}
-use lib.ListN.{length, getD, set, length-set, List·getD-eq-default}
+use mathlib.Core.List.{List}
+use lib.ListN.{length, getD, set, List·getD-eq-default}
 use lib.Seq.{set-getD, set-set, set-out, getD-set-same}
-use lib.Dec.{ltb, eqb}
+use lib.Dec.{ltb}
 use borrow.Author.Tests.{ltb-true, ltb-false}
 use Rattle.model.specs.Basics.{pick, either, bool, false-true}
-use Rattle.model.specs.Lines.{emptyLine, lineOf, l1dGet, l2Get, l1dPut, l2Put}
-use Rattle.model.specs.Records.{noL1dSet, noL2Set, l1dSetAt, l2SetAt, l1dLineAt, l2LineAt, withL1dSet, withL2Set, l2SetLine}
+use Rattle.model.specs.Lines.{emptyLine, lineOf, l2Get, l2Put}
+use Rattle.model.specs.Records.{noL1dSet, noL2Set, l1dSetAt, l2SetAt, withL1dSet, withL2Set}
 use Rattle.model.specs.declared.Line.{Line}
 use Rattle.model.specs.declared.L1dSet.{L1dSet}
 use Rattle.model.specs.declared.L2Set.{L2Set}

@@ -7,7 +7,6 @@ use native.Mathlib.Numerals.{add-one}
 use lib.ListN.{length, getD, drop, drop-of-length-le}
 use lib.Seq.{drop-cons}
 use lib.Dec.{leb, eqb}
-use borrow.Author.Tests.{eq-eqb, ne-eqb}
 use Rattle.model.specs.Basics.{both, either, any}
 use Rattle.model.specs.Lines.{emptyLine}
 use Rattle.model.specs.Modes.{inRange, holdsRange}

@@ -1,6 +1,6 @@
 -- A line copied by a loop, through an array, into a lent part: it is the line `stored` in the memory. The loop has replaced the first bytes
 -- (`copied`), the part that was lent comes back between what stood before and after it, and that is `splice`.
-use Prim.Native.Nat.{ℕ, zero, suc, _+_, _-_, _≤_, _<_}
+use Prim.Native.Nat.{ℕ, suc, _+_, _-_, _≤_, _<_}
 use mathlib.Core.Bool.{Bool, true, false}
 use mathlib.Core.Path.{_≡_, refl, sym, ap, _∙_}
 use mathlib.Core.List.{List, [], _∷_, _++_, append-nil, append-assoc}
@@ -10,7 +10,6 @@ use lib.ListN.{length, take, drop, set, getD, replicate, length-append, length-t
 use lib.Seq.{take-all, drop-drop, drop-cons, set-at, append-snoc, take-suc, length-take-le, drop-length}
 use lib.Dec.{leb}
 use borrow.Author.Tests.{leb-true, leb-false, le-leb, lt-leb}
-use Rattle.model.specs.Basics.{pick}
 use Rattle.model.specs.Bytes.{part, stored, splice, stored-none, part-inside, stored-inside, stored-outside, length-part, zeroFrom}
 
 -- d with its first n bytes replaced by those of s

@@ -1,17 +1,17 @@
 -- Values of several bytes: a value of 2 n bytes is made of two values of n bytes, loaded or stored one behind the other. Each law is stated once
 -- over the two widths; the code uses it at 1, 2 and 4.
-use Prim.Native.Nat.{ℕ, zero, suc, _+_, _*_, _-_, _/_, _%_, _≤_, _<_}
-use mathlib.Core.Bool.{Bool, true, false}
+use Prim.Native.Nat.{ℕ, zero, suc, _+_, _*_, _/_, _%_, _≤_, _<_}
+use mathlib.Core.Bool.{true, false}
 use mathlib.Core.Path.{_≡_, refl, sym, ap, _∙_}
 use mathlib.Core.List.{List, [], _∷_, _++_, append-assoc}
 use mathlib.Core.Logic.{_≢_}
 use native.Mathlib.Omega.{arith}
 use native.Mathlib.Nat.{mul-assoc, div-div-eq-div-mul}
-use lib.ListN.{length, take, drop, set, getD, length-append, length-take, length-drop}
+use lib.ListN.{length, take, drop, set, getD, length-append}
 use lib.Seq.{drop-cons, take-add, drop-drop, sets, sets-eq}
 use lib.Dec.{leb, eqb}
-use borrow.Author.Tests.{leb-true, leb-false, eqb-true, eqb-false, ne-eqb}
-use Rattle.model.specs.Basics.{pick, bool, either, false-true}
+use borrow.Author.Tests.{leb-false, eqb-true, eqb-false, ne-eqb}
+use Rattle.model.specs.Basics.{bool}
 use Rattle.model.specs.Bytes.{part, stored, splice, part-inside, stored-inside, stored-outside, length-part, length-stored, little, littleBytes, length-littleBytes}
 use Rattle.model.specs.Refusals.{sizeOk}
 

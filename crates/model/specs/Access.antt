@@ -1,9 +1,8 @@
 -- Paper 01, "CPU reads and writes": what an accepted access does. Steps on the whole state, put together sentence by sentence.
-use Prim.Native.Nat.{ℕ, zero, suc, _+_, _*_, _-_, _/_, _%_}
+use Prim.Native.Nat.{ℕ, _+_, _-_, _%_}
 use mathlib.Core.Bool.{Bool, true, false, not}
-use mathlib.Core.List.{List, [], _∷_}
-use lib.ListN.{length}
-use lib.Dec.{ltb, leb, eqb}
+use mathlib.Core.List.{List, []}
+use lib.Dec.{ltb, eqb}
 use Rattle.model.specs.Basics.{pick}
 use Rattle.model.specs.Bytes.{part, stored}
 use Rattle.model.specs.Memories.{externalBase}

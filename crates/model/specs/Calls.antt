@@ -1,12 +1,12 @@
 -- Paper 01: the calls, the run over a trace, the technician's view. What every contract of an exported call cites.
-use Prim.Native.Nat.{ℕ, zero, suc, _+_, _*_, _-_, _/_, _%_}
-use mathlib.Core.Bool.{Bool, true, false}
+use Prim.Native.Nat.{ℕ, zero, suc, _+_, _*_}
+use mathlib.Core.Bool.{Bool}
 use mathlib.Core.List.{List, [], _∷_}
-use lib.ListN.{length, getD, drop, replicate}
+use lib.ListN.{length, drop}
 use lib.Dec.{ltb, leb, eqb}
 use Rattle.model.specs.Basics.{pick, both}
-use Rattle.model.specs.Bytes.{part, stored, little, littleBytes}
-use Rattle.model.specs.Memories.{l1dLength, legalL2, legalExternal, externalBase}
+use Rattle.model.specs.Bytes.{stored, little, littleBytes}
+use Rattle.model.specs.Memories.{l1dLength, legalL2, legalExternal}
 use Rattle.model.specs.Records.{State, state, sramOf, freshRecord, freshState}
 use Rattle.model.specs.Access.{memoryPart, readAccess, writeAccess}
 use Rattle.model.specs.Modes.{changeMode, changeMar}

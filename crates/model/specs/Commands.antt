@@ -1,6 +1,5 @@
 -- Paper 01, "Cache commands (001, Table 29)".
-use Prim.Native.Nat.{ℕ, zero, suc, _+_, _*_, _-_, _/_, _%_}
-use mathlib.Core.Bool.{Bool, true, false}
+use Prim.Native.Nat.{ℕ, _+_, _*_, _-_, _/_, _%_}
 use lib.Dec.{leb, eqb}
 use Rattle.model.specs.Basics.{pick, each}
 use Rattle.model.specs.Lines.{l1dSetOf, upperHalf}

@@ -1,6 +1,6 @@
 -- Paper 01, "Memories lent by the caller".
-use Prim.Native.Nat.{ℕ, _-_, _/_, _%_}
-use mathlib.Core.Bool.{Bool, true, false}
+use Prim.Native.Nat.{ℕ, _-_, _%_}
+use mathlib.Core.Bool.{Bool}
 use lib.Dec.{leb, eqb}
 use Rattle.model.specs.Basics.{pick, both, either}
 

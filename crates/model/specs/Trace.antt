@@ -1,8 +1,8 @@
 -- Paper 01, "Trace": numbers, commands, their codes.
-use Prim.Native.Nat.{ℕ, zero, suc, _+_, _*_, _-_, _/_, _%_}
-use mathlib.Core.Bool.{Bool, true, false, not}
+use Prim.Native.Nat.{ℕ, suc, _+_, _*_, _-_}
+use mathlib.Core.Bool.{Bool, true, false}
 use mathlib.Core.List.{List, [], _∷_}
-use lib.ListN.{length, drop}
+use lib.ListN.{drop}
 use lib.Dec.{ltb, leb, eqb}
 use Rattle.model.specs.Basics.{pick, both, either}
 use Rattle.model.specs.declared.Command.{Command}

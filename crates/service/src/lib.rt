@@ -2,7 +2,7 @@
 // equates its whole result and every lent byte with a definition of stages/specs/Stages. All are total.
 ghost use mathlib.Core.Bool.{true};
 ghost use mathlib.Core.Path.{_≡_};
-ghost use Prim.Native.Nat.{_+_, _≤_, _<_};
+ghost use Prim.Native.Nat.{_+_, _<_};
 ghost use Rattle.model.specs.Refusals.{sizeOk};
 ghost use Rattle.stages.specs.Stages.{directAs, direct, hitAs, hit, frontAs, frontOut, broughtAs, bring, storedAs, storeHome, fetchLine, finishedAs, finish};
 use model::Command;

@@ -1,14 +1,14 @@
 -- Arithmetic of the L2 cache's geometry: the cache size is 512 bytes for each set, and a way's place among all ways is bounded. A product of
 -- the way and the number of sets is no linear term; with the way by cases it is.
-use Prim.Native.Nat.{ℕ, zero, suc, _+_, _*_, _/_, _≤_, _<_}
-use mathlib.Core.Bool.{Bool, true, false, not}
-use mathlib.Core.Path.{_≡_, refl, sym}
+use Prim.Native.Nat.{ℕ, zero, suc, _+_, _*_, _≤_, _<_}
+use mathlib.Core.Bool.{not}
+use mathlib.Core.Path.{_≡_, refl}
 use native.Mathlib.Omega.{arith}
 use lib.Dec.{ltb, leb, eqb}
 use borrow.Author.Tests.{ltb-true, ltb-false, le-leb, lt-leb}
-use Rattle.model.specs.Basics.{pick, bool}
+use Rattle.model.specs.Basics.{bool}
 use Rattle.model.specs.Memories.{cacheSize}
-use Rattle.model.specs.Lines.{l2Sets, l2Slot}
+use Rattle.model.specs.Lines.{l2Sets}
 
 pub four-ways {ℓ} : (P : ℕ → Type ℓ) → P 0 → P 1 → P 2 → P 3 → (w : ℕ) → w < 4 → P w
 four-ways P a b c d zero h = a

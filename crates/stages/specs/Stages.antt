@@ -1,8 +1,8 @@
 -- The stages of an access on single sets and memories: what each function of this crate returns and leaves behind. They are cut as the code is;
 -- that together they are the sentences of paper 01 (model/specs/Access) is shown where the record comes in.
-use Prim.Native.Nat.{ℕ, _+_, _*_, _-_, _/_, _%_}
+use Prim.Native.Nat.{ℕ, _+_, _-_, _%_}
 use mathlib.Core.Bool.{Bool, true, false, not}
-use mathlib.Core.List.{List, []}
+use mathlib.Core.List.{List}
 use lib.Dec.{ltb, eqb}
 use Rattle.model.specs.Basics.{pick, either}
 use Rattle.model.specs.Bytes.{part, stored, little, littleBytes}

@@ -1,24 +1,23 @@
 -- A turn of the loop for a read or write, from what its calls ensure: the joins, with the loop's own numbers (sets, SRAM's length, MAR bits) put in.
-use Prim.Native.Nat.{ℕ, zero, suc, _+_, _*_, _-_, _≤_, _<_}
-use mathlib.Core.Bool.{Bool, true, false, not}
+use Prim.Native.Nat.{ℕ, _+_, _*_, _≤_, _<_}
+use mathlib.Core.Bool.{Bool, true, false}
 use mathlib.Core.Path.{_≡_, refl, sym, ap, _∙_}
 use mathlib.Core.Logic.{_≢_}
-use mathlib.Core.List.{List, [], _∷_}
+use mathlib.Core.List.{List, _∷_}
 use native.Mathlib.Omega.{arith}
 use native.Mathlib.Numerals.{add-one, add-two}
-use lib.ListN.{length, getD, set, length-set}
+use lib.ListN.{length, set, length-set}
 use lib.Dec.{ltb, eqb}
-use borrow.Author.Tests.{eqb-true, eqb-false, eq-eqb, ne-eqb, le-leb, lt-leb}
-use Rattle.model.specs.Basics.{pick, bool, false-true}
-use Rattle.model.specs.Bytes.{part, stored, littleBytes, length-littleBytes}
+use borrow.Author.Tests.{eq-eqb}
+use Rattle.model.specs.Basics.{bool, false-true}
+use Rattle.model.specs.Bytes.{stored, littleBytes, length-littleBytes}
 use Rattle.model.specs.Memories.{externalBase, sramLength}
 use Rattle.model.specs.Lines.{l1dSetOf, l2SetIn, l2DataIn, l2Sets, upperHalf, l1dVictim}
 use Rattle.model.specs.Records.{State, state, sramOf, l2SetsOf, l2SetOf, l2Data, marBit, l1dSetAt, l2SetAt, withL1dSet, withL2Set}
 use Rattle.model.specs.Access.{inL1d, l2WayFor, cacheable, homeIsL2, homeServer}
 use Rattle.model.specs.Refusals.{sizeOk, accessDue}
-use Rattle.model.specs.Calls.{Reply, reply, commandDue, step, putAnswer}
+use Rattle.model.specs.Calls.{reply, commandDue, step, putAnswer}
 use Rattle.model.specs.declared.L1dSet.{L1dSet}
-use Rattle.model.specs.declared.L2Set.{L2Set}
 use Rattle.model.specs.declared.Record.{Record}
 use Rattle.model.specs.declared.Command.{Command}
 use Rattle.memory.specs.Values.{stored-sets}

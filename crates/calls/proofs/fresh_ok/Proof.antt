@@ -2,7 +2,6 @@
 use Rattle.model.specs.Calls.{freshOk}
 use borrow.Author.Tests.{eq-eqb, ne-eqb, not-true, not-false}
 use mathlib.Core.Path.{refl, sym, _∙_}
-use Prim.Native.Nat.{_-_}
 use borrow.Author.Needs.{needs}
 use Rattle.calls.proofs.fresh_ok.Statement.{statement}
 use Rattle.calls.proofs.fresh_ok.Tie as tie

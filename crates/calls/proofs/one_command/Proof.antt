@@ -3,7 +3,7 @@ use Rattle.turns.specs.Executed.{executedAs}
 use Rattle.calls.specs.Called.{call-refused, call-done}
 use Rattle.model.specs.Records.{state}
 use lib.ListN.{length-replicate, replicate}
-use Prim.Native.Nat.{ℕ, _-_}
+use Prim.Native.Nat.{ℕ}
 use borrow.Author.Needs.{needs}
 use Rattle.calls.proofs.one_command.Statement.{statement}
 use Rattle.calls.proofs.one_command.Tie as tie

@@ -2,7 +2,6 @@
 use Rattle.turns.specs.Executed.{executedAs}
 use Rattle.calls.specs.Called.{run-refused, run-done}
 use Rattle.model.specs.Records.{state}
-use Prim.Native.Nat.{_-_}
 use borrow.Author.Needs.{needs}
 use Rattle.calls.proofs.run.Statement.{statement}
 use Rattle.calls.proofs.run.Tie as tie

@@ -3,7 +3,6 @@ use Rattle.calls.specs.Called.{view-refused, view-sram, view-external, v
 use native.Mathlib.Omega.{arith}
 use mathlib.Core.Path.{sym, ap, _∙_}
 use mathlib.Core.Bool.{not}
-use Prim.Native.Nat.{_-_}
 use borrow.Author.Needs.{needs}
 use Rattle.calls.proofs.view.Statement.{statement}
 use Rattle.calls.proofs.view.Tie as tie

@@ -1,6 +1,5 @@
 -- `memory::fits` meets its contract: the test without a sum that could wrap is the test with it.
 use Rattle.memory.specs.Copied.{leb-short, leb-shift}
-use Prim.Native.Nat.{_-_}
 use Rattle.memory.proofs.fits.Statement.{statement}
 use Rattle.memory.proofs.fits.Tie as tie
 

@@ -2,7 +2,6 @@
 use Rattle.memory.specs.Values.{load-one}
 use native.Mathlib.Omega.{arith}
 use mathlib.Core.Path.{sym}
-use Prim.Native.Nat.{_-_}
 use borrow.Author.Needs.{needs}
 use Rattle.memory.proofs.load1.Statement.{statement}
 use Rattle.memory.proofs.load1.Tie as tie

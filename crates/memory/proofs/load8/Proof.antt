@@ -1,7 +1,6 @@
 -- `memory::load8` meets its contract: each return is a case of the definition, by the tests on its way and what its callees ensure.
 use Rattle.memory.specs.Values.{load-both}
 use mathlib.Core.Path.{sym}
-use Prim.Native.Nat.{_-_}
 use borrow.Author.Needs.{needs}
 use Rattle.memory.proofs.load8.Statement.{statement}
 use Rattle.memory.proofs.load8.Tie as tie

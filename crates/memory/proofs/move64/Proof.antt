@@ -1,5 +1,5 @@
 -- `memory::move64` meets its contract: the three ways through it are the three laws of specs/Copied.
-use Prim.Native.Nat.{_+_, _≤_, _-_}
+use Prim.Native.Nat.{_+_, _≤_}
 use Rattle.memory.specs.Copied.{move-short, move-full, move-in}
 use lib.ListN.{length, length-take, length-drop}
 use borrow.Author.Tests.{not-true, not-false, leb-true}

@@ -1,6 +1,5 @@
 -- `memory::store1` meets its contract: each return is a case of the definition, by the tests on its way and what its callees ensure.
 use Rattle.memory.specs.Values.{store-one}
-use Prim.Native.Nat.{_-_}
 use borrow.Author.Needs.{needs}
 use Rattle.memory.proofs.store1.Statement.{statement}
 use Rattle.memory.proofs.store1.Tie as tie

@@ -1,7 +1,6 @@
 -- `service::bring` meets its contract: found, or fetched once the old line has gone out.
 use Rattle.stages.specs.Stages.{bring}
 use mathlib.Core.Path.{refl}
-use Prim.Native.Nat.{_-_}
 use borrow.Author.Needs.{needs}
 use Rattle.service.proofs.bring.Statement.{statement}
 use Rattle.service.proofs.bring.Tie as tie

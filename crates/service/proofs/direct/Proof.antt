@@ -1,7 +1,6 @@
 -- `service::direct` meets its contract: each return is a case of the definition, by the tests on its way and what its callees ensure.
 use Rattle.stages.specs.Stages.{direct}
 use mathlib.Core.Path.{refl, sym, _∙_}
-use Prim.Native.Nat.{_-_}
 use borrow.Author.Needs.{needs}
 use Rattle.service.proofs.direct.Statement.{statement}
 use Rattle.service.proofs.direct.Tie as tie

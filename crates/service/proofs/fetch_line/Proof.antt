@@ -1,7 +1,6 @@
 -- `service::fetch_line` meets its contract: each return is a case of the definition, by the tests on its way and what its callees ensure.
 use Rattle.stages.specs.Stages.{fetchLine}
 use mathlib.Core.Path.{refl, _∙_}
-use Prim.Native.Nat.{_-_}
 use borrow.Author.Needs.{needs}
 use Rattle.service.proofs.fetch_line.Statement.{statement}
 use Rattle.service.proofs.fetch_line.Tie as tie

@@ -1,7 +1,6 @@
 -- `service::finish` meets its contract: a write stores in the home, a read fetches from it.
 use Rattle.stages.specs.Stages.{finish, finishedAs, served, Stored}
 use mathlib.Core.Path.{refl, sym, ap, _∙_}
-use Prim.Native.Nat.{_-_}
 use borrow.Author.Needs.{needs}
 use Rattle.service.proofs.finish.Statement.{statement}
 use Rattle.service.proofs.finish.Tie as tie

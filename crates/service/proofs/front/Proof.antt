@@ -2,7 +2,6 @@
 use Rattle.stages.specs.Stages.{frontOut, frontAs, ended, answer, Direct, Hit}
 use borrow.Author.Tests.{eq-eqb, ne-eqb, not-true, not-false, lt-ltb, le-ltb}
 use mathlib.Core.Path.{refl, ap}
-use Prim.Native.Nat.{_-_}
 use borrow.Author.Needs.{needs}
 use Rattle.service.proofs.front.Statement.{statement}
 use Rattle.service.proofs.front.Tie as tie

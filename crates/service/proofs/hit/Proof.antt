@@ -1,7 +1,6 @@
 -- `service::hit` meets its contract: each return is a case of the definition, by the tests on its way and what its callees ensure.
 use Rattle.stages.specs.Stages.{hit}
 use mathlib.Core.Path.{refl, sym, _∙_}
-use Prim.Native.Nat.{_-_}
 use borrow.Author.Needs.{needs}
 use Rattle.service.proofs.hit.Statement.{statement}
 use Rattle.service.proofs.hit.Tie as tie

@@ -1,7 +1,6 @@
 -- `service::store_home` meets its contract: each return is a case of the definition, by the tests on its way and what its callees ensure.
 use Rattle.stages.specs.Stages.{storeHome}
 use mathlib.Core.Path.{refl}
-use Prim.Native.Nat.{_-_}
 use borrow.Author.Needs.{needs}
 use Rattle.service.proofs.store_home.Statement.{statement}
 use Rattle.service.proofs.store_home.Tie as tie

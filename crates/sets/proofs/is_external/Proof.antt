@@ -1,6 +1,5 @@
 -- `sets::is_external` meets its contract: each return is a case of the definition, by the tests on its way and what its callees ensure.
 use Rattle.sets.specs.Geometry.{below-not}
-use Prim.Native.Nat.{_-_}
 use Rattle.sets.proofs.is_external.Statement.{statement}
 use Rattle.sets.proofs.is_external.Tie as tie
 

@@ -1,7 +1,6 @@
 -- `sets::l1d_use` meets its contract: each return is a case of the definition, by the tests on its way and what its callees ensure.
 use Rattle.model.specs.Lines.{l1dUse}
 use mathlib.Core.Path.{refl}
-use Prim.Native.Nat.{_-_}
 use borrow.Author.Needs.{needs}
 use Rattle.sets.proofs.l1d_use.Statement.{statement}
 use Rattle.sets.proofs.l1d_use.Tie as tie

@@ -3,7 +3,6 @@ use Rattle.model.specs.Lines.{l1dVictim, lowestInvalid}
 use borrow.Author.Tests.{not-true, not-false}
 use native.Mathlib.Omega.{arith}
 use mathlib.Core.Path.{refl, sym, _∙_}
-use Prim.Native.Nat.{_-_}
 use borrow.Author.Needs.{needs}
 use Rattle.sets.proofs.l1d_victim.Statement.{statement}
 use Rattle.sets.proofs.l1d_victim.Tie as tie

@@ -2,7 +2,6 @@
 use Rattle.model.specs.Lines.{l2Find, wayHolding}
 use native.Mathlib.Omega.{arith}
 use mathlib.Core.Path.{refl, sym, _∙_}
-use Prim.Native.Nat.{_-_}
 use borrow.Author.Needs.{needs}
 use Rattle.sets.proofs.l2_find.Statement.{statement}
 use Rattle.sets.proofs.l2_find.Tie as tie

@@ -1,5 +1,5 @@
 -- `sets::l2_get` meets its contract: each return is a case of the definition, by the tests on its way and what its callees ensure.
-use Prim.Native.Nat.{ℕ, _-_}
+use Prim.Native.Nat.{ℕ}
 use native.Mathlib.Omega.{arith}
 use mathlib.Core.Path.{_≡_, refl}
 use borrow.Author.Needs.{needs}

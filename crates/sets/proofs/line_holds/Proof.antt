@@ -1,7 +1,6 @@
 -- `sets::line_holds` meets its contract: each return is a case of the definition, by the tests on its way and what its callees ensure.
 use Rattle.model.specs.Lines.{holds}
 use mathlib.Core.Path.{refl}
-use Prim.Native.Nat.{_-_}
 use Rattle.sets.proofs.line_holds.Statement.{statement}
 use Rattle.sets.proofs.line_holds.Tie as tie
 

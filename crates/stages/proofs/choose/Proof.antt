@@ -3,7 +3,6 @@ use Rattle.stages.specs.Stages.{choose}
 use borrow.Author.Tests.{not-true, not-false, lt-ltb, le-ltb}
 use native.Mathlib.Omega.{arith}
 use mathlib.Core.Path.{refl}
-use Prim.Native.Nat.{_-_}
 use borrow.Author.Needs.{needs}
 use Rattle.stages.proofs.choose.Statement.{statement}
 use Rattle.stages.proofs.choose.Tie as tie

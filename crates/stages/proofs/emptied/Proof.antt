@@ -1,7 +1,6 @@
 -- `stages::emptied` meets its contract: each return is a case of the definition, by the tests on its way and what its callees ensure.
 use Rattle.stages.specs.Stages.{emptied}
 use mathlib.Core.Path.{refl}
-use Prim.Native.Nat.{_-_}
 use borrow.Author.Needs.{needs}
 use Rattle.stages.proofs.emptied.Statement.{statement}
 use Rattle.stages.proofs.emptied.Tie as tie

@@ -2,7 +2,6 @@
 use Rattle.stages.specs.Stages.{goesOut}
 use borrow.Author.Tests.{not-true, not-false}
 use mathlib.Core.Path.{refl}
-use Prim.Native.Nat.{_-_}
 use Rattle.stages.proofs.goes_out.Statement.{statement}
 use Rattle.stages.proofs.goes_out.Tie as tie
 

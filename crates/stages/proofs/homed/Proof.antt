@@ -1,7 +1,6 @@
 -- `stages::homed` meets its contract: each return is a case of the definition, by the tests on its way and what its callees ensure.
 use Rattle.stages.specs.Stages.{homed}
 use mathlib.Core.Path.{refl, _∙_}
-use Prim.Native.Nat.{_-_}
 use borrow.Author.Needs.{needs}
 use Rattle.stages.proofs.homed.Statement.{statement}
 use Rattle.stages.proofs.homed.Tie as tie

@@ -2,7 +2,6 @@
 use Rattle.stages.specs.Stages.{leaving}
 use native.Mathlib.Omega.{arith}
 use mathlib.Core.Path.{refl}
-use Prim.Native.Nat.{_-_}
 use borrow.Author.Needs.{needs}
 use Rattle.stages.proofs.leaving.Statement.{statement}
 use Rattle.stages.proofs.leaving.Tie as tie

@@ -2,7 +2,6 @@
 use Rattle.stages.specs.Stages.{marked}
 use borrow.Author.Tests.{not-true, not-false}
 use mathlib.Core.Path.{refl}
-use Prim.Native.Nat.{_-_}
 use borrow.Author.Needs.{needs}
 use Rattle.stages.proofs.marked.Statement.{statement}
 use Rattle.stages.proofs.marked.Tie as tie

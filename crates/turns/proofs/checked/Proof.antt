@@ -1,6 +1,5 @@
 -- `turns::checked` meets its contract: each return is a case of the definition, by the tests on its way and what its callees ensure.
 use mathlib.Core.Path.{refl, sym, _∙_}
-use Prim.Native.Nat.{_-_}
 use borrow.Author.Needs.{needs}
 use Rattle.turns.proofs.checked.Statement.{statement}
 use Rattle.turns.proofs.checked.Tie as tie

@@ -1,7 +1,6 @@
 -- `turns::end_of` meets its contract: each return is a case of the definition, by the tests on its way and what its callees ensure.
 use Rattle.turns.specs.Executed.{endOf}
 use mathlib.Core.Path.{refl}
-use Prim.Native.Nat.{_-_}
 use Rattle.turns.proofs.end_of.Statement.{statement}
 use Rattle.turns.proofs.end_of.Tie as tie
 

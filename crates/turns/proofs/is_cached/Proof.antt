@@ -2,7 +2,6 @@
 use Rattle.turns.specs.Executed.{cachedBy}
 use borrow.Author.Tests.{lt-ltb, le-ltb}
 use mathlib.Core.Path.{refl, _∙_}
-use Prim.Native.Nat.{_-_}
 use borrow.Author.Needs.{needs}
 use Rattle.turns.proofs.is_cached.Statement.{statement}
 use Rattle.turns.proofs.is_cached.Tie as tie

@@ -1,6 +1,5 @@
 -- `turns::next` meets its contract: the given command, or that of the trace.
 use Rattle.turns.specs.Executed.{next-given, next-trace}
-use Prim.Native.Nat.{_-_}
 use borrow.Author.Needs.{needs}
 use Rattle.turns.proofs.next.Statement.{statement}
 use Rattle.turns.proofs.next.Tie as tie

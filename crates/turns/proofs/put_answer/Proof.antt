@@ -3,7 +3,6 @@ use Rattle.turns.specs.Turn.{answered}
 use lib.ListN.{length-set}
 use native.Mathlib.Omega.{arith}
 use mathlib.Core.Path.{refl, _∙_}
-use Prim.Native.Nat.{_-_}
 use borrow.Author.Needs.{needs}
 use Rattle.turns.proofs.put_answer.Statement.{statement}
 use Rattle.turns.proofs.put_answer.Tie as tie

@@ -3,7 +3,7 @@ use Rattle.turns.specs.Executed.{stopOf}
 use borrow.Author.Tests.{not-true, not-false, le-leb, lt-leb}
 use native.Mathlib.Omega.{arith}
 use mathlib.Core.Path.{refl}
-use Prim.Native.Nat.{_+_, _-_, _*_}
+use Prim.Native.Nat.{_+_, _*_}
 use Rattle.turns.proofs.stop_of.Statement.{statement}
 use Rattle.turns.proofs.stop_of.Tie as tie
 

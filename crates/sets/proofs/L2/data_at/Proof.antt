@@ -3,7 +3,6 @@ use Rattle.sets.specs.Geometry.{slot-bound}
 use Rattle.model.specs.Lines.{l2Slot}
 use native.Mathlib.Omega.{arith}
 use mathlib.Core.Path.{refl}
-use Prim.Native.Nat.{_-_}
 use Rattle.sets.proofs.L2.data_at.Statement.{statement}
 use Rattle.sets.proofs.L2.data_at.Tie as tie
 

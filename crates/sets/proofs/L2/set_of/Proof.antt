@@ -1,5 +1,5 @@
 -- `sets::L2::set_of` meets its contract: each return is a case of the definition, by the tests on its way and what its callees ensure.
-use Prim.Native.Nat.{_/_, _-_}
+use Prim.Native.Nat.{_/_}
 use native.Mathlib.Nat.{mod-lt}
 use native.Mathlib.Omega.{arith}
 use mathlib.Core.Path.{refl}

@@ -3,7 +3,6 @@ use Rattle.model.specs.Memories.{cacheSize}
 use borrow.Author.Tests.{eq-eqb, ne-eqb}
 use native.Mathlib.Omega.{arith}
 use mathlib.Core.Path.{refl}
-use Prim.Native.Nat.{_-_}
 use Rattle.sets.proofs.L2.sets.Statement.{statement}
 use Rattle.sets.proofs.L2.sets.Tie as tie
 

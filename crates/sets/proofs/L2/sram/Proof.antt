@@ -1,7 +1,6 @@
 -- `sets::L2::sram` meets its contract: each return is a case of the definition, by the tests on its way and what its callees ensure.
 use Rattle.sets.specs.Geometry.{cache-sets}
 use native.Mathlib.Omega.{arith}
-use Prim.Native.Nat.{_-_}
 use borrow.Author.Needs.{needs}
 use Rattle.sets.proofs.L2.sram.Statement.{statement}
 use Rattle.sets.proofs.L2.sram.Tie as tie
