@@ -107,7 +107,8 @@ asked c =
     }
 
 -- ---- a read miss has made room: the line that left has gone into the L2 cache, or below it
-inside-arm : (c : tie.After-emptied Inv-loop μ-loop) → First (c .before .before .before .before .before .before .before .before .before .if4 .came) →
+abbrev RoomMade : (c : tie.After-emptied Inv-loop μ-loop) → Type 0
+RoomMade c =
     let p-send-below = c .before .before .before .before .before in
     let p-if4 = p-send-below .before .before .before .before in
     let p-front = p-if4 .before .before .before .before .before .before .before .before .before in
@@ -117,6 +118,8 @@ inside-arm : (c : tie.After-emptied Inv-loop μ-loop) → First (c .before .befo
     let p-loop = p-next .before .before in
     state (withL1dSet (p-if4 .if4 .r) (p-set-of .set-of .result) (c .emptied .result)) (p-front .front .last .1 .1 .1 .1 .1 .0) (p-send-below .send-below .last .1 .1 .1 .1 .1 .0) (p-send-below .send-below .last .1 .1 .1 .1 .1 .1 .0)
     ≡ room (p-is-write .is-write .result) (p-next .next .result .command .second) (state (p-loop .loop .r) (p-front .front .last .1 .1 .1 .1 .1 .0) (p-loop .loop .l2) (p-front .front .last .1 .1 .1 .1 .1 .1 .0))
+
+inside-arm : (c : tie.After-emptied Inv-loop μ-loop) → First (c .before .before .before .before .before .before .before .before .before .if4 .came) → RoomMade c
 inside-arm c w =
     let p-send-below = c .before .before .before .before .before in
     let p-goes-inside = p-send-below .before .before .before .before .before in
@@ -130,16 +133,7 @@ inside-arm c w =
     (insideAs (w .5 .result) (w .5 .last .1 .1 .1 .1 .1 .1 .1 .1 .0)) (sym (p-goes-inside .goes-inside .ensures) ∙ w .0 .taken) (w .1 .ensures .0) (w .5 .ensures)
     (p-send-below .send-below .ensures ∙ (λ j. sendBelow (p-loop .loop .sets) (p-set-of .set-of .result) (p-leaving .leaving .result .way) (p-leaving .leaving .result .line) (p-front .front .last .1 .1 .1 .1 .1 .0) (w .8 j) (p-front .front .last .1 .1 .1 .1 .1 .1 .0)))
 
-below-arm : (c : tie.After-emptied Inv-loop μ-loop) → Second (c .before .before .before .before .before .before .before .before .before .if4 .came) →
-    let p-send-below = c .before .before .before .before .before in
-    let p-if4 = p-send-below .before .before .before .before in
-    let p-front = p-if4 .before .before .before .before .before .before .before .before .before in
-    let p-set-of = p-front .before .before .before .before .before in
-    let p-is-write = p-set-of .before .before .before in
-    let p-next = p-is-write .before .before .before .before .before .before in
-    let p-loop = p-next .before .before in
-    state (withL1dSet (p-if4 .if4 .r) (p-set-of .set-of .result) (c .emptied .result)) (p-front .front .last .1 .1 .1 .1 .1 .0) (p-send-below .send-below .last .1 .1 .1 .1 .1 .0) (p-send-below .send-below .last .1 .1 .1 .1 .1 .1 .0)
-    ≡ room (p-is-write .is-write .result) (p-next .next .result .command .second) (state (p-loop .loop .r) (p-front .front .last .1 .1 .1 .1 .1 .0) (p-loop .loop .l2) (p-front .front .last .1 .1 .1 .1 .1 .1 .0))
+below-arm : (c : tie.After-emptied Inv-loop μ-loop) → Second (c .before .before .before .before .before .before .before .before .before .if4 .came) → RoomMade c
 below-arm c w =
     let p-send-below = c .before .before .before .before .before in
     let p-goes-inside = p-send-below .before .before .before .before .before in
@@ -192,13 +186,16 @@ roomed c =
     }
 
 -- ---- where the two arms meet: what each leaves is L2 made ready, in the mode and with the lengths that stood before
-homed-arm : (c : tie.Joined5 Inv-loop μ-loop) → First (c .if5 .came) →
+abbrev ReadyMade : (c : tie.Joined5 Inv-loop μ-loop) → Type 0
+ReadyMade c =
     let p-emptied = c .before .before .before in
     let p-after-slice-known9 = p-emptied .before .before .before .before .before .before .before .before .before .before .before .before .before .before in
     let p-front = p-after-slice-known9 .before .before .before .before in
     let p-is-write = p-front .before .before .before .before .before .before .before .before in
     let p-next = p-is-write .before .before .before .before .before .before in
     state (c .if5 .r) (p-front .front .last .1 .1 .1 .1 .1 .0) (c .if5 .l2) (c .if5 .ext) ≡ ready (p-is-write .is-write .result) (p-next .next .result .command .second) (roomState (asked p-after-slice-known9) (roomed p-emptied))
+
+homed-arm : (c : tie.Joined5 Inv-loop μ-loop) → First (c .if5 .came) → ReadyMade c
 homed-arm c w =
     let p-homed = c .before .before in
     let p-emptied = p-homed .before in
@@ -211,13 +208,7 @@ homed-arm c w =
     ∙ homed-of (asked p-after-slice-known9) (roomed p-emptied) (p-homed .homed .result) (p-homed .homed .ensures) (w .0 .taken) (w .1 .result) (w .3 .result) (w .1 .ensures .0) (w .3 .ensures .0) (w .5 .result) (w .5 .ensures .0)
     (w .6 .result) (w .15 .result) (w .14 .result) h1 h2 (w .23 .result) b (w .6 .ensures .0) (w .10 .ensures) (w .14 .ensures) (w .15 .ensures .0) (w .19 .ensures) (w .23 .ensures) (w .26 .ensures)
 
-other-arm : (c : tie.Joined5 Inv-loop μ-loop) → Second (c .if5 .came) →
-    let p-emptied = c .before .before .before in
-    let p-after-slice-known9 = p-emptied .before .before .before .before .before .before .before .before .before .before .before .before .before .before in
-    let p-front = p-after-slice-known9 .before .before .before .before in
-    let p-is-write = p-front .before .before .before .before .before .before .before .before in
-    let p-next = p-is-write .before .before .before .before .before .before in
-    state (c .if5 .r) (p-front .front .last .1 .1 .1 .1 .1 .0) (c .if5 .l2) (c .if5 .ext) ≡ ready (p-is-write .is-write .result) (p-next .next .result .command .second) (roomState (asked p-after-slice-known9) (roomed p-emptied))
+other-arm : (c : tie.Joined5 Inv-loop μ-loop) → Second (c .if5 .came) → ReadyMade c
 other-arm c w =
     let p-homed = c .before .before in
     let p-emptied = p-homed .before in
@@ -225,13 +216,7 @@ other-arm c w =
     let p-front = p-after-slice-known9 .before .before .before .before in
     (λ j. state (w .3 j) (p-front .front .last .1 .1 .1 .1 .1 .0) (w .1 j) (w .2 j)) ∙ unhomed-of (asked p-after-slice-known9) (roomed p-emptied) (p-homed .homed .result) (p-homed .homed .ensures) (w .0 .left)
 
-met : (c : tie.Joined5 Inv-loop μ-loop) →
-    let p-emptied = c .before .before .before in
-    let p-after-slice-known9 = p-emptied .before .before .before .before .before .before .before .before .before .before .before .before .before .before in
-    let p-front = p-after-slice-known9 .before .before .before .before in
-    let p-is-write = p-front .before .before .before .before .before .before .before .before in
-    let p-next = p-is-write .before .before .before .before .before .before in
-    state (c .if5 .r) (p-front .front .last .1 .1 .1 .1 .1 .0) (c .if5 .l2) (c .if5 .ext) ≡ ready (p-is-write .is-write .result) (p-next .next .result .command .second) (roomState (asked p-after-slice-known9) (roomed p-emptied))
+met : (c : tie.Joined5 Inv-loop μ-loop) → ReadyMade c
 met c =
     ⊎-elim (homed-arm c) (other-arm c) (c .if5 .came)
 
