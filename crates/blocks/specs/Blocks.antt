@@ -7,8 +7,9 @@ use native.Mathlib.Omega.{arith}
 use native.Mathlib.Nat.{mul-le-mul-left, mul-le-mul-right, div-mul-le-self, div-le-self, le-div-iff-mul-le}
 use lib.Dec.{leb, eqb}
 use borrow.Author.Tests.{leb-true, eqb-false}
-use Rattle.model.specs.Basics.{bool}
+use Rattle.model.specs.Modes.{smaller}
 use Rattle.model.specs.Commands.{blockEnd, linesTouched}
+use Rattle.model.specs.Laws.{bool}
 
 -- the k-th line of n bytes from the line of the base address on
 abbrev pub lineAfter : ℕ → ℕ → ℕ → ℕ
@@ -19,7 +20,7 @@ div-le x y n h k = let d = div-mul-le-self x n in let g : x / n * n ≤ y = omeg
 
 -- the end of a block that is not empty: after its base, and at most 100000000h
 pub end-bounds : (b c : ℕ) → b < 4294967296 → c ≢ 0 → (b < blockEnd b c) × (blockEnd b c ≤ 4294967296)
-unfolding blockEnd
+unfolding blockEnd smaller
 end-bounds b c h n =
     bool (leb (b + c * 4) 4294967296)
     (λ e. let f = leb-true (b + c * 4) 4294967296 e in rw e (omega arith, f))

@@ -3,7 +3,7 @@
 ghost use mathlib.Core.Path.{_≡_};
 ghost use Rattle.model.specs.Trace.{command};
 ghost use Rattle.model.specs.Calls.{freshCall};
-ghost use Rattle.crossing.specs.Crossing.{calledAs, ranAs, seenAs, through, commandCall, runBy, viewNumber, viewInto};
+ghost use Rattle.crossing.specs.Crossing.{calledInC, ranInC, seenAs, through, commandCall, runBy, viewNumber, viewInto};
 use crossing::CCalled;
 use crossing::CRun;
 use layout::CRecord;
@@ -17,7 +17,7 @@ pub extern "C" fn c64x_read(
     l2: &mut [u8],
     ext: &mut [u8],
 ) -> CCalled
-    ensures { λ x. ⌜ calledAs x (now (l1d .exit)) (now (l2 .exit)) (now (ext .exit))
+    ensures { λ x. ⌜ calledInC x (now (l1d .exit)) (now (l2 .exit)) (now (ext .exit))
         ≡ commandCall (command 0 size address 0) c (now (l1d .entry)) (now (l2 .entry)) (now (ext .entry)) ⌝ }
 {
     crossing::carry_out(c, 0, size, address, 0, l1d, l2, ext)
@@ -33,7 +33,7 @@ pub extern "C" fn c64x_write(
     l2: &mut [u8],
     ext: &mut [u8],
 ) -> CCalled
-    ensures { λ x. ⌜ calledAs x (now (l1d .exit)) (now (l2 .exit)) (now (ext .exit))
+    ensures { λ x. ⌜ calledInC x (now (l1d .exit)) (now (l2 .exit)) (now (ext .exit))
         ≡ commandCall (command 1 size address value) c (now (l1d .entry)) (now (l2 .entry)) (now (ext .entry)) ⌝ }
 {
     crossing::carry_out(c, 1, size, address, value, l1d, l2, ext)
@@ -46,7 +46,7 @@ pub extern "C" fn c64x_l2_writeback_all(
     l2: &mut [u8],
     ext: &mut [u8],
 ) -> CCalled
-    ensures { λ x. ⌜ calledAs x (now (l1d .exit)) (now (l2 .exit)) (now (ext .exit))
+    ensures { λ x. ⌜ calledInC x (now (l1d .exit)) (now (l2 .exit)) (now (ext .exit))
         ≡ commandCall (command 2 0 0 0) c (now (l1d .entry)) (now (l2 .entry)) (now (ext .entry)) ⌝ }
 {
     crossing::carry_out(c, 2, 0, 0, 0, l1d, l2, ext)
@@ -59,7 +59,7 @@ pub extern "C" fn c64x_l2_writeback_invalidate_all(
     l2: &mut [u8],
     ext: &mut [u8],
 ) -> CCalled
-    ensures { λ x. ⌜ calledAs x (now (l1d .exit)) (now (l2 .exit)) (now (ext .exit))
+    ensures { λ x. ⌜ calledInC x (now (l1d .exit)) (now (l2 .exit)) (now (ext .exit))
         ≡ commandCall (command 3 0 0 0) c (now (l1d .entry)) (now (l2 .entry)) (now (ext .entry)) ⌝ }
 {
     crossing::carry_out(c, 3, 0, 0, 0, l1d, l2, ext)
@@ -74,7 +74,7 @@ pub extern "C" fn c64x_l2_writeback_block(
     l2: &mut [u8],
     ext: &mut [u8],
 ) -> CCalled
-    ensures { λ x. ⌜ calledAs x (now (l1d .exit)) (now (l2 .exit)) (now (ext .exit))
+    ensures { λ x. ⌜ calledInC x (now (l1d .exit)) (now (l2 .exit)) (now (ext .exit))
         ≡ commandCall (command 4 base count 0) c (now (l1d .entry)) (now (l2 .entry)) (now (ext .entry)) ⌝ }
 {
     crossing::carry_out(c, 4, base, count, 0, l1d, l2, ext)
@@ -89,7 +89,7 @@ pub extern "C" fn c64x_l2_writeback_invalidate_block(
     l2: &mut [u8],
     ext: &mut [u8],
 ) -> CCalled
-    ensures { λ x. ⌜ calledAs x (now (l1d .exit)) (now (l2 .exit)) (now (ext .exit))
+    ensures { λ x. ⌜ calledInC x (now (l1d .exit)) (now (l2 .exit)) (now (ext .exit))
         ≡ commandCall (command 5 base count 0) c (now (l1d .entry)) (now (l2 .entry)) (now (ext .entry)) ⌝ }
 {
     crossing::carry_out(c, 5, base, count, 0, l1d, l2, ext)
@@ -104,7 +104,7 @@ pub extern "C" fn c64x_l2_invalidate_block(
     l2: &mut [u8],
     ext: &mut [u8],
 ) -> CCalled
-    ensures { λ x. ⌜ calledAs x (now (l1d .exit)) (now (l2 .exit)) (now (ext .exit))
+    ensures { λ x. ⌜ calledInC x (now (l1d .exit)) (now (l2 .exit)) (now (ext .exit))
         ≡ commandCall (command 6 base count 0) c (now (l1d .entry)) (now (l2 .entry)) (now (ext .entry)) ⌝ }
 {
     crossing::carry_out(c, 6, base, count, 0, l1d, l2, ext)
@@ -119,7 +119,7 @@ pub extern "C" fn c64x_l1d_writeback_invalidate_block(
     l2: &mut [u8],
     ext: &mut [u8],
 ) -> CCalled
-    ensures { λ x. ⌜ calledAs x (now (l1d .exit)) (now (l2 .exit)) (now (ext .exit))
+    ensures { λ x. ⌜ calledInC x (now (l1d .exit)) (now (l2 .exit)) (now (ext .exit))
         ≡ commandCall (command 7 base count 0) c (now (l1d .entry)) (now (l2 .entry)) (now (ext .entry)) ⌝ }
 {
     crossing::carry_out(c, 7, base, count, 0, l1d, l2, ext)
@@ -134,7 +134,7 @@ pub extern "C" fn c64x_l1d_invalidate_block(
     l2: &mut [u8],
     ext: &mut [u8],
 ) -> CCalled
-    ensures { λ x. ⌜ calledAs x (now (l1d .exit)) (now (l2 .exit)) (now (ext .exit))
+    ensures { λ x. ⌜ calledInC x (now (l1d .exit)) (now (l2 .exit)) (now (ext .exit))
         ≡ commandCall (command 8 base count 0) c (now (l1d .entry)) (now (l2 .entry)) (now (ext .entry)) ⌝ }
 {
     crossing::carry_out(c, 8, base, count, 0, l1d, l2, ext)
@@ -147,7 +147,7 @@ pub extern "C" fn c64x_l1d_invalidate_all(
     l2: &mut [u8],
     ext: &mut [u8],
 ) -> CCalled
-    ensures { λ x. ⌜ calledAs x (now (l1d .exit)) (now (l2 .exit)) (now (ext .exit))
+    ensures { λ x. ⌜ calledInC x (now (l1d .exit)) (now (l2 .exit)) (now (ext .exit))
         ≡ commandCall (command 9 0 0 0) c (now (l1d .entry)) (now (l2 .entry)) (now (ext .entry)) ⌝ }
 {
     crossing::carry_out(c, 9, 0, 0, 0, l1d, l2, ext)
@@ -161,7 +161,7 @@ pub extern "C" fn c64x_change_mode(
     l2: &mut [u8],
     ext: &mut [u8],
 ) -> CCalled
-    ensures { λ x. ⌜ calledAs x (now (l1d .exit)) (now (l2 .exit)) (now (ext .exit))
+    ensures { λ x. ⌜ calledInC x (now (l1d .exit)) (now (l2 .exit)) (now (ext .exit))
         ≡ commandCall (command 10 mode 0 0) c (now (l1d .entry)) (now (l2 .entry)) (now (ext .entry)) ⌝ }
 {
     crossing::carry_out(c, 10, mode, 0, 0, l1d, l2, ext)
@@ -176,7 +176,7 @@ pub extern "C" fn c64x_change_mar(
     l2: &mut [u8],
     ext: &mut [u8],
 ) -> CCalled
-    ensures { λ x. ⌜ calledAs x (now (l1d .exit)) (now (l2 .exit)) (now (ext .exit))
+    ensures { λ x. ⌜ calledInC x (now (l1d .exit)) (now (l2 .exit)) (now (ext .exit))
         ≡ commandCall (command 11 mar bit 0) c (now (l1d .entry)) (now (l2 .entry)) (now (ext .entry)) ⌝ }
 {
     crossing::carry_out(c, 11, mar, bit, 0, l1d, l2, ext)
@@ -185,7 +185,7 @@ pub extern "C" fn c64x_change_mar(
 // A fresh start: L and E are the lengths that are lent.
 #[no_mangle]
 pub extern "C" fn c64x_fresh(l1d: &mut [u8], l2: &mut [u8], ext: &mut [u8]) -> CCalled
-    ensures { λ x. ⌜ calledAs x (now (l1d .exit)) (now (l2 .exit)) (now (ext .exit))
+    ensures { λ x. ⌜ calledInC x (now (l1d .exit)) (now (l2 .exit)) (now (ext .exit))
         ≡ through (freshCall (now (l1d .entry)) (now (l2 .entry)) (now (ext .entry))) ⌝ }
 {
     crossing::fresh(l1d, l2, ext)
@@ -201,7 +201,7 @@ pub extern "C" fn c64x_run(
     ext: &mut [u8],
     answers: &mut [u8],
 ) -> CRun
-    ensures { λ x. ⌜ ranAs x (now (l1d .exit)) (now (l2 .exit)) (now (ext .exit)) (now (answers .exit))
+    ensures { λ x. ⌜ ranInC x (now (l1d .exit)) (now (l2 .exit)) (now (ext .exit)) (now (answers .exit))
         ≡ runBy (now (trace .entry)) (now (answers .entry)) c (now (l1d .entry)) (now (l2 .entry)) (now (ext .entry)) ⌝ }
 {
     crossing::run(c, trace, l1d, l2, ext, answers)

@@ -1,6 +1,6 @@
 -- What the exported calls return, in the model's terms, and that the checks followed by the loop are the calls of paper 01.
 use Prim.Native.Nat.{ℕ, zero, suc, _+_, _-_, _%_, _≤_, _<_}
-use mathlib.Core.Bool.{true, false}
+use mathlib.Core.Bool.{true, false, _&&_}
 use mathlib.Core.List.{List, []}
 use mathlib.Core.Path.{_≡_, refl, sym, ap, _∙_}
 use native.Mathlib.Omega.{arith}
@@ -8,14 +8,13 @@ use native.Mathlib.Nat.{add-sub-cancel-left}
 use lib.ListN.{length, take, drop, replicate}
 use lib.Dec.{ltb, leb, eqb}
 use borrow.Author.Tests.{eq-eqb, ne-eqb, eqb-true, leb-true, ltb-true, ltb-false, lt-ltb, le-ltb}
-use Rattle.model.specs.Basics.{both, both-true, pick-true}
-use Rattle.model.specs.Bytes.{part-inside, zeroFrom}
+use Rattle.model.specs.Bytes.{zeroFrom}
 use Rattle.model.specs.Memories.{externalBase, legalL2, legalExternal}
 use Rattle.model.specs.Records.{State, state, sramOf, wellFormed, freshRecord, freshState}
-use Rattle.model.specs.Access.{memoryPart}
+use Rattle.model.specs.Homes.{memoryPart}
 use Rattle.model.specs.Refusals.{lentDue, viewDue, viewLentDue, lentL2, lentExternal, placeOk, first, unless}
-use Rattle.model.specs.Trace.{decode}
 use Rattle.model.specs.Calls.{Reply, reply, refused, carriedOut, step, call, freshOk, freshCall, Run, ran, runFrom, runCall, viewCall}
+use Rattle.model.specs.Laws.{both-true, cond-true, part-inside}
 use Rattle.model.specs.declared.Command.{Command}
 use Rattle.model.specs.declared.Record.{Record}
 use Rattle.model.proofs.Due.{first-none, unless-none}
@@ -47,15 +46,15 @@ module _ (z : State) (due : ℕ) (ed : due ≡ lentDue z) where
   call-done c t o x d h ex =
       let one = ex ∙ executes-one c t z o noAnswer (omega arith) in
       ap (λ (y : Executed). reply (y .last .number) (y .last .server) (y .last .value) (y .run .next)) one
-      ∙ pick-true (eqb (lentDue z) 0) (step c z) (refused (lentDue z) z) (eq-eqb (lentDue z) 0 (sym ed ∙ d))
+      ∙ cond-true (eqb (lentDue z) 0) (step c z) (refused (lentDue z) z) (eq-eqb (lentDue z) 0 (sym ed ∙ d))
 
   pub run-done : (c : Command) (t o : List ℕ) (x : Executed) → due ≡ 0 →
       x ≡ executes (sourceOf false c t) (endOf false t) (endOf false t) 0 z 0 o noAnswer → x .run ≡ runCall t o z
   unfolding runCall endOf
   run-done c t o x d ex =
       ap (λ (y : Executed). y .run) ex
-      ∙ executes-run (λ i. decode (drop i t)) (length t) (length t) 0 z 0 o noAnswer
-      ∙ pick-true (eqb (lentDue z) 0) (runFrom (λ i. decode (drop i t)) (length t) (length t) 0 z 0 o) (ran z 0 0 (lentDue z) o) (eq-eqb (lentDue z) 0 (sym ed ∙ d))
+      ∙ executes-run t (length t) 0 z 0 o noAnswer
+      ∙ cond-true (eqb (lentDue z) 0) (runFrom t (length t) 0 z 0 o) (ran z 0 0 (lentDue z) o) (eq-eqb (lentDue z) 0 (sym ed ∙ d))
 
 -- ---- the fresh start
 -- a memory cleared from its first byte on
@@ -71,11 +70,11 @@ pub fresh-done : (d m e d′ m′ : List ℕ) (r : Record) → freshOk d m e ≡
     d′ ≡ zeroFrom 0 d (length d) → m′ ≡ zeroFrom 0 m (length m) → reply 0 0 0 (state r d′ m′ e) ≡ freshCall d m e
 unfolding freshCall freshState freshOk
 fresh-done d m e d′ m′ r h er ed em =
-    let len = eqb-true (length d) 16384 (both-true (eqb (length d) 16384) (both (legalL2 (length m)) (legalExternal (length e))) h .0) in
+    let len = eqb-true (length d) 16384 (both-true (eqb (length d) 16384) (legalL2 (length m) && legalExternal (length e)) h .0) in
     let d″ : d′ ≡ replicate 16384 0 = ed ∙ cleared d 16384 len in
     let m″ : m′ ≡ replicate (length m) 0 = em ∙ cleared m (length m) refl in
     (λ i. reply 0 0 0 (state (er i) (d″ i) (m″ i) e))
-    ∙ pick-true (freshOk d m e) (carriedOut (freshState (length m) e)) (refused 1 (state (freshRecord 32768 128) d m e)) h
+    ∙ cond-true (freshOk d m e) (carriedOut (freshState (length m) e)) (refused 1 (state (freshRecord 32768 128) d m e)) h
 
 -- ---- the view: an accepted address has its 64 bytes in SRAM, or in external memory
 pub record Seen (m e : List ℕ) (a : ℕ) : Type 0 where
@@ -91,7 +90,7 @@ pub view-tells : (r : Record) (m e : List ℕ) (a : ℕ) → viewDue r m e a ≡
 unfolding viewDue viewLentDue lentL2 lentExternal placeOk
 view-tells r m e a h =
     let p = first-both (viewLentDue r m e) (first (unless (eqb (a % 64) 0) 4) (unless (placeOk (sramOf r) (r .extlen) 64 a) 5)) h in
-    let b = both-true (lentL2 r m) (lentExternal r e) (first-none (both (lentL2 r m) (lentExternal r e)) 0 (unless (wellFormed r) 2) (p .0) .0) in
+    let b = both-true (lentL2 r m) (lentExternal r e) (first-none (lentL2 r m && lentExternal r e) 0 (unless (wellFormed r) 2) (p .0) .0) in
     let l = eqb-true (length m) (r .l2len) (both-true (legalL2 (length m)) (eqb (length m) (r .l2len)) (b .0) .1) in
     let x = eqb-true (length e) (r .extlen) (both-true (legalExternal (length e)) (eqb (length e) (r .extlen)) (b .1) .1) in
     let k = unless-none (placeOk (sramOf r) (r .extlen) 64 a) 4 (first-none (eqb (a % 64) 0) 3 (unless (placeOk (sramOf r) (r .extlen) 64 a) 5) (p .1) .1) in
@@ -121,10 +120,10 @@ module _ (r : Record) (m e : List ℕ) (a : ℕ) where
 pub fresh-lengths : (d m e : List ℕ) → freshOk d m e ≡ true → (length m ≤ 262144) × (length e ≤ 33554432)
 unfolding freshOk legalL2 legalExternal
 fresh-lengths d m e h =
-    let p = both-true (eqb (length d) 16384) (both (legalL2 (length m)) (legalExternal (length e))) h .1 in
+    let p = both-true (eqb (length d) 16384) (legalL2 (length m) && legalExternal (length e)) h .1 in
     let q = both-true (legalL2 (length m)) (legalExternal (length e)) p in
-    let l = both-true (leb 32768 (length m)) (leb (length m) 262144) (both-true (eqb (length m % 32768) 0) (both (leb 32768 (length m)) (leb (length m) 262144)) (q .0) .1) in
-    let x = both-true (leb 128 (length e)) (leb (length e) 33554432) (both-true (eqb (length e % 128) 0) (both (leb 128 (length e)) (leb (length e) 33554432)) (q .1) .1) in
+    let l = both-true (leb 32768 (length m)) (leb (length m) 262144) (both-true (eqb (length m % 32768) 0) (leb 32768 (length m) && leb (length m) 262144) (q .0) .1) in
+    let x = both-true (leb 128 (length e)) (leb (length e) 33554432) (both-true (eqb (length e % 128) 0) (leb 128 (length e) && leb (length e) 33554432) (q .1) .1) in
     (leb-true (length m) 262144 (l .1), leb-true (length e) 33554432 (x .1))
 
 -- where an address lies, by the code's test

@@ -24,7 +24,8 @@ pub struct RunResult {
     pub stop: u8,
 }
 
-fn refused(number: u8, r: Record) -> Called
+// An answer without server and value: a refusal, or a fresh start.
+fn answered(number: u8, r: Record) -> Called
     ensures { λ x. ⌜ x ≡ record { number = number; server = 0; value = 0; «record» = r } ⌝ }
 {
     Called {
@@ -41,7 +42,7 @@ pub fn one_command(r: Record, c: Command, l1d: &mut [u8], l2: &mut [u8], ext: &m
 {
     let due = refusals::lent_due(r, l1d, l2, ext);
     if due != 0 {
-        return refused(due, r);
+        return answered(due, r);
     }
     let none = [0u8; 1];
     let mut answer = [0u8; 10];
@@ -61,13 +62,13 @@ pub fn fresh(l1d: &mut [u8], l2: &mut [u8], ext: &mut [u8]) -> Called
     ensures { λ x. ⌜ calledAs x (now (l1d .exit)) (now (l2 .exit)) (now (ext .exit)) ≡ freshCall (now (l1d .entry)) (now (l2 .entry)) (now (ext .entry)) ⌝ }
 {
     if !fresh_ok(l1d, l2, ext) {
-        return refused(1, model::fresh_record(32768, 128));
+        return answered(1, model::fresh_record(32768, 128));
     }
     let l = l2.len() as u32;
     let e = ext.len() as u32;
     memory::clear_from(l1d, 0);
     memory::clear_from(l2, 0);
-    refused(0, model::fresh_record(l, e))
+    answered(0, model::fresh_record(l, e))
 }
 
 pub fn fresh_ok(l1d: &[u8], l2: &[u8], ext: &[u8]) -> bool

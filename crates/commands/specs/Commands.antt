@@ -1,20 +1,20 @@
 -- Which sweep or change a code is, the parts of a mode change put together, and which number is due.
 use Prim.Native.Nat.{ℕ, zero, suc, _≤_, _<_}
+use mathlib.Core.Bool.{true, false, not, cond, _&&_, _||_}
 use mathlib.Core.Path.{_≡_, refl, sym, ap, _∙_}
-use mathlib.Core.Bool.{true, false, not}
 use mathlib.Core.Logic.{_≢_}
 use mathlib.Core.List.{List}
 use native.Mathlib.Omega.{arith}
 use lib.ListN.{length, replicate}
 use lib.Dec.{leb, eqb}
 use borrow.Author.Tests.{eqb-true, eqb-false, eq-eqb, ne-eqb, leb-true, le-leb, lt-leb}
-use Rattle.model.specs.Basics.{pick, both, either, bool}
 use Rattle.model.specs.Bytes.{zeroFrom}
 use Rattle.model.specs.Memories.{cacheSize, isMode, sramLength}
 use Rattle.model.specs.Records.{State, state, sramOf, freshL1dSet, freshL2Set}
-use Rattle.model.specs.Modes.{holdsRange, smaller, flushL2, newMode, changeMode, changeMar}
-use Rattle.model.specs.Refusals.{first, unless, blockDue, modeDue}
+use Rattle.model.specs.Modes.{smaller, flushL2, newMode, changeMode, changeMar}
+use Rattle.model.specs.Refusals.{holdsRange, first, unless, blockDue, modeDue}
 use Rattle.model.specs.Calls.{reply, commandDue, commandState, accepted, step}
+use Rattle.model.specs.Laws.{bool}
 use Rattle.model.specs.declared.Command.{Command}
 use Rattle.model.specs.declared.Record.{Record}
 use Rattle.mar.specs.Range.{marOperandsDue, due-in-turn}
@@ -53,7 +53,7 @@ changed mode r q n l m m₂ e e₂ k e2 ek em en =
 among {ℓ} : {A : Type ℓ} (m n : ℕ) → n ≤ m → (m ≡ n → A) → (suc n ≤ m → A) → A
 among m n h f g = bool (eqb m n) (λ e. f (eqb-true m n e)) (λ e. let d = eqb-false m n e in g (omega arith))
 
-mode-byte : (m c l : ℕ) → unless (both (either (leb m 3) (eqb m 7)) (leb c l)) 8 ≡ 0 → m < 256
+mode-byte : (m c l : ℕ) → unless ((leb m 3 || eqb m 7) && leb c l) 8 ≡ 0 → m < 256
 mode-byte m c l h =
     bool (leb m 3) (λ e. let k = leb-true m 3 e in omega arith)
     (λ e. bool (eqb m 7) (λ f. let k = eqb-true m 7 f in omega arith) (λ f. let z : _≡_ {A = ℕ} 8 0 = rw (e, f) at h in absurd (omega arith)))
@@ -86,34 +86,19 @@ module _ (c : Command) (z : State) where
   unfolding commandState
   changed-mar e = rw e refl
 
-  -- a code that the trace lacks does nothing
-  pub unknown : 11 < c .code → z ≡ commandState c z
-  unfolding commandState
-  unknown h =
-      rw (
-        ne-eqb (c .code) 2 (omega arith),
-        ne-eqb (c .code) 3 (omega arith),
-        ne-eqb (c .code) 4 (omega arith),
-        ne-eqb (c .code) 5 (omega arith),
-        ne-eqb (c .code) 6 (omega arith),
-        ne-eqb (c .code) 7 (omega arith),
-        ne-eqb (c .code) 8 (omega arith),
-        ne-eqb (c .code) 9 (omega arith),
-        ne-eqb (c .code) 10 (omega arith),
-        ne-eqb (c .code) 11 (omega arith),
-      ) refl
-
 -- ---- which number is due
 -- by L and the operands alone: all but 10
 unfoldable pub operandsDue : ℕ → Command → ℕ
 operandsDue l c =
-    pick (both (leb 4 (c .code)) (leb (c .code) 8)) (blockDue (c .first) (c .second))
-    (pick (eqb (c .code) 10) (modeDue l (c .first)) (pick (eqb (c .code) 11) (marOperandsDue (c .first) (c .second)) 0))
+    cond (leb 4 (c .code) && leb (c .code) 8) (blockDue (c .first) (c .second))
+    (cond (eqb (c .code) 10) (modeDue l (c .first)) (cond (eqb (c .code) 11) (marOperandsDue (c .first) (c .second)) (unless (leb (c .code) 11) 11)))
 
 module _ (l : ℕ) (c : Command) where
   pub due-below-4 : c .code < 4 → 0 ≡ operandsDue l c
   unfolding operandsDue
-  due-below-4 k = rw (lt-leb 4 (c .code) k, ne-eqb (c .code) 10 (λ e. absurd (omega arith)), ne-eqb (c .code) 11 (λ e. absurd (omega arith))) refl
+  due-below-4 k =
+      let low : c .code ≤ 11 = omega arith in
+      rw (lt-leb 4 (c .code) k, ne-eqb (c .code) 10 (λ e. absurd (omega arith)), ne-eqb (c .code) 11 (λ e. absurd (omega arith)), le-leb (c .code) 11 low) refl
 
   pub due-block : 4 ≤ c .code → c .code ≤ 8 → blockDue (c .first) (c .second) ≡ operandsDue l c
   unfolding operandsDue
@@ -127,10 +112,21 @@ module _ (l : ℕ) (c : Command) where
   unfolding operandsDue
   due-mar e = rw e refl
 
-  pub due-else : 8 < c .code → c .code ≢ 10 → c .code ≢ 11 → 0 ≡ operandsDue l c
+  pub due-all : c .code ≡ 9 → 0 ≡ operandsDue l c
   unfolding operandsDue
-  due-else k n m = let four : 4 ≤ c .code = omega arith in
-      rw (le-leb 4 (c .code) four, lt-leb (c .code) 8 k, ne-eqb (c .code) 10 n, ne-eqb (c .code) 11 m) refl
+  due-all e = rw e refl
+
+  pub due-unknown : 11 < c .code → 11 ≡ operandsDue l c
+  unfolding operandsDue
+  due-unknown k =
+      let four : 4 ≤ c .code = omega arith in let eight : 8 < c .code = omega arith in
+      rw (le-leb 4 (c .code) four, lt-leb (c .code) 8 eight, ne-eqb (c .code) 10 (λ e. absurd (omega arith)), ne-eqb (c .code) 11 (λ e. absurd (omega arith)), lt-leb (c .code) 11 k) refl
+
+  -- the one code from 11 on that no number is due for
+  pub accepted-mar : operandsDue l c ≡ 0 → 11 ≤ c .code → c .code ≡ 11
+  accepted-mar h k =
+      bool (eqb (c .code) 11) (λ e. eqb-true (c .code) 11 e)
+      (λ e. let n = eqb-false (c .code) 11 e in let d = due-unknown (omega arith) ∙ h in absurd (omega arith))
 
   -- what an accepted mode change knows of its mode: it is a byte
   pub accepted-mode : operandsDue l c ≡ 0 → c .code ≡ 10 → c .first < 256
@@ -150,12 +146,12 @@ module _ (c : Command) (z : State) (h : 2 ≤ c .code) where
   not-access = (ne-eqb (c .code) 0 (λ e. absurd (omega arith)), ne-eqb (c .code) 1 (λ e. absurd (omega arith)))
 
   -- the operands' number first; then, for a MAR bit, 10
-  in-turn : commandDue c z ≡ first (operandsDue (z .rec .l2len) c) (unless (not (both (eqb (c .code) 11) (both (eqb (c .second) 0) (holdsRange (c .first) (z .rec))))) 10)
+  in-turn : commandDue c z ≡ first (operandsDue (z .rec .l2len) c) (unless (not (eqb (c .code) 11 && (eqb (c .second) 0 && holdsRange (c .first) (z .rec)))) 10)
   unfolding commandDue operandsDue
   in-turn =
       bool (eqb (c .code) 11)
       (λ e. rw (eqb-true (c .code) 11 e) (due-in-turn (c .first) (c .second) (z .rec)))
-      (λ e. rw (not-access .0, not-access .1, e) (sym (first-none (pick (both (leb 4 (c .code)) (leb (c .code) 8)) (blockDue (c .first) (c .second)) (pick (eqb (c .code) 10) (modeDue (z .rec .l2len) (c .first)) 0)))))
+      (λ e. rw (not-access .0, not-access .1, e) (sym (first-none (cond (leb 4 (c .code) && leb (c .code) 8) (blockDue (c .first) (c .second)) (cond (eqb (c .code) 10) (modeDue (z .rec .l2len) (c .first)) (unless (leb (c .code) 11) 11))))))
 
   pub refused-by-operands : (n : ℕ) → n ≡ operandsDue (z .rec .l2len) c → n ≢ 0 → reply n 0 0 z ≡ step c z
   unfolding step
@@ -168,7 +164,7 @@ module _ (c : Command) (z : State) (h : 2 ≤ c .code) where
   carried-by d x e = rw (e, eq-eqb (commandDue c z) 0 d, not-access .0, not-access .1) refl
 
   module _ (none : operandsDue (z .rec .l2len) c ≡ 0) where
-    due-held : commandDue c z ≡ unless (not (both (eqb (c .code) 11) (both (eqb (c .second) 0) (holdsRange (c .first) (z .rec))))) 10
+    due-held : commandDue c z ≡ unless (not (eqb (c .code) 11 && (eqb (c .second) 0 && holdsRange (c .first) (z .rec)))) 10
     due-held = in-turn ∙ rw none refl
 
     pub carried : c .code ≢ 11 → (x : State) → x ≡ commandState c z → reply 0 0 0 x ≡ step c z

@@ -82,7 +82,11 @@ pub fn operands_due(l2len: u32, c: Command) -> u8
     if c.code == 11 {
         return mar::operands_due(c.first, c.second);
     }
-    0
+    if c.code == 9 {
+        return 0;
+    }
+    // no command has this code; a trace never gives one
+    11
 }
 
 pub fn carry_out(r: Record, c: Command, l1d: &[u8], l2: &mut [u8], ext: &mut [u8]) -> Carried
@@ -115,12 +119,6 @@ pub fn carry_out(r: Record, c: Command, l1d: &[u8], l2: &mut [u8], ext: &mut [u8
         return Carried {
             number: 0,
             record: q,
-        };
-    }
-    if c.code != 11 {
-        return Carried {
-            number: 0,
-            record: r,
         };
     }
     // only a bit that is to be 0 asks what the caches hold

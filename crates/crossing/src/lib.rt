@@ -3,7 +3,7 @@
 ghost use mathlib.Core.Path.{_≡_};
 ghost use Rattle.model.specs.Trace.{command};
 ghost use Rattle.model.specs.Calls.{freshCall};
-ghost use Rattle.crossing.specs.Crossing.{sizesAlike, unreadDue, calledAs, ranAs, seenAs, through, givenBack, commandCall, runBy, viewNumber, viewInto};
+ghost use Rattle.crossing.specs.Crossing.{sizesAlike, unreadDue, calledInC, ranInC, seenAs, through, givenBack, commandCall, runBy, viewNumber, viewInto};
 use layout::CRecord;
 use model::Command;
 
@@ -72,7 +72,7 @@ pub fn carry_out(
     l2: &mut [u8],
     ext: &mut [u8],
 ) -> CCalled
-    ensures { λ x. ⌜ calledAs x (now (l1d .exit)) (now (l2 .exit)) (now (ext .exit))
+    ensures { λ x. ⌜ calledInC x (now (l1d .exit)) (now (l2 .exit)) (now (ext .exit))
         ≡ commandCall (command code first second value) c (now (l1d .entry)) (now (l2 .entry)) (now (ext .entry)) ⌝ }
 {
     if layout::bits(c) {
@@ -95,7 +95,7 @@ pub fn carry_out(
 
 // A fresh start: L and E are the lengths that are lent.
 pub fn fresh(l1d: &mut [u8], l2: &mut [u8], ext: &mut [u8]) -> CCalled
-    ensures { λ x. ⌜ calledAs x (now (l1d .exit)) (now (l2 .exit)) (now (ext .exit))
+    ensures { λ x. ⌜ calledInC x (now (l1d .exit)) (now (l2 .exit)) (now (ext .exit))
         ≡ through (freshCall (now (l1d .entry)) (now (l2 .entry)) (now (ext .entry))) ⌝ }
 {
     given_back(calls::fresh(l1d, l2, ext))
@@ -110,7 +110,7 @@ pub fn run(
     ext: &mut [u8],
     answers: &mut [u8],
 ) -> CRun
-    ensures { λ x. ⌜ ranAs x (now (l1d .exit)) (now (l2 .exit)) (now (ext .exit)) (now (answers .exit))
+    ensures { λ x. ⌜ ranInC x (now (l1d .exit)) (now (l2 .exit)) (now (ext .exit)) (now (answers .exit))
         ≡ runBy (now (trace .entry)) (now (answers .entry)) c (now (l1d .entry)) (now (l2 .entry)) (now (ext .entry)) ⌝ }
 {
     if layout::bits(c) {

@@ -1,6 +1,6 @@
 -- The command at a place of a trace, as the code comes to it: how many numbers follow the code byte, then number by number.
 use Prim.Native.Nat.{ℕ, suc, _+_, _-_, _≤_, _<_}
-use mathlib.Core.Bool.{Bool, true, false}
+use mathlib.Core.Bool.{Bool, true, false, cond, _||_, _&&_}
 use mathlib.Core.List.{List}
 use mathlib.Core.Path.{_≡_, refl, sym, ap, _∙_}
 use native.Mathlib.Omega.{arith}
@@ -9,8 +9,8 @@ use lib.ListN.{length, getD, drop, drop-of-length-le}
 use lib.Seq.{drop-cons, drop-drop}
 use lib.Dec.{leb, eqb}
 use borrow.Author.Tests.{le-leb, lt-leb, ne-eqb, eqb-true, eqb-false}
-use Rattle.model.specs.Basics.{pick, pick-elim, both, either, bool, false-true}
 use Rattle.model.specs.Trace.{Number, number32, number64, Decoded, decoded, damaged, command, oneNumber, secondNumber, twoNumbers, valueNumber, threeNumbers, decodeAfter, decode}
+use Rattle.model.specs.Laws.{cond-elim, bool, false-true}
 use Rattle.decode.specs.declared.Decoded.{Decoded as Answer}
 use Rattle.decode.specs.Told.{told}
 
@@ -29,9 +29,9 @@ module _ (t : List ℕ) (at : ℕ) (r : Answer) (e : told r ≡ decode (drop at 
 -- how many numbers follow a code; 4: there is no such code
 unfoldable pub numbersBehind : ℕ → ℕ
 numbersBehind c =
-    pick (eqb c 1) 3
-    (pick (either (eqb c 0) (either (both (leb 4 c) (leb c 8)) (eqb c 11))) 2
-    (pick (eqb c 10) 1 (pick (either (eqb c 2) (either (eqb c 3) (eqb c 9))) 0 4)))
+    cond (eqb c 1) 3
+    (cond (eqb c 0 || ((leb 4 c && leb c 8) || eqb c 11)) 2
+    (cond (eqb c 10) 1 (cond (eqb c 2 || (eqb c 3 || eqb c 9)) 0 4)))
 
 module _ (c : ℕ) where
   pub behind-is : (k n : ℕ) → c ≡ k → n ≡ numbersBehind k → n ≡ numbersBehind c
@@ -73,21 +73,21 @@ module _ (c : ℕ) where
 -- by how many numbers follow
 unfoldable pub byNumbers : ℕ → ℕ → List ℕ → Decoded
 byNumbers n c bs =
-    pick (eqb n 0) (decoded (command c 0 0 0) 1)
-    (pick (eqb n 4) damaged (pick (eqb n 1) (oneNumber c bs) (pick (eqb n 2) (twoNumbers c bs) (threeNumbers c bs))))
+    cond (eqb n 0) (decoded (command c 0 0 0) 1)
+    (cond (eqb n 4) damaged (cond (eqb n 1) (oneNumber c bs) (cond (eqb n 2) (twoNumbers c bs) (threeNumbers c bs))))
 
 after-numbers : (c : ℕ) (bs : List ℕ) → decodeAfter c bs ≡ byNumbers (numbersBehind c) c bs
 unfolding decodeAfter byNumbers numbersBehind
-after-numbers c bs = go (eqb c 1) (either (eqb c 0) (either (both (leb 4 c) (leb c 8)) (eqb c 11))) (eqb c 10)
-    (either (eqb c 2) (either (eqb c 3) (eqb c 9)))
+after-numbers c bs = go (eqb c 1) (eqb c 0 || ((leb 4 c && leb c 8) || eqb c 11)) (eqb c 10)
+    (eqb c 2 || (eqb c 3 || eqb c 9))
   where
     at : ℕ → Decoded
-    at n = pick (eqb n 0) (decoded (command c 0 0 0) 1)
-        (pick (eqb n 4) damaged (pick (eqb n 1) (oneNumber c bs) (pick (eqb n 2) (twoNumbers c bs) (threeNumbers c bs))))
+    at n = cond (eqb n 0) (decoded (command c 0 0 0) 1)
+        (cond (eqb n 4) damaged (cond (eqb n 1) (oneNumber c bs) (cond (eqb n 2) (twoNumbers c bs) (threeNumbers c bs))))
 
     go : (x y z w : Bool) →
-        pick x (threeNumbers c bs) (pick y (twoNumbers c bs) (pick z (oneNumber c bs) (pick w (decoded (command c 0 0 0) 1) damaged)))
-        ≡ at (pick x 3 (pick y 2 (pick z 1 (pick w 0 4))))
+        cond x (threeNumbers c bs) (cond y (twoNumbers c bs) (cond z (oneNumber c bs) (cond w (decoded (command c 0 0 0) 1) damaged)))
+        ≡ at (cond x 3 (cond y 2 (cond z 1 (cond w 0 4))))
     go true y z w = refl
     go false true z w = refl
     go false false true w = refl
@@ -118,8 +118,8 @@ module _ (t : List ℕ) (at n : ℕ) (h : at < length t) (e : n ≡ numbersBehin
     decode-no-first o =
         let k : number32 (drop (at + 1) t) .ok ≡ false = ap (λ (x : Number). x .ok) (sym f) ∙ o in
         sym (decode-by ∙ rw (ne-eqb n 0 some, ne-eqb n 4 known, k)
-        (pick-elim (λ (x : Decoded). x ≡ damaged) (eqb n 1) damaged (pick (eqb n 2) damaged damaged) (λ _. refl)
-        (λ _. pick-elim (λ (x : Decoded). x ≡ damaged) (eqb n 2) damaged damaged (λ _. refl) (λ _. refl))))
+        (cond-elim (λ (x : Decoded). x ≡ damaged) (eqb n 1) damaged (cond (eqb n 2) damaged damaged) (λ _. refl)
+        (λ _. cond-elim (λ (x : Decoded). x ≡ damaged) (eqb n 2) damaged damaged (λ _. refl) (λ _. refl))))
 
     pub decode-one : a .ok ≡ true → n ≡ 1 → decoded (command (getD t at 0) (a .value) 0 0) (1 + a .used) ≡ decode (drop at t)
     unfolding byNumbers oneNumber
@@ -129,7 +129,7 @@ module _ (t : List ℕ) (at n : ℕ) (h : at < length t) (e : n ≡ numbersBehin
       second-at : drop (a .used) (drop (at + 1) t) ≡ drop (at + 1 + a .used) t
       second-at = drop-drop (a .used) (at + 1) t
 
-      two : twoNumbers (getD t at 0) (drop (at + 1) t) ≡ pick (b .ok) (decoded (command (getD t at 0) (a .value) (b .value) 0)
+      two : twoNumbers (getD t at 0) (drop (at + 1) t) ≡ cond (b .ok) (decoded (command (getD t at 0) (a .value) (b .value) 0)
           (1 + a .used + b .used)) damaged
       unfolding twoNumbers secondNumber
       two = rw (← f, o, second-at, ← g) refl
@@ -138,7 +138,7 @@ module _ (t : List ℕ) (at n : ℕ) (h : at < length t) (e : n ≡ numbersBehin
       unfolding byNumbers threeNumbers
       decode-no-second p =
           sym (decode-by ∙ rw (ne-eqb n 0 some, ne-eqb n 4 known, ne-eqb n 1 more, two, p)
-          (pick-elim (λ (x : Decoded). x ≡ damaged) (eqb n 2) damaged damaged (λ _. refl) (λ _. refl)))
+          (cond-elim (λ (x : Decoded). x ≡ damaged) (eqb n 2) damaged damaged (λ _. refl) (λ _. refl)))
 
       pub decode-two : b .ok ≡ true → n ≡ 2 → decoded (command (getD t at 0) (a .value) (b .value) 0) (1 + a .used + b .used) ≡ decode (drop at t)
       unfolding byNumbers
@@ -150,7 +150,7 @@ module _ (t : List ℕ) (at n : ℕ) (h : at < length t) (e : n ≡ numbersBehin
             let e : at + 1 + (1 + a .used + b .used - 1) ≡ at + 1 + a .used + b .used = omega arith in
             drop-drop (1 + a .used + b .used - 1) (at + 1) t ∙ ap (λ (x : ℕ). drop x t) e
 
-        by-three : decode (drop at t) ≡ pick (v .ok) (decoded (command (getD t at 0) (a .value) (b .value) (v .value))
+        by-three : decode (drop at t) ≡ cond (v .ok) (decoded (command (getD t at 0) (a .value) (b .value) (v .value))
             (1 + a .used + b .used + v .used)) damaged
         unfolding byNumbers threeNumbers valueNumber
         by-three = decode-by ∙ rw (ne-eqb n 0 some, ne-eqb n 4 known, ne-eqb n 1 more, ne-eqb n 2 three, two, p, value-at, ← k) refl

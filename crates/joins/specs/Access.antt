@@ -1,7 +1,7 @@
 -- A read or write, from what the stages return: its front (refused, direct, a hit), and a miss stage by stage. Every lemma is over plain variables,
 -- its hypotheses are what the stages ensure, and its conclusion is a step of model/specs.
 use Prim.Native.Nat.{ℕ, _+_, _%_, _<_}
-use mathlib.Core.Bool.{Bool, true, false}
+use mathlib.Core.Bool.{Bool, true, false, cond}
 use mathlib.Core.Path.{_≡_, refl, sym, ap, _∙_}
 use mathlib.Core.Logic.{_≢_}
 use mathlib.Core.List.{List}
@@ -9,14 +9,16 @@ use native.Mathlib.Omega.{arith}
 use lib.ListN.{set}
 use lib.Dec.{ltb, eqb}
 use borrow.Author.Tests.{eqb-true, eqb-false, eq-eqb, ne-eqb}
-use Rattle.model.specs.Basics.{pick, bool, false-true, pick-false}
 use Rattle.model.specs.Bytes.{stored}
 use Rattle.model.specs.Memories.{externalBase}
-use Rattle.model.specs.Lines.{l1dSetOf, l1dData, l1dLine, lineOf, l1dGet, l1dPut, l1dUse, l1dFind}
-use Rattle.model.specs.Records.{State, state, sramOf, noL1dSet, l1dSetAt, withL1dSet, l1dSetLine}
-use Rattle.model.specs.Access.{inL1d, l1dWay, cacheable, memoryPart, putMemory, useL1d, putL1d, readHit, readAccess, writeHit, writeAccess}
-use Rattle.model.specs.Calls.{Reply, reply, refused, commandDue, readDone, writeDone, accepted, step}
+use Rattle.model.specs.Lines.{l1dSetOf, l1dData, l1dLine, lineOf, l1dGet, l1dPut, l1dUse}
+use Rattle.model.specs.Records.{State, state, sramOf, noL1dSet, l1dSetAt, withL1dSet, withL1dLine}
+use Rattle.model.specs.Ways.{l1dFind, inL1d, l1dWay, useL1d}
+use Rattle.model.specs.Access.{cacheable, putL1d, readHit, readAccess, writeHit, writeAccess}
+use Rattle.model.specs.Homes.{memoryPart, putMemory}
 use Rattle.model.specs.Refusals.{accessDue}
+use Rattle.model.specs.Calls.{Reply, reply, refused, commandDue, readDone, writeDone, accepted, step}
+use Rattle.model.specs.Laws.{bool, false-true, cond-false}
 use Rattle.model.specs.declared.L1dSet.{L1dSet}
 use Rattle.model.specs.declared.Record.{Record}
 use Rattle.model.specs.declared.Command.{Command}
@@ -25,7 +27,7 @@ use Rattle.joins.specs.Sets.{set-again, keep-l1d, withSets}
 
 -- ---- which number is due for a read or write: a read's value is checked as 0
 abbrev pub checked : Command → ℕ
-checked c = pick (isWrite c) (c .value) 0
+checked c = cond (isWrite c) (c .value) 0
 
 pub access-due : (c : Command) (z : State) → c .code < 2 → accessDue (sramOf (z .rec)) (z .rec .extlen) (c .first) (c .second) (checked c) ≡ commandDue c z
 unfolding commandDue
@@ -36,7 +38,7 @@ access-due c z h =
 
 -- an accepted access, as a read or as a write
 abbrev pub performed : Command → State → Reply
-performed c z = pick (isWrite c) (writeDone (c .first) (c .second) (c .value) z) (readDone (c .first) (c .second) z)
+performed c z = cond (isWrite c) (writeDone (c .first) (c .second) (c .value) z) (readDone (c .first) (c .second) z)
 
 pub access-accepted : (c : Command) (z : State) → c .code < 2 → commandDue c z ≡ 0 → performed c z ≡ step c z
 unfolding step accepted
@@ -67,7 +69,7 @@ module _ (r : Record) (l m e : List ℕ) (c : Command) where
   hit-done : cacheable r (c .second) ≡ true → ltb (l1dFind (l1dSetAt r (l1dSetOf (c .second))) (l1dLine (c .second))) 2 ≡ true →
       (h : Hit) → h ≡ hit (l1dSetAt r (l1dSetOf (c .second))) (l1dSetOf (c .second)) (l1dFind (l1dSetAt r (l1dSetOf (c .second))) (l1dLine (c .second))) c l →
       reply 0 1 (h .out .value) (state (withL1dSet r (l1dSetOf (c .second)) (h .out .set)) (h .l1d) m e) ≡ performed c z
-  unfolding hit writeDone readDone writeAccess readAccess inL1d l1dWay readHit writeHit useL1d putL1d l1dSetLine
+  unfolding hit writeDone readDone writeAccess readAccess inL1d l1dWay readHit writeHit useL1d putL1d withL1dLine
   hit-done k f h eh =
       bool (isWrite c)
       (λ w. rw (eh, w, k, f)
@@ -91,7 +93,7 @@ module _ (r : Record) (l m e : List ℕ) (c : Command) where
       ∙ direct-done k ∙ access-accepted c z h d0))
       (λ t. ap (fronted i) (rw (ed, t) at ef)
       ∙ ap (λ (x : Record). reply (commandDue c z) 0 0 (state x l m e)) (keep-l1d r i)
-      ∙ pick-false (eqb (commandDue c z) 0) (accepted c z) (refused (commandDue c z) z) t)
+      ∙ cond-false (eqb (commandDue c z) 0) (accepted c z) (refused (commandDue c z) z) t)
 
   -- what a front that is not done tells: nothing was due, the address is cacheable, L1D does not hold it, and nothing was changed
   pub record Missed (f : Fronted) : Type 0 where

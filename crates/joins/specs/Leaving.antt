@@ -1,20 +1,22 @@
--- A line leaves: the stages `sendHome`, `takeHalf`, `goesOut` and `writeOut`, with the sets stored back, are the steps homeL1d, takeHalf,
+-- A line leaves: the stages `sendHome`, `takeHalf`, `goesOut` and `writeOut`, with the sets stored back, are the steps writebackL1d, takeHalf,
 -- writebackL2 and evictL2 of paper 01.
 use Prim.Native.Nat.{ℕ, _-_}
-use mathlib.Core.Bool.{Bool, true, false}
+use mathlib.Core.Bool.{Bool, true, false, cond, _||_}
 use mathlib.Core.Path.{_≡_, refl, sym, ap, _∙_}
 use mathlib.Core.Logic.{_≢_}
 use mathlib.Core.List.{List}
 use lib.ListN.{set}
 use lib.Dec.{ltb, eqb}
 use borrow.Author.Tests.{eqb-false}
-use Rattle.model.specs.Basics.{pick, either, bool, false-true, pick-false}
 use Rattle.model.specs.Bytes.{part, stored}
 use Rattle.model.specs.Memories.{externalBase}
-use Rattle.model.specs.Lines.{l1dSetOf, l1dData, l1dLine, l2Line, upperHalf, emptyLine, lineOf, l1dGet, l1dFind, l2Find}
-use Rattle.model.specs.Records.{State, state, sramOf, l2SetsOf, l2SetOf, l2Data, l1dSetAt, l2SetAt, l1dLineAt, l2LineAt, withL1dSet, withL2Set, l1dSetLine, l2SetLine}
-use Rattle.model.specs.Access.{inL1d, inL2, l1dWay, l2Way, homeIsL2, putMemory, putL2, putHome, homeL1d, emptyL1d, emptyL2, takeHalves, writeOutL2, writebackL2, evictL2}
-use Rattle.model.specs.Access as Model
+use Rattle.model.specs.Lines.{l1dSetOf, l1dData, l1dLine, l2Line, upperHalf, emptyLine, lineOf, l1dGet}
+use Rattle.model.specs.Records.{State, state, sramOf, l2SetsOf, l2SetOf, l2Data, l1dSetAt, l2SetAt, l1dLineAt, l2LineAt, withL1dSet, withL2Set, withL1dLine, withL2Line}
+use Rattle.model.specs.Ways.{l1dFind, l2Find, inL1d, inL2, l1dWay, l2Way, emptyL1d, emptyL2}
+use Rattle.model.specs.Access.{writebackL1d}
+use Rattle.model.specs.Homes.{homeIsL2, putMemory, putL2, putHome, takeHalves, writeOutL2, writebackL2, evictL2}
+use Rattle.model.specs.Laws.{bool, false-true, cond-false}
+use Rattle.model.specs.Homes as Model
 use Rattle.model.specs.declared.Line.{Line}
 use Rattle.model.specs.declared.L1dSet.{L1dSet}
 use Rattle.model.specs.declared.L2Set.{L2Set}
@@ -23,13 +25,13 @@ use Rattle.stages.specs.Stages.{Sent, sendBytes, sendHome, Taken, takeHalf, goe
 use Rattle.joins.specs.Sets.{putLine, lineIn, put-same, put-put, mark, dirtied, mark-line, mark-put, keep-l1d, keep-l2, withSets}
 
 -- none of three holds
-none : (a b c : Bool) → either a (either b c) ≡ false → (a ≡ false) × ((b ≡ false) × (c ≡ false))
+none : (a b c : Bool) → (a || (b || c)) ≡ false → (a ≡ false) × ((b ≡ false) × (c ≡ false))
 none false false c h = (refl, (refl, h))
 none false true c h = false-true (sym h)
 none true b c h = false-true (sym h)
 
 -- three tests the other way round
-turned : (a b c : Bool) → either a (either b c) ≡ either c (either b a)
+turned : (a b c : Bool) → (a || (b || c)) ≡ (c || (b || a))
 turned true true true = refl
 turned true true false = refl
 turned true false true = refl
@@ -45,7 +47,7 @@ module _ (r : Record) (l m e : List ℕ) where
   bytes-home : (t a : ℕ) (bs : List ℕ) (s : Sent) → (l2SetsOf r ≢ 0 → t ≡ l2SetOf r a) →
       s ≡ sendBytes (l2SetAt r t) (sramOf r) (l2SetsOf r) t a bs m e →
       state (withL2Set r t (s .set)) l (s .l2) (s .ext) ≡ putHome a bs (state r l m e)
-  unfolding sendBytes putHome putMemory homeIsL2 putL2 inL2 l2Way l2SetLine
+  unfolding sendBytes putHome putMemory homeIsL2 putL2 inL2 l2Way withL2Line
   bytes-home t a bs s et es =
       bool (ltb a externalBase)
       (λ b. rw (es, b) (ap (λ (x : Record). state x l (stored m a bs) e) (keep-l2 r t)))
@@ -58,8 +60,8 @@ module _ (r : Record) (l m e : List ℕ) where
 
   pub sent-home : (t i w : ℕ) (s : Sent) → (l2SetsOf r ≢ 0 → t ≡ l2SetOf r (l1dLineAt r i w .address)) →
       s ≡ sendHome (l2SetAt r t) (sramOf r) (l2SetsOf r) t i w (l1dLineAt r i w) l m e →
-      state (withL2Set r t (s .set)) l (s .l2) (s .ext) ≡ homeL1d i w (state r l m e)
-  unfolding sendHome homeL1d
+      state (withL2Set r t (s .set)) l (s .l2) (s .ext) ≡ writebackL1d i w (state r l m e)
+  unfolding sendHome writebackL1d
   sent-home t i w s et es =
       let stay : state (withL2Set r t (l2SetAt r t)) l m e ≡ state r l m e = ap (λ (x : Record). state x l m e) (keep-l2 r t) in
       bool (l1dLineAt r i w .valid)
@@ -72,7 +74,7 @@ module _ (r : Record) (l m e : List ℕ) where
 module _ (r : Record) (l m e : List ℕ) (t v : ℕ) where
   pub half-taken : (b i : ℕ) (h : Taken) → i ≡ l1dSetOf b → h ≡ takeHalf (l1dSetAt r i) true b (l2Data r t v) l m →
       state (withSets r (set (r .l1d) i (h .out .set)) (mark (h .out .dirty) (r .l2) t v)) l (h .l2) e ≡ Model.takeHalf t v b (state r l m e)
-  unfolding takeHalf Model.takeHalf inL1d l1dWay emptyL1d putL2 l1dSetLine l2SetLine
+  unfolding takeHalf Model.takeHalf inL1d l1dWay emptyL1d putL2 withL1dLine withL2Line
   half-taken b i h ei eh =
       bool (ltb (l1dFind (l1dSetAt r (l1dSetOf b)) (l1dLine b)) 2)
       (λ f. bool (l1dGet (l1dSetAt r (l1dSetOf b)) (l1dFind (l1dSetAt r (l1dSetOf b)) (l1dLine b)) .dirty)
@@ -110,7 +112,7 @@ module _ (r : Record) (l m e : List ℕ) (t v i j : ℕ) (h₁ h₂ : Taken) (d 
       half-taken (withSets r (set (r .l1d) i (h₁ .out .set)) (mark (h₁ .out .dirty) (r .l2) t v)) l (h₁ .l2) e t v (upperHalf (x .address)) j h₂ (q .high) w
       ∙ ap (Model.takeHalf t v (upperHalf (x .address))) (half-taken r l m e t v (x .address) i h₁ (q .low) o)
 
-  twice-line : x .valid ≡ true → lineIn twice t v ≡ record { valid = true; dirty = either (h₂ .out .dirty) (either (h₁ .out .dirty) (x .dirty)); address = x .address }
+  twice-line : x .valid ≡ true → lineIn twice t v ≡ record { valid = true; dirty = h₂ .out .dirty || (h₁ .out .dirty || x .dirty); address = x .address }
   twice-line k =
       let a = mark-line (h₁ .out .dirty) (r .l2) t v k in
       mark-line (h₂ .out .dirty) (mark (h₁ .out .dirty) (r .l2) t v) t v (ap (λ (y : Line). y .valid) a)
@@ -122,17 +124,17 @@ module _ (r : Record) (l m e : List ℕ) (t v i j : ℕ) (h₁ h₂ : Taken) (d 
   -- the line goes out, by what it is now
   abbrev outBy : Line → State → State
   outBy y z =
-      pick (y .valid)
-      (pick (y .dirty)
-      (state (l2SetLine (z .rec) t v (lineOf (y .address) false)) (z .l1d) (z .l2) (stored (z .ext) (y .address - externalBase) (part (z .l2) (l2Data (z .rec) t v) 128))) z) z
+      cond (y .valid)
+      (cond (y .dirty)
+      (state (withL2Line (z .rec) t v (lineOf (y .address) false)) (z .l1d) (z .l2) (stored (z .ext) (y .address - externalBase) (part (z .l2) (l2Data (z .rec) t v) 128))) z) z
 
-  goes-dirty : x .valid ≡ true → d ≡ either (h₂ .out .dirty) (either (h₁ .out .dirty) (x .dirty))
+  goes-dirty : x .valid ≡ true → d ≡ (h₂ .out .dirty || (h₁ .out .dirty || x .dirty))
   unfolding goesOut
   goes-dirty k = q .goes ∙ rw k (turned (x .dirty) (h₁ .out .dirty) (h₂ .out .dirty))
 
   out-twice : x .valid ≡ true →
-      state (withSets r rest (pick d (putLine (r .l2) t v (lineOf (x .address) false)) twice)) l (h₂ .l2) e₂ ≡ writeOutL2 t v (state (withSets r rest twice) l (h₂ .l2) e)
-  unfolding writeOutL2 writeOut l2SetLine
+      state (withSets r rest (cond d (putLine (r .l2) t v (lineOf (x .address) false)) twice)) l (h₂ .l2) e₂ ≡ writeOutL2 t v (state (withSets r rest twice) l (h₂ .l2) e)
+  unfolding writeOutL2 writeOut withL2Line
   out-twice k =
       let g = goes-dirty k in
       let by : outBy (record { valid = true; dirty = d; address = x .address }) (state (withSets r rest twice) l (h₂ .l2) e) ≡ writeOutL2 t v (state (withSets r rest twice) l (h₂ .l2) e)
@@ -146,7 +148,7 @@ module _ (r : Record) (l m e : List ℕ) (t v i j : ℕ) (h₁ h₂ : Taken) (d 
 
   -- the line as a writeback leaves it: clean if it was valid
   abbrev pub kept : Line → Line
-  kept y = pick (y .valid) (lineOf (y .address) false) y
+  kept y = cond (y .valid) (lineOf (y .address) false) y
 
   -- nothing happens to a way that is not valid
   idle : x .valid ≡ false → state (withSets r rest (putLine (r .l2) t v (kept x))) l (h₂ .l2) e₂ ≡ state r l m e
@@ -156,7 +158,7 @@ module _ (r : Record) (l m e : List ℕ) (t v i j : ℕ) (h₁ h₂ : Taken) (d 
       let o : h₁ ≡ takeHalf (l1dSetAt r i) false (x .address) (l2Data r t v) l m = q .one ∙ ap (λ (b : Bool). takeHalf (l1dSetAt r i) b (x .address) (l2Data r t v) l m) k in
       let w : h₂ ≡ takeHalf (l1dSetAt (withL1dSet r i (h₁ .out .set)) j) false (upperHalf (x .address)) (l2Data r t v) l (h₁ .l2)
       = q .two ∙ ap (λ (b : Bool). takeHalf (l1dSetAt (withL1dSet r i (h₁ .out .set)) j) b (upperHalf (x .address)) (l2Data r t v) l (h₁ .l2)) k in
-      let p : putLine (r .l2) t v (kept x) ≡ r .l2 = ap (λ (b : Bool). putLine (r .l2) t v (pick b (lineOf (x .address) false) x)) k ∙ put-same (r .l2) t v in
+      let p : putLine (r .l2) t v (kept x) ≡ r .l2 = ap (λ (b : Bool). putLine (r .l2) t v (cond b (lineOf (x .address) false) x)) k ∙ put-same (r .l2) t v in
       let one : withL1dSet r i (h₁ .out .set) ≡ r = ap (λ (h : Taken). withL1dSet r i (h .out .set)) o ∙ keep-l1d r i in
       let two : withL1dSet (withL1dSet r i (h₁ .out .set)) j (h₂ .out .set) ≡ withL1dSet r i (h₁ .out .set)
       = ap (λ (h : Taken). withL1dSet (withL1dSet r i (h₁ .out .set)) j (h .out .set)) w ∙ keep-l1d (withL1dSet r i (h₁ .out .set)) j in
@@ -170,10 +172,10 @@ module _ (r : Record) (l m e : List ℕ) (t v i j : ℕ) (h₁ h₂ : Taken) (d 
   wrote-back =
       bool (x .valid)
       (λ k. let z₂ : writeOutL2 t v (state (withSets r rest twice) l (h₂ .l2) e) ≡ writeOutL2 t v (takeHalves t v (x .address) (state r l m e)) = ap (writeOutL2 t v) (taken-both k) in
-      let same : putLine (r .l2) t v (lineOf (x .address) false) ≡ pick d (putLine (r .l2) t v (lineOf (x .address) false)) twice
+      let same : putLine (r .l2) t v (lineOf (x .address) false) ≡ cond d (putLine (r .l2) t v (lineOf (x .address) false)) twice
       = bool d (λ b. rw b refl) (λ b. rw b (still k b)) in
       rw k (ap (λ (ls : List L2Set). state (withSets r rest ls) l (h₂ .l2) e₂) same ∙ out-twice k ∙ z₂))
-      (λ k. idle k ∙ pick-false (x .valid) (writeOutL2 t v (takeHalves t v (x .address) (state r l m e))) (state r l m e) k)
+      (λ k. idle k ∙ cond-false (x .valid) (writeOutL2 t v (takeHalves t v (x .address) (state r l m e))) (state r l m e) k)
     where
       -- a clean line that took in nothing dirty stands as it stood
       still : x .valid ≡ true → d ≡ false → putLine (r .l2) t v (lineOf (x .address) false) ≡ twice
@@ -185,7 +187,7 @@ module _ (r : Record) (l m e : List ℕ) (t v i j : ℕ) (h₁ h₂ : Taken) (d 
           ∙ sym (ap (λ (c : Bool). mark c (mark (h₁ .out .dirty) (r .l2) t v) t v) (n .0) ∙ ap (λ (c : Bool). mark c (r .l2) t v) (n .1 .0))
 
   pub evicted : state (withSets r rest (putLine (r .l2) t v emptyLine)) l (h₂ .l2) e₂ ≡ evictL2 t v (state r l m e)
-  unfolding evictL2 emptyL2 l2SetLine
+  unfolding evictL2 emptyL2 withL2Line
   evicted =
       ap (λ (ls : List L2Set). state (withSets r rest ls) l (h₂ .l2) e₂) (sym (put-put (r .l2) t v (kept x) emptyLine))
       ∙ ap (emptyL2 t v) wrote-back

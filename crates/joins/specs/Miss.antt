@@ -1,7 +1,7 @@
 -- A miss in L1D, stage by stage: a read makes room in L1D (`room`), L2 gets the line if it is the line's home (`ready`), and the access itself is
 -- served from the home (`finished`). Put together (`miss-done`) they are readMiss and writeMiss of paper 01.
 use Prim.Native.Nat.{ℕ, _+_, _-_, _%_}
-use mathlib.Core.Bool.{Bool, true, false, not}
+use mathlib.Core.Bool.{Bool, true, false, not, cond}
 use mathlib.Core.Path.{_≡_, refl, sym, ap, _∙_}
 use mathlib.Core.Logic.{_≢_}
 use mathlib.Core.List.{List}
@@ -9,13 +9,15 @@ use native.Mathlib.Omega.{arith}
 use lib.ListN.{set}
 use lib.Dec.{ltb, eqb}
 use borrow.Author.Tests.{ltb-true, ltb-false, lt-ltb, le-ltb}
-use Rattle.model.specs.Basics.{pick, bool, false-true, pick-true, pick-false}
 use Rattle.model.specs.Bytes.{part, stored, little}
 use Rattle.model.specs.Memories.{externalBase}
-use Rattle.model.specs.Lines.{l1dSetOf, l1dData, l1dLine, l2Line, l2SetIn, l2Sets, upperHalf, emptyLine, lineOf, l2Get, l1dPut, l2Put, l1dUse, l2Use, l2Find, l1dVictim, l2Victim}
-use Rattle.model.specs.Records.{State, state, sramOf, l2SetsOf, l2SetOf, l2Data, noL1dSet, noL2Set, l1dSetAt, l2SetAt, l1dLineAt, l2LineAt, withL1dSet, withL2Set, l1dSetLine, l2SetLine}
-use Rattle.model.specs.Access.{inL1d, inL2, l2Way, cacheable, homeIsL2, memoryPart, putMemory, useL1d, useL2, putL2, emptyL1d, evictL1d, evictL2, fillL2, l2WayFor, fetchL2, homeLine, fillL1d, homeServer, l1dBytes, readFilled, readEmptied, readMiss, readAccess, writeHome, writeMiss, writeAccess}
+use Rattle.model.specs.Lines.{l1dSetOf, l1dData, l1dLine, l2Line, l2SetIn, l2Sets, upperHalf, emptyLine, lineOf, l2Get, l1dPut, l2Put, l1dUse, l2Use}
+use Rattle.model.specs.Records.{State, state, sramOf, l2SetsOf, l2SetOf, l2Data, noL1dSet, noL2Set, l1dSetAt, l2SetAt, l1dLineAt, l2LineAt, withL1dSet, withL2Set, withL1dLine, withL2Line}
+use Rattle.model.specs.Ways.{l2Find, l1dVictim, l2Victim, inL1d, inL2, l2Way, useL1d, useL2, emptyL1d}
+use Rattle.model.specs.Access.{cacheable, evictL1d, homeLine, fillL1d, l1dBytes, readFilled, readEmptied, readMiss, readAccess, writeHome, writeMiss, writeAccess}
+use Rattle.model.specs.Homes.{homeIsL2, memoryPart, putMemory, putL2, evictL2, fillL2, l2WayFor, fetchL2, homeServer}
 use Rattle.model.specs.Calls.{Reply, reply, readDone, writeDone}
+use Rattle.model.specs.Laws.{bool, false-true, cond-true, cond-false}
 use Rattle.model.specs.declared.Line.{Line}
 use Rattle.model.specs.declared.L1dSet.{L1dSet}
 use Rattle.model.specs.declared.L2Set.{L2Set}
@@ -34,13 +36,13 @@ abbrev pub victimOf : ℕ → State → ℕ
 victimOf a z = l1dVictim (l1dSetAt (z .rec) (l1dSetOf a))
 
 unfoldable pub room : Bool → ℕ → State → State
-room write a z = pick write z (evictL1d (l1dSetOf a) (victimOf a z) z)
+room write a z = cond write z (evictL1d (l1dSetOf a) (victimOf a z) z)
 
 pub roomed : (r : Record) (l m e : List ℕ) (write : Bool) (a i t : ℕ) (g : Departure) (s : Sent) (q : L1dSet) → i ≡ l1dSetOf a →
     g ≡ leaving (l1dSetAt r i) write → (l2SetsOf r ≢ 0 → t ≡ l2SetOf r (g .line .address)) →
     s ≡ sendHome (l2SetAt r t) (sramOf r) (l2SetsOf r) t i (g .way) (g .line) l m e → q ≡ emptied (l1dSetAt r i) g →
     state (withL1dSet (withL2Set r t (s .set)) i q) l (s .l2) (s .ext) ≡ room write a (state r l m e)
-unfolding room leaving emptied evictL1d emptyL1d l1dSetLine sendHome
+unfolding room leaving emptied evictL1d emptyL1d withL1dLine sendHome
 roomed r l m e write a i t g s q ei eg et es eq =
     bool write
     (λ w. let g′ = rw w at eg in
@@ -81,17 +83,17 @@ brought-ext : (u : L2Set) (ch : Choice) (d write : Bool) (a at : ℕ) (m e : Lis
 unfolding bring
 brought-ext u ch d write a at m e b f eb =
     ap (λ (x : Brought). x .ext) eb
-    ∙ ap (λ (x : Bool). pick x (broughtAs (marked (l2Use u (ch .way)) (ch .way) write) m e)
+    ∙ ap (λ (x : Bool). cond x (broughtAs (marked (l2Use u (ch .way)) (ch .way) write) m e)
     (broughtAs (marked (l2Use (l2Put u (ch .way) (lineOf (l2Line a) false)) (ch .way)) (ch .way) write)
     (stored m at (part (writeOut d (ch .old .address) at m e) (l2Line a - externalBase) 128)) (writeOut d (ch .old .address) at m e)) .ext) f
 
 -- ---- L2 has the line of a; for a write it is marked dirty at once, its bytes come with the access
 unfoldable pub markL2 : ℕ → ℕ → State → State
-markL2 t v z = state (l2SetLine (z .rec) t v (lineOf (l2LineAt (z .rec) t v .address) true)) (z .l1d) (z .l2) (z .ext)
+markL2 t v z = state (withL2Line (z .rec) t v (lineOf (l2LineAt (z .rec) t v .address) true)) (z .l1d) (z .l2) (z .ext)
 
 unfoldable pub ready : Bool → ℕ → State → State
 ready write a z =
-    pick (homeIsL2 (z .rec) a) (pick write (markL2 (l2SetOf (z .rec) a) (l2WayFor z a) (fetchL2 a z)) (fetchL2 a z)) z
+    cond (homeIsL2 (z .rec) a) (cond write (markL2 (l2SetOf (z .rec) a) (l2WayFor z a) (fetchL2 a z)) (fetchL2 a z)) z
 
 -- for a read, L2 has fetched
 ready-read : (z : State) (a : ℕ) (write : Bool) → write ≡ false → ready write a z ≡ fetchL2 a z
@@ -107,8 +109,8 @@ module _ (r : Record) (l m e : List ℕ) (write : Bool) (a : ℕ) where
   -- the set of L2 with way v used, and marked for a write
   mark-used : (ls : List L1dSet) (t v : ℕ) (x : L2Set) (m′ e′ : List ℕ) →
       state (withSets r ls (set (r .l2) t (marked (l2Use x v) v write))) l m′ e′
-      ≡ pick write (markL2 t v (state (withSets r ls (set (r .l2) t (l2Use x v))) l m′ e′)) (state (withSets r ls (set (r .l2) t (l2Use x v))) l m′ e′)
-  unfolding marked markL2 l2SetLine
+      ≡ cond write (markL2 t v (state (withSets r ls (set (r .l2) t (l2Use x v))) l m′ e′)) (state (withSets r ls (set (r .l2) t (l2Use x v))) l m′ e′)
+  unfolding marked markL2 withL2Line
   mark-used ls t v x m′ e′ =
       bool write
       (λ w. rw w (ap (λ (k : List L2Set). state (withSets r ls k) l m′ e′) (sym (set-again (λ (s : L2Set). l2Put s v (lineOf (l2Get s v .address) true)) (r .l2) t (l2Use x v) noL2Set))))
@@ -128,7 +130,7 @@ module _ (r : Record) (l m e : List ℕ) (write : Bool) (a : ℕ) where
     fetched-ready : inL2 (state r l m e) a ≡ false → (i j : ℕ) (h₁ h₂ : Taken) (d : Bool) (b : Brought) →
         Left r l m e t (ch .way) i j h₁ h₂ d (b .ext) → b ≡ bring (l2SetAt r t) ch d write a (l2Data r t (ch .way)) (h₂ .l2) e →
         state (withL2Set (withL1dSet (withL1dSet r i (h₁ .out .set)) j (h₂ .out .set)) t (b .set)) l (b .l2) (b .ext) ≡ ready write a (state r l m e)
-    unfolding ready fetchL2 l2WayFor inL2 l2Way useL2 fillL2 choose bring l2SetLine
+    unfolding ready fetchL2 l2WayFor inL2 l2Way useL2 fillL2 choose bring withL2Line
     fetched-ready f i j h₁ h₂ d b q eb =
         let v = l2Victim (l2SetAt r (l2SetOf r a)) in
         let ls = set (set (r .l1d) i (h₁ .out .set)) j (h₂ .out .set) in
@@ -152,7 +154,7 @@ module _ (r : Record) (l m e : List ℕ) (write : Bool) (a : ℕ) where
         rw (et, h, f)
         ((λ k. state (withSets r ls (set (r .l2) (l2SetOf r a) (set′ k))) l (l2′ k) (b .ext))
         ∙ mark-used ls (l2SetOf r a) v (l2Put (l2SetAt r (l2SetOf r a)) v (lineOf (l2Line a) false)) (stored (h₂ .l2) (l2Data r (l2SetOf r a) v) (part (b .ext) (l2Line a - externalBase) 128)) (b .ext)
-        ∙ ap (λ (y : State). pick write (markL2 (l2SetOf r a) v y) y) used)
+        ∙ ap (λ (y : State). cond write (markL2 (l2SetOf r a) v y) y) used)
 
     -- both, as the code has them: a found line has no old one, so that its halves are nothing
     pub homed-ready : (at i j up : ℕ) (h₁ h₂ : Taken) (d : Bool) (b : Brought) → at ≡ l2Data r t (ch .way) →
@@ -274,7 +276,7 @@ module _ (z₁ : State) (r : Record) (l m e : List ℕ) (c : Command) (mode : r 
 
   read-done : isWrite c ≡ false → served ≡ reply 0 (homeServer a z₁) (little (readFilled w (homeServer a z₁) (c .first) a (fillL1d w v a (fetchL2 a z₁)) .bytes))
       (readFilled w (homeServer a z₁) (c .first) a (fillL1d w v a (fetchL2 a z₁)) .next)
-  unfolding finish readFilled fillL1d useL1d l1dSetLine
+  unfolding finish readFilled fillL1d useL1d withL1dLine
   read-done k =
       let n′ = rw k at en in
       let bytes : fetchLine (homeOf (homeIsL2 (z₁ .rec) a) at (l1dLine a)) (l1dData i w) l m e ≡ stored l (l1dData i w) (homeLine v a (state r l m e))
@@ -298,15 +300,15 @@ module _ (z₁ : State) (r : Record) (l m e : List ℕ) (c : Command) (mode : r 
   home = storeHome (homeOf (homeIsL2 (z₁ .rec) a) at a) (c .first) (c .value) m e
 
   into-l2 : isWrite c ≡ true → homeIsL2 (z₁ .rec) a ≡ true → state r l (home .l2) (home .ext) ≡ writeHome v a (written c) (fetchL2 a z₁)
-  unfolding ready markL2 storeHome homeOf writeHome putL2 l2SetLine homeIsL2
+  unfolding ready markL2 storeHome homeOf writeHome putL2 withL2Line homeIsL2
   into-l2 k h =
       let f = fetchL2 a z₁ in
       let q : state r l m e ≡ markL2 (l2SetOf (z₁ .rec) a) v f = rw (h, k) at e₂ in
       let zm : f .rec .mode ≡ z₁ .rec .mode = sym (ap (λ (y : State). y .rec .mode) q) ∙ mode in
-      let hf : homeIsL2 (f .rec) a ≡ true = ap (λ (x : ℕ). pick (ltb a externalBase) false (not (eqb (l2Sets x) 0))) zm ∙ h in
+      let hf : homeIsL2 (f .rec) a ≡ true = ap (λ (x : ℕ). cond (ltb a externalBase) false (not (eqb (l2Sets x) 0))) zm ∙ h in
       let tf : l2SetOf (z₁ .rec) a ≡ l2SetOf (f .rec) a = ap (λ (x : ℕ). l2SetIn (l2Sets x) a) (sym zm) in
       let here : state r l (home .l2) (home .ext) ≡ wrote (state r l m e) = rw (h, place (same-home ∙ h)) refl in
-      here ∙ ap wrote q ∙ ap (λ (x : ℕ). wrote (markL2 x v f)) tf ∙ pick-true (homeIsL2 (f .rec) a) (putL2 (l2SetOf (f .rec) a) v a (written c) f) (putMemory a (written c) f) hf
+      here ∙ ap wrote q ∙ ap (λ (x : ℕ). wrote (markL2 x v f)) tf ∙ cond-true (homeIsL2 (f .rec) a) (putL2 (l2SetOf (f .rec) a) v a (written c) f) (putMemory a (written c) f) hf
 
   into-memory : homeIsL2 (z₁ .rec) a ≡ false → state r l (home .l2) (home .ext) ≡ writeHome v a (written c) (fetchL2 a z₁)
   unfolding ready storeHome homeOf writeHome putMemory fetchL2
@@ -316,7 +318,7 @@ module _ (z₁ : State) (r : Record) (l m e : List ℕ) (c : Command) (mode : r 
       = bool (ltb a externalBase) (λ b. rw (h, b) refl) (λ b. rw (h, b) refl) in
       let none : z₁ ≡ fetchL2 a z₁ = rw h refl in
       here ∙ ap (putMemory a (written c)) q
-      ∙ pick-false (homeIsL2 (z₁ .rec) a) (putL2 (l2SetOf (z₁ .rec) a) v a (written c) z₁) (putMemory a (written c) z₁) h
+      ∙ cond-false (homeIsL2 (z₁ .rec) a) (putL2 (l2SetOf (z₁ .rec) a) v a (written c) z₁) (putMemory a (written c) z₁) h
       ∙ ap (writeHome v a (written c)) none
 
   write-done : isWrite c ≡ true → served ≡ reply 0 (homeServer a z₁) 0 (writeHome v a (written c) (fetchL2 a z₁))

@@ -1,16 +1,16 @@
 -- A set loaded from a list of sets, changed and stored back. The laws need no lengths: where the index lies past the end, neither side changes
 -- anything. A line of a set is read back only where it is valid, and that it is valid shows that it is there.
 use Prim.Native.Nat.{ℕ, _<_}
-use mathlib.Core.Bool.{Bool, true, false}
+use mathlib.Core.Bool.{Bool, true, false, cond, _||_}
 use mathlib.Core.Path.{_≡_, refl, sym, ap, _∙_}
 use mathlib.Core.List.{List}
 use lib.ListN.{length, getD, set, List·getD-eq-default}
 use lib.Seq.{set-getD, set-set, set-out, getD-set-same}
 use lib.Dec.{ltb}
 use borrow.Author.Tests.{ltb-true, ltb-false}
-use Rattle.model.specs.Basics.{pick, either, bool, false-true}
 use Rattle.model.specs.Lines.{emptyLine, lineOf, l2Get, l2Put}
 use Rattle.model.specs.Records.{noL1dSet, noL2Set, l1dSetAt, l2SetAt, withL1dSet, withL2Set}
+use Rattle.model.specs.Laws.{bool, false-true}
 use Rattle.model.specs.declared.Line.{Line}
 use Rattle.model.specs.declared.L1dSet.{L1dSet}
 use Rattle.model.specs.declared.L2Set.{L2Set}
@@ -63,11 +63,11 @@ put-get l t v x e =
 
 -- ---- the line marked dirty, or not
 abbrev pub mark : Bool → List L2Set → ℕ → ℕ → List L2Set
-mark d l t v = pick d (putLine l t v (lineOf (lineIn l t v .address) true)) l
+mark d l t v = cond d (putLine l t v (lineOf (lineIn l t v .address) true)) l
 
 -- a line with its dirty mark: what it is once it took in d
 abbrev pub dirtied : Bool → Line → Line
-dirtied d x = record { valid = true; dirty = either d (x .dirty); address = x .address }
+dirtied d x = record { valid = true; dirty = d || x .dirty; address = x .address }
 
 pub mark-line : (d : Bool) (l : List L2Set) (t v : ℕ) → lineIn l t v .valid ≡ true → lineIn (mark d l t v) t v ≡ dirtied d (lineIn l t v)
 mark-line true l t v e = put-get l t v (lineOf (lineIn l t v .address) true) e

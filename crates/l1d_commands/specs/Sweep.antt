@@ -1,14 +1,15 @@
 -- A sweep over L1D: one definition for all its codes, and that it is the command of paper 01 at each code (10: what a mode change writes back).
 use Prim.Native.Nat.{ℕ, _/_, _%_}
-use mathlib.Core.Bool.{Bool, true, false}
+use mathlib.Core.Bool.{Bool, true, false, cond, _||_}
 use mathlib.Core.Path.{_≡_, refl}
 use lib.Dec.{leb, eqb}
-use Rattle.model.specs.Basics.{pick, either, each}
-use Rattle.model.specs.Lines.{l1dSetOf, l1dLine, emptyLine, l1dFind}
+use Rattle.model.specs.Basics.{each}
+use Rattle.model.specs.Lines.{l1dSetOf, l1dLine, emptyLine}
 use Rattle.model.specs.Records.{State}
-use Rattle.model.specs.Access.{emptyL1d, evictL1d}
-use Rattle.model.specs.Commands.{linesTouched, eachTouched, atL1d, l1dWritebackInvalidateBlock, l1dInvalidateBlock, l1dInvalidateAll}
+use Rattle.model.specs.Ways.{l1dFind, emptyL1d}
+use Rattle.model.specs.Access.{evictL1d}
 use Rattle.model.specs.Modes.{flushL1d}
+use Rattle.model.specs.Commands.{linesTouched, eachTouched, atL1d, l1dWritebackInvalidateBlock, l1dInvalidateBlock, l1dInvalidateAll}
 use Rattle.model.specs.declared.Line.{Line}
 use Rattle.model.specs.declared.L1dSet.{L1dSet}
 use Rattle.blocks.specs.Blocks.{lineAfter}
@@ -20,28 +21,28 @@ abbrev pub l1dBlock : ℕ → Bool
 l1dBlock code = leb code 8
 
 abbrev pub sends : ℕ → Bool
-sends code = either (eqb code 7) (eqb code 10)
+sends code = eqb code 7 || eqb code 10
 
 unfoldable pub l1dTurns : ℕ → ℕ → ℕ → ℕ
-l1dTurns code b c = pick (l1dBlock code) (linesTouched 64 b c) 256
+l1dTurns code b c = cond (l1dBlock code) (linesTouched 64 b c) 256
 
 unfoldable pub l1dTarget : ℕ → ℕ → ℕ → Target
 l1dTarget code b k =
-    pick (l1dBlock code) (target true (lineAfter 64 b k) (l1dSetOf (lineAfter 64 b k)) 0) (target false 0 (k / 2) (k % 2))
+    cond (l1dBlock code) (target true (lineAfter 64 b k) (l1dSetOf (lineAfter 64 b k)) 0) (target false 0 (k / 2) (k % 2))
 
 -- the way of the target's set; 2: the block's line is not held
 unfoldable pub l1dWayOf : L1dSet → Target → ℕ
-l1dWayOf s p = pick (p .held) (l1dFind s (l1dLine (p .address))) (p .way)
+l1dWayOf s p = cond (p .held) (l1dFind s (l1dLine (p .address))) (p .way)
 
 -- the line that goes home, if it is dirty: none where the code drops lines unwritten
 unfoldable pub sentLine : ℕ → Line → Line
-sentLine code x = pick (sends code) x emptyLine
+sentLine code x = cond (sends code) x emptyLine
 
 unfoldable pub l1dAct : ℕ → ℕ → ℕ → State → State
-l1dAct code s w z = pick (sends code) (evictL1d s w z) (emptyL1d s w z)
+l1dAct code s w z = cond (sends code) (evictL1d s w z) (emptyL1d s w z)
 
 unfoldable pub l1dTurn : ℕ → ℕ → ℕ → State → State
-l1dTurn code b k z = pick (l1dBlock code) (atL1d (l1dAct code) (lineAfter 64 b k) z) (l1dAct code (k / 2) (k % 2) z)
+l1dTurn code b k z = cond (l1dBlock code) (atL1d (l1dAct code) (lineAfter 64 b k) z) (l1dAct code (k / 2) (k % 2) z)
 
 unfoldable pub l1dSweep : ℕ → ℕ → ℕ → State → State
 l1dSweep code b c z = each (l1dTurn code b) (l1dTurns code b c) z

@@ -1,17 +1,19 @@
 -- A sweep over L2: one definition for all its codes, and that it is the command of paper 01 at each code.
 use Prim.Native.Nat.{ℕ, _*_, _/_, _%_, _≤_, _<_}
-use mathlib.Core.Bool.{Bool, true, false}
-use mathlib.Core.Path.{_≡_, refl, ap}
+use mathlib.Core.Bool.{Bool, true, false, cond, _||_}
+use mathlib.Core.Path.{_≡_, refl}
 use mathlib.Core.Logic.{_≢_}
 use mathlib.Core.List.{List}
 use native.Mathlib.Omega.{arith}
 use lib.Dec.{leb, ltb, eqb}
-use borrow.Author.Tests.{eqb-true, eq-eqb, ne-eqb, le-leb, lt-leb}
-use Rattle.model.specs.Basics.{pick, either, each, bool}
-use Rattle.model.specs.Lines.{l2SetIn, l1dLine, l2Line, emptyLine, lineOf, l1dPut, l1dFind, l2Find}
+use borrow.Author.Tests.{eq-eqb, ne-eqb, le-leb, lt-leb}
+use Rattle.model.specs.Basics.{each}
+use Rattle.model.specs.Lines.{l2SetIn, l1dLine, l2Line, emptyLine, lineOf, l1dPut}
 use Rattle.model.specs.Records.{State, l2SetsOf}
-use Rattle.model.specs.Access.{writebackL2, evictL2}
+use Rattle.model.specs.Ways.{l1dFind, l2Find}
+use Rattle.model.specs.Homes.{writebackL2, evictL2}
 use Rattle.model.specs.Commands.{linesTouched, eachTouched, eachL2, atL2, unlessMode0, dropL2, l2WritebackAll, l2WritebackInvalidateAll, l2WritebackBlock, l2WritebackInvalidateBlock, l2InvalidateBlock}
+use Rattle.model.specs.Laws.{bool}
 use Rattle.model.specs.declared.Line.{Line}
 use Rattle.model.specs.declared.L1dSet.{L1dSet}
 use Rattle.model.specs.declared.L2Set.{L2Set}
@@ -29,44 +31,44 @@ abbrev pub drops : ℕ → Bool
 drops code = eqb code 6
 
 abbrev pub keeps : ℕ → Bool
-keeps code = either (eqb code 2) (eqb code 4)
+keeps code = eqb code 2 || eqb code 4
 
 unfoldable pub l2Turns : ℕ → ℕ → ℕ → ℕ → ℕ
-l2Turns code b c sets = pick (eqb sets 0) 0 (pick (l2Block code) (linesTouched 128 b c) (sets * 4))
+l2Turns code b c sets = cond (eqb sets 0) 0 (cond (l2Block code) (linesTouched 128 b c) (sets * 4))
 
 unfoldable pub l2Target : ℕ → ℕ → ℕ → ℕ → Target
 l2Target code b sets k =
-    pick (l2Block code) (target true (lineAfter 128 b k) (l2SetIn sets (lineAfter 128 b k)) 0) (target false 0 (k / 4) (k % 4))
+    cond (l2Block code) (target true (lineAfter 128 b k) (l2SetIn sets (lineAfter 128 b k)) 0) (target false 0 (k / 4) (k % 4))
 
 -- the way of the target's set; 4: the block's line is not held
 unfoldable pub l2WayOf : L2Set → Target → ℕ
-l2WayOf u p = pick (p .held) (l2Find u (l2Line (p .address))) (p .way)
+l2WayOf u p = cond (p .held) (l2Find u (l2Line (p .address))) (p .way)
 
 unfoldable pub l2Act : ℕ → ℕ → ℕ → State → State
-l2Act code t v z = pick (drops code) (dropL2 t v z) (pick (keeps code) (writebackL2 t v z) (evictL2 t v z))
+l2Act code t v z = cond (drops code) (dropL2 t v z) (cond (keeps code) (writebackL2 t v z) (evictL2 t v z))
 
 unfoldable pub l2Turn : ℕ → ℕ → ℕ → State → State
-l2Turn code b k z = pick (l2Block code) (atL2 (l2Act code) (lineAfter 128 b k) z) (l2Act code (k / 4) (k % 4) z)
+l2Turn code b k z = cond (l2Block code) (atL2 (l2Act code) (lineAfter 128 b k) z) (l2Act code (k / 4) (k % 4) z)
 
 unfoldable pub l2Sweep : ℕ → ℕ → ℕ → State → State
 l2Sweep code b c z = each (l2Turn code b) (l2Turns code b c (l2SetsOf (z .rec))) z
 
 -- what becomes of the set of a half, of the line's bytes going out, and of the line
 unfoldable pub dropHalf : L1dSet → ℕ → L1dSet
-dropHalf s b = pick (ltb (l1dFind s (l1dLine b)) 2) (l1dPut s (l1dFind s (l1dLine b)) emptyLine) s
+dropHalf s b = cond (ltb (l1dFind s (l1dLine b)) 2) (l1dPut s (l1dFind s (l1dLine b)) emptyLine) s
 
 unfoldable pub release : L1dSet → ℕ → Bool → ℕ → ℕ → List ℕ → List ℕ → Taken
-release s code on b to l m = pick (drops code) (takenAs (half (dropHalf s b) false) m) (takeHalf s on b to l m)
+release s code on b to l m = cond (drops code) (takenAs (half (dropHalf s b) false) m) (takeHalf s on b to l m)
 
 unfoldable pub goes : ℕ → Line → Bool → Bool → Bool
-goes code x lower upper = pick (drops code) false (goesOut x lower upper)
+goes code x lower upper = cond (drops code) false (goesOut x lower upper)
 
 -- a line that went out is clean; one that is not valid stays as it is
 unfoldable pub cleaned : Line → Line
-cleaned x = pick (x .valid) (lineOf (x .address) false) x
+cleaned x = cond (x .valid) (lineOf (x .address) false) x
 
 unfoldable pub leftLine : ℕ → Line → Line
-leftLine code x = pick (keeps code) (cleaned x) emptyLine
+leftLine code x = cond (keeps code) (cleaned x) emptyLine
 
 -- ---- what a turn of the sweep knows
 module _ (code b c sets k : ℕ) (turn : k < l2Turns code b c sets) where
@@ -83,17 +85,14 @@ module _ (code b c sets k : ℕ) (turn : k < l2Turns code b c sets) where
   way-turn h = rw (ne-eqb sets 0 some-sets, lt-leb 4 code h) at turn
 
 -- ---- the sweep is the command
-none-or-all : (n : ℕ) → pick (eqb n 0) 0 (n * 4) ≡ n * 4
-none-or-all n = bool (eqb n 0) (λ e. rw (eqb-true n 0 e) refl) (λ e. rw e refl)
-
 module _ (b c : ℕ) (z : State) where
   -- where there are no sets both sides do nothing
   module _ (f : ℕ → ℕ → State → State) where
-    all-ways : each (λ k. f (k / 4) (k % 4)) (pick (eqb (l2SetsOf (z .rec)) 0) 0 (l2SetsOf (z .rec) * 4)) z ≡ eachL2 f z
-    unfolding eachL2
-    all-ways = ap (λ (n : ℕ). each (λ k. f (k / 4) (k % 4)) n z) (none-or-all (l2SetsOf (z .rec)))
+    all-ways : each (λ k. f (k / 4) (k % 4)) (cond (eqb (l2SetsOf (z .rec)) 0) 0 (l2SetsOf (z .rec) * 4)) z ≡ unlessMode0 (eachL2 f) z
+    unfolding unlessMode0 eachL2 each
+    all-ways = bool (eqb (l2SetsOf (z .rec)) 0) (λ e. rw e refl) (λ e. rw e refl)
 
-    touched : each (λ k. atL2 f (lineAfter 128 b k)) (pick (eqb (l2SetsOf (z .rec)) 0) 0 (linesTouched 128 b c)) z ≡ unlessMode0 (eachTouched 128 (atL2 f) b c) z
+    touched : each (λ k. atL2 f (lineAfter 128 b k)) (cond (eqb (l2SetsOf (z .rec)) 0) 0 (linesTouched 128 b c)) z ≡ unlessMode0 (eachTouched 128 (atL2 f) b c) z
     unfolding unlessMode0 eachTouched each
     touched = bool (eqb (l2SetsOf (z .rec)) 0) (λ e. rw e refl) (λ e. rw e refl)
 

@@ -1,17 +1,18 @@
 -- One turn of each L2 loop, from what its calls ensure: the sets stored back into the record are the step of the sweep, or of the flush.
 use Prim.Native.Nat.{ℕ, _%_, _≤_, _<_}
-use mathlib.Core.Bool.{Bool, true, false}
+use mathlib.Core.Bool.{Bool, true, false, cond}
 use mathlib.Core.Path.{_≡_, refl, sym, ap, _∙_}
 use mathlib.Core.List.{List}
 use native.Mathlib.Omega.{arith}
 use lib.ListN.{set}
 use lib.Dec.{ltb}
 use borrow.Author.Tests.{lt-ltb, le-ltb, eqb-true}
-use Rattle.model.specs.Basics.{pick, bool, pick-true, pick-false}
-use Rattle.model.specs.Lines.{l1dSetOf, l1dLine, upperHalf, emptyLine, lineOf, l2Put, l1dFind}
-use Rattle.model.specs.Records.{State, state, l2SetsOf, l2Data, l1dSetAt, l2SetAt, l2LineAt, withL1dSet, withL2Set, l1dSetLine, l2SetLine}
-use Rattle.model.specs.Access.{inL1d, inL2, l1dWay, l2Way, emptyL1d, emptyL2, writeOutL2}
+use Rattle.model.specs.Lines.{l1dSetOf, l1dLine, upperHalf, emptyLine, lineOf, l2Put}
+use Rattle.model.specs.Records.{State, state, l2SetsOf, l2Data, l1dSetAt, l2SetAt, l2LineAt, withL1dSet, withL2Set, withL1dLine, withL2Line}
+use Rattle.model.specs.Ways.{l1dFind, inL1d, inL2, l1dWay, l2Way, emptyL1d, emptyL2}
+use Rattle.model.specs.Homes.{writeOutL2}
 use Rattle.model.specs.Commands.{atL1d, atL2, dropL2}
+use Rattle.model.specs.Laws.{bool, cond-true, cond-false}
 use Rattle.model.specs.declared.Line.{Line}
 use Rattle.model.specs.declared.L1dSet.{L1dSet}
 use Rattle.model.specs.declared.L2Set.{L2Set}
@@ -25,7 +26,7 @@ use Rattle.l2_commands.specs.Sweep.{l2Block, drops, keeps, l2Target, l2W
 -- ---- a turn of an L2 sweep
 module _ (code b k sets : ℕ) (r : Record) (l m e : List ℕ) (p : Target) (v : ℕ) (same : sets ≡ l2SetsOf r) (at : p ≡ l2Target code b sets k)
     (way : v ≡ l2WayOf (l2SetAt r (p .set)) p) where
-  l2-aimed : pick (ltb v 4) (l2Act code (p .set) v (state r l m e)) (state r l m e) ≡ l2Turn code b k (state r l m e)
+  l2-aimed : cond (ltb v 4) (l2Act code (p .set) v (state r l m e)) (state r l m e) ≡ l2Turn code b k (state r l m e)
   unfolding l2Target l2WayOf l2Turn atL2 inL2 l2Way
   l2-aimed =
       bool (l2Block code)
@@ -33,15 +34,15 @@ module _ (code b k sets : ℕ) (r : Record) (l m e : List ℕ) (p : Target) (v :
       (λ t. rw (way, at, t, lt-ltb (k % 4) 4 (omega arith)) refl)
 
   pub l2-off : 4 ≤ v → state r l m e ≡ l2Turn code b k (state r l m e)
-  l2-off h = pick-false (ltb v 4) (l2Act code (p .set) v (state r l m e)) (state r l m e) (le-ltb v 4 h) ∙ l2-aimed
+  l2-off h = cond-false (ltb v 4) (l2Act code (p .set) v (state r l m e)) (state r l m e) (le-ltb v 4 h) ∙ l2-aimed
 
   pub l2-on : (z : State) → v < 4 → z ≡ l2Act code (p .set) v (state r l m e) → z ≡ l2Turn code b k (state r l m e)
-  l2-on z h f = f ∙ pick-true (ltb v 4) (l2Act code (p .set) v (state r l m e)) (state r l m e) (lt-ltb v 4 h) ∙ l2-aimed
+  l2-on z h f = f ∙ cond-true (ltb v 4) (l2Act code (p .set) v (state r l m e)) (state r l m e) (lt-ltb v 4 h) ∙ l2-aimed
 
 -- a half is dropped
 half-dropped : (r : Record) (l m e : List ℕ) (b i : ℕ) (s : L1dSet) → i ≡ l1dSetOf b → s ≡ dropHalf (l1dSetAt r i) b →
     state (withL1dSet r i s) l m e ≡ atL1d emptyL1d b (state r l m e)
-unfolding dropHalf atL1d inL1d l1dWay emptyL1d l1dSetLine
+unfolding dropHalf atL1d inL1d l1dWay emptyL1d withL1dLine
 half-dropped r l m e b i s ei es =
     bool (ltb (l1dFind (l1dSetAt r (l1dSetOf b)) (l1dLine b)) 2)
     (λ f. rw (es, ei, f) refl)
@@ -69,7 +70,7 @@ module _ (code : ℕ) (r : Record) (l m e : List ℕ) (t v i j : ℕ) (h₁ h₂
 
   -- block invalidate: halves and line go unwritten
   dropped : drops code ≡ true → state (withSets r rest (putLine (r .l2) t v emptyLine)) l (h₂ .l2) e₂ ≡ dropL2 t v (state r l m e)
-  unfolding release goes writeOut dropL2 emptyL2 l2SetLine
+  unfolding release goes writeOut dropL2 emptyL2 withL2Line
   dropped c =
       let o = rw c at (q .one) in
       let w = rw c at (q .two) in
@@ -106,7 +107,7 @@ swept code r l m e t v x at up i j h₁ h₂ d e₂ y u ex ea eu q =
 pub flushed : (r : Record) (l m e : List ℕ) (t v : ℕ) (x : Line) (at : ℕ) (d : Bool) (e₂ : List ℕ) (y : Line) (u : L2Set) →
     x ≡ l2LineAt r t v → at ≡ l2Data r t v → d ≡ goesOut x false false → e₂ ≡ writeOut d (x .address) at m e → y ≡ cleaned x →
     u ≡ l2Put (l2SetAt r t) v y → state (withL2Set r t u) l m e₂ ≡ writeOutL2 t v (state r l m e)
-unfolding goesOut writeOut writeOutL2 cleaned l2SetLine
+unfolding goesOut writeOut writeOutL2 cleaned withL2Line
 flushed r l m e t v x₀ at d e₂ y u ex ea ed eo ey eu =
     let x = l2LineAt r t v in
     let stay : state (withL2Set r t (l2Put (l2SetAt r t) v x)) l m e ≡ state r l m e = ap (λ (ls : List L2Set). state (withSets r (r .l1d) ls) l m e) (put-same (r .l2) t v) in

@@ -1,6 +1,6 @@
 -- How the loops go: a list of two or four written out, an array that is filled from the front with what a map makes, and one that is tested from the front.
 use Prim.Native.Nat.{ℕ, suc, _+_, _≤_, _<_}
-use mathlib.Core.Bool.{Bool, true, false, _&&_}
+use mathlib.Core.Bool.{Bool, true, false, _&&_, and-true, and-assoc}
 use mathlib.Core.List.{List, [], _∷_, _++_, map, append-nil, map-append}
 use mathlib.Core.Path.{_≡_, refl, sym, ap, _∙_}
 use native.Mathlib.Omega.{arith}
@@ -8,16 +8,15 @@ use native.Mathlib.Numerals.{add-one}
 use lib.ListN.{length, getD, take, drop, set, replicate, length-replicate, length-map, length-set, drop-of-length-le}
 use lib.Seq.{drop-cons, set-at, append-snoc, take-suc, take-all, length-take-le}
 use lib.Dec.{ltb, eqb}
-use Rattle.model.specs.Basics.{all}
-use Rattle.sizes.specs.Join.{and-both}
-use Rattle.wellformed.specs.Sets.{all-next, all-stop, all-end}
-use Rattle.ways.specs.Ways.{two, four, both-end, both-assoc}
+use Rattle.model.specs.Basics.{allIndexed}
 use Rattle.model.specs.Lines.{emptyLine, l1dGet, l2Get}
+use Rattle.wellformed.specs.Sets.{all-next, all-stop, all-end}
+use Rattle.ways.specs.Ways.{two, four}
 use Rattle.model.specs.declared.Line.{Line}
 use Rattle.model.specs.declared.L1dSet.{L1dSet}
 use Rattle.model.specs.declared.L2Set.{L2Set}
 use Rattle.model.specs.declared.Record.{Record}
-use Rattle.layout.specs.Layout.{byteOf, lineBits, l1dSetBits, l2SetBits, bitsOnly, lineIn, l1dSetIn, l2SetIn, recordIn, lineOut, l1dSetOut, l2SetOut, recordOut}
+use Rattle.layout.specs.Layout.{byteOf, lineBits, l1dSetBits, l2SetBits, bitsOnly, lineFromC, l1dSetFromC, l2SetFromC, recordFromC, lineToC, l1dSetToC, l2SetToC, recordToC}
 use Rattle.layout.specs.declared.CLine.{CLine}
 use Rattle.layout.specs.declared.CL1dSet.{CL1dSet}
 use Rattle.layout.specs.declared.CL2Set.{CL2Set}
@@ -75,7 +74,7 @@ module _ {ℓ κ} {A : Type ℓ} {B : Type κ} (f : A → B) (d : A) (e : B) whe
 
 -- ---- an array tested from the front: what both loops that test keep, after i of n elements
 abbrev pub Passing {ℓ} : {A : Type ℓ} → (A → Bool) → ℕ → List A → ℕ → Type 0
-Passing p n xs i = (i ≤ n) × (all (λ _ x. p x) i (drop i xs) ≡ all (λ _ x. p x) 0 xs)
+Passing p n xs i = (i ≤ n) × (allIndexed (λ _ x. p x) i (drop i xs) ≡ allIndexed (λ _ x. p x) 0 xs)
 
 pub passing-first {ℓ} : {A : Type ℓ} (p : A → Bool) (n : ℕ) (xs : List A) → Passing p n xs 0
 passing-first p n xs = (omega arith, refl)
@@ -84,90 +83,89 @@ module _ {ℓ} {A : Type ℓ} (p : A → Bool) (d : A) (n : ℕ) (xs : List A) (
   pub passing-next : i < n → p (getD xs i d) ≡ true → Passing p n xs (i + 1)
   passing-next k e = (omega arith, sym (all-next (λ _ x. p x) xs i d (omega arith) e) ∙ h .1)
 
-  pub passing-stop : i < n → p (getD xs i d) ≡ false → false ≡ all (λ _ x. p x) 0 xs
+  pub passing-stop : i < n → p (getD xs i d) ≡ false → false ≡ allIndexed (λ _ x. p x) 0 xs
   passing-stop k e = sym (all-stop (λ _ x. p x) xs i d (omega arith) e) ∙ h .1
 
-  pub passing-end : n ≤ i → true ≡ all (λ _ x. p x) 0 xs
+  pub passing-end : n ≤ i → true ≡ allIndexed (λ _ x. p x) 0 xs
   passing-end k = sym (all-end (λ _ x. p x) xs i d (omega arith)) ∙ h .1
 
 -- ---- the tests, as the code joins them
 pub line-joined : (x : CLine) → (ltb (x .valid) 2 && ltb (x .dirty) 2) ≡ lineBits x
 unfolding lineBits
-line-joined x = and-both (ltb (x .valid) 2) (ltb (x .dirty) 2)
+line-joined x = refl
 
 pub l1d-set-joined : (v : CL1dSet) (a b : Bool) → length (v .lines) ≡ 2 → a ≡ lineBits (getD (v .lines) 0 noCLine) →
     b ≡ lineBits (getD (v .lines) 1 noCLine) → (a && b) ≡ l1dSetBits v
-unfolding l1dSetBits all
+unfolding l1dSetBits allIndexed
 l1d-set-joined v a b n ea eb =
     rw (ea, eb)
-    (and-both (lineBits (getD (v .lines) 0 noCLine)) (lineBits (getD (v .lines) 1 noCLine))
-    ∙ sym (ap (all (λ _ x. lineBits x) 0) (two noCLine (v .lines) n) ∙ simp both-end))
+    (sym (ap (allIndexed (λ _ x. lineBits x) 0) (two noCLine (v .lines) n) ∙ simp and-true))
 
 pub l2-set-joined : (v : CL2Set) (a b p q : Bool) → length (v .lines) ≡ 4 → a ≡ lineBits (getD (v .lines) 0 noCLine) →
     b ≡ lineBits (getD (v .lines) 1 noCLine) → p ≡ lineBits (getD (v .lines) 2 noCLine) → q ≡ lineBits (getD (v .lines) 3 noCLine) →
     ((a && b) && (p && q)) ≡ l2SetBits v
-unfolding l2SetBits all
+unfolding l2SetBits allIndexed
 l2-set-joined v a b p q n ea eb ep eq =
     rw (ea, eb, ep, eq)
-    (simp (and-both, both-assoc)
-    (sym (ap (all (λ _ x. lineBits x) 0) (four noCLine (v .lines) n) ∙ simp both-end)))
+    (simp and-assoc
+    (sym (ap (allIndexed (λ _ x. lineBits x) 0) (four noCLine (v .lines) n) ∙ simp and-true)))
 
 -- ---- the record's bytes: by the MAR bits, by the L1D sets, by the L2 sets
 module _ (c : CRecord) where
   pub bits-mar : (ltb (c .mar128) 2 && ltb (c .mar129) 2) ≡ false → false ≡ bitsOnly c
   unfolding bitsOnly
-  bits-mar e = let f = sym (and-both (ltb (c .mar128) 2) (ltb (c .mar129) 2)) ∙ e in rw f refl
+  bits-mar e = rw e refl
 
-  pub bits-l1d : (ltb (c .mar128) 2 && ltb (c .mar129) 2) ≡ true → all (λ _ v. l1dSetBits v) 0 (c .l1d) ≡ false → false ≡ bitsOnly c
+  pub bits-l1d : (ltb (c .mar128) 2 && ltb (c .mar129) 2) ≡ true → allIndexed (λ _ v. l1dSetBits v) 0 (c .l1d) ≡ false → false ≡ bitsOnly c
   unfolding bitsOnly
-  bits-l1d e g = let f = sym (and-both (ltb (c .mar128) 2) (ltb (c .mar129) 2)) ∙ e in rw (f, g) refl
+  bits-l1d e g = rw (e, g) refl
 
-  pub bits-l2 : (ltb (c .mar128) 2 && ltb (c .mar129) 2) ≡ true → all (λ _ v. l1dSetBits v) 0 (c .l1d) ≡ true →
-      (b : Bool) → b ≡ all (λ _ v. l2SetBits v) 0 (c .l2) → b ≡ bitsOnly c
+  pub bits-l2 : (ltb (c .mar128) 2 && ltb (c .mar129) 2) ≡ true → allIndexed (λ _ v. l1dSetBits v) 0 (c .l1d) ≡ true →
+      (b : Bool) → b ≡ allIndexed (λ _ v. l2SetBits v) 0 (c .l2) → b ≡ bitsOnly c
   unfolding bitsOnly
-  bits-l2 e g b h = let f = sym (and-both (ltb (c .mar128) 2) (ltb (c .mar129) 2)) ∙ e in rw (f, g) h
+  bits-l2 e g b h = rw (e, g) h
 
 -- ---- one line, one set, the record, from the parts that the calls gave
 pub line-out-joined : (x : Line) (p q : ℕ) → p ≡ byteOf (x .valid) → q ≡ byteOf (x .dirty) →
-    record { valid = p; dirty = q; address = x .address } ≡ lineOut x
-unfolding lineOut
+    record { valid = p; dirty = q; address = x .address } ≡ lineToC x
+unfolding lineToC
 line-out-joined x p q ep eq = rw (ep, eq) refl
 
-module _ (v : CL1dSet) (x y : Line) (n : length (v .lines) ≡ 2) (ex : x ≡ lineIn (getD (v .lines) 0 noCLine)) (ey : y ≡ lineIn (getD (v .lines) 1 noCLine)) where
-  pub l1d-in-joined : record { lines = x ∷ y ∷ []; order = record { first = v .order .first; second = v .order .second } } ≡ l1dSetIn v
-  unfolding l1dSetIn
-  l1d-in-joined = rw (ex, ey, map-two lineIn noCLine (v .lines) n) refl
+module _ (v : CL1dSet) (x y : Line) (n : length (v .lines) ≡ 2) (ex : x ≡ lineFromC (getD (v .lines) 0 noCLine)) (ey : y ≡ lineFromC (getD (v .lines) 1 noCLine)) where
+  pub l1d-in-joined : record { lines = x ∷ y ∷ []; order = record { first = v .order .first; second = v .order .second } } ≡ l1dSetFromC v
+  unfolding l1dSetFromC
+  l1d-in-joined = rw (ex, ey, map-two lineFromC noCLine (v .lines) n) refl
 
-module _ (v : L1dSet) (x y : CLine) (n : length (v .lines) ≡ 2) (ex : x ≡ lineOut (l1dGet v 0)) (ey : y ≡ lineOut (l1dGet v 1)) where
-  pub l1d-out-joined : record { lines = x ∷ y ∷ []; order = record { first = v .order .first; second = v .order .second } } ≡ l1dSetOut v
-  unfolding l1dSetOut
-  l1d-out-joined = rw (ex, ey, map-two lineOut emptyLine (v .lines) n) refl
+module _ (v : L1dSet) (x y : CLine) (n : length (v .lines) ≡ 2) (ex : x ≡ lineToC (l1dGet v 0)) (ey : y ≡ lineToC (l1dGet v 1)) where
+  pub l1d-out-joined : record { lines = x ∷ y ∷ []; order = record { first = v .order .first; second = v .order .second } } ≡ l1dSetToC v
+  unfolding l1dSetToC
+  l1d-out-joined = rw (ex, ey, map-two lineToC emptyLine (v .lines) n) refl
 
-module _ (v : CL2Set) (w x y z : Line) (n : length (v .lines) ≡ 4) (ew : w ≡ lineIn (getD (v .lines) 0 noCLine)) (ex : x ≡ lineIn (getD (v .lines) 1 noCLine))
-    (ey : y ≡ lineIn (getD (v .lines) 2 noCLine)) (ez : z ≡ lineIn (getD (v .lines) 3 noCLine)) where
+module _ (v : CL2Set) (w x y z : Line) (n : length (v .lines) ≡ 4) (ew : w ≡ lineFromC (getD (v .lines) 0 noCLine)) (ex : x ≡ lineFromC (getD (v .lines) 1 noCLine))
+    (ey : y ≡ lineFromC (getD (v .lines) 2 noCLine)) (ez : z ≡ lineFromC (getD (v .lines) 3 noCLine)) where
   pub l2-in-joined : record {
     lines = w ∷ x ∷ y ∷ z ∷ [];
     order = record { first = v .order .first; second = v .order .second; third = v .order .third; fourth = v .order .fourth };
-  } ≡ l2SetIn v
-  unfolding l2SetIn
-  l2-in-joined = rw (ew, ex, ey, ez, map-four lineIn noCLine (v .lines) n) refl
+  } ≡ l2SetFromC v
+  unfolding l2SetFromC
+  l2-in-joined = rw (ew, ex, ey, ez, map-four lineFromC noCLine (v .lines) n) refl
 
-module _ (v : L2Set) (w x y z : CLine) (n : length (v .lines) ≡ 4) (ew : w ≡ lineOut (l2Get v 0)) (ex : x ≡ lineOut (l2Get v 1))
-    (ey : y ≡ lineOut (l2Get v 2)) (ez : z ≡ lineOut (l2Get v 3)) where
+module _ (v : L2Set) (w x y z : CLine) (n : length (v .lines) ≡ 4) (ew : w ≡ lineToC (l2Get v 0)) (ex : x ≡ lineToC (l2Get v 1))
+    (ey : y ≡ lineToC (l2Get v 2)) (ez : z ≡ lineToC (l2Get v 3)) where
   pub l2-out-joined : record {
     lines = w ∷ x ∷ y ∷ z ∷ [];
     order = record { first = v .order .first; second = v .order .second; third = v .order .third; fourth = v .order .fourth };
-  } ≡ l2SetOut v
-  unfolding l2SetOut
-  l2-out-joined = rw (ew, ex, ey, ez, map-four lineOut emptyLine (v .lines) n) refl
+  } ≡ l2SetToC v
+  unfolding l2SetToC
+  l2-out-joined = rw (ew, ex, ey, ez, map-four lineToC emptyLine (v .lines) n) refl
 
-pub record-in-joined : (c : CRecord) (xs : List L1dSet) (ys : List L2Set) → xs ≡ map l1dSetIn (c .l1d) → ys ≡ map l2SetIn (c .l2) →
-    record { l2len = c .l2len; extlen = c .extlen; mode = c .mode; mar128 = eqb (c .mar128) 1; mar129 = eqb (c .mar129) 1; l1d = xs; l2 = ys } ≡ recordIn c
-unfolding recordIn
+pub record-in-joined : (c : CRecord) (xs : List L1dSet) (ys : List L2Set) → xs ≡ map l1dSetFromC (c .l1d) → ys ≡ map l2SetFromC (c .l2) →
+    record { l2len = c .l2len; extlen = c .extlen; mode = c .mode; mar128 = eqb (c .mar128) 1; mar129 = eqb (c .mar129) 1; l1d = xs; l2 = ys } ≡ recordFromC c
+unfolding recordFromC
 record-in-joined c xs ys ex ey = rw (ex, ey) refl
 
 pub record-out-joined : (r : Record) (a b : ℕ) (xs : List CL1dSet) (ys : List CL2Set) → a ≡ byteOf (r .mar128) → b ≡ byteOf (r .mar129) →
-    xs ≡ map l1dSetOut (r .l1d) → ys ≡ map l2SetOut (r .l2) →
-    record { l2len = r .l2len; extlen = r .extlen; mode = r .mode; mar128 = a; mar129 = b; l1d = xs; l2 = ys } ≡ recordOut r
-unfolding recordOut
+    xs ≡ map l1dSetToC (r .l1d) → ys ≡ map l2SetToC (r .l2) →
+    record { l2len = r .l2len; extlen = r .extlen; mode = r .mode; mar128 = a; mar129 = b; l1d = xs; l2 = ys } ≡ recordToC r
+unfolding recordToC
 record-out-joined r a b xs ys ea eb ex ey = rw (ea, eb, ex, ey) refl

@@ -2,8 +2,8 @@
 // `bits` tells whether there is one, and a record that has one is never converted.
 ghost use mathlib.Core.Path.{_≡_};
 ghost use mathlib.Core.List.{map};
-ghost use Rattle.model.specs.Basics.{all};
-ghost use Rattle.layout.specs.Layout.{byteOf, lineBits, l1dSetBits, l2SetBits, bitsOnly, lineIn, l1dSetIn, l2SetIn, recordIn, lineOut, l1dSetOut, l2SetOut, recordOut};
+ghost use Rattle.model.specs.Basics.{allIndexed};
+ghost use Rattle.layout.specs.Layout.{byteOf, lineBits, l1dSetBits, l2SetBits, bitsOnly, lineFromC, l1dSetFromC, l2SetFromC, recordFromC, lineToC, l1dSetToC, l2SetToC, recordToC};
 use model::L1dSet;
 use model::L2Set;
 use model::Line;
@@ -76,7 +76,7 @@ fn l2_set_bits(v: CL2Set) -> bool
 }
 
 fn l1d_bits(xs: [CL1dSet; 128]) -> bool
-    ensures { λ b. ⌜ b ≡ all (λ _ v. l1dSetBits v) 0 xs ⌝ }
+    ensures { λ b. ⌜ b ≡ allIndexed (λ _ v. l1dSetBits v) 0 xs ⌝ }
 {
     for s in 0..128 {
         if l1d_set_bits(xs[s]) {} else {
@@ -87,7 +87,7 @@ fn l1d_bits(xs: [CL1dSet; 128]) -> bool
 }
 
 fn l2_bits(xs: [CL2Set; 512]) -> bool
-    ensures { λ b. ⌜ b ≡ all (λ _ v. l2SetBits v) 0 xs ⌝ }
+    ensures { λ b. ⌜ b ≡ allIndexed (λ _ v. l2SetBits v) 0 xs ⌝ }
 {
     for t in 0..512 {
         if l2_set_bits(xs[t]) {} else {
@@ -113,7 +113,7 @@ pub fn bits(c: CRecord) -> bool
 
 // ---- from C's layout to the record
 fn line_in(x: CLine) -> Line
-    ensures { λ y. ⌜ y ≡ lineIn x ⌝ }
+    ensures { λ y. ⌜ y ≡ lineFromC x ⌝ }
 {
     Line {
         valid: x.valid == 1,
@@ -123,7 +123,7 @@ fn line_in(x: CLine) -> Line
 }
 
 fn l1d_set_in(v: CL1dSet) -> L1dSet
-    ensures { λ w. ⌜ w ≡ l1dSetIn v ⌝ }
+    ensures { λ w. ⌜ w ≡ l1dSetFromC v ⌝ }
 {
     let x = line_in(v.lines[0]);
     let y = line_in(v.lines[1]);
@@ -137,7 +137,7 @@ fn l1d_set_in(v: CL1dSet) -> L1dSet
 }
 
 fn l2_set_in(v: CL2Set) -> L2Set
-    ensures { λ w. ⌜ w ≡ l2SetIn v ⌝ }
+    ensures { λ w. ⌜ w ≡ l2SetFromC v ⌝ }
 {
     let w = line_in(v.lines[0]);
     let x = line_in(v.lines[1]);
@@ -155,7 +155,7 @@ fn l2_set_in(v: CL2Set) -> L2Set
 }
 
 fn l1d_in(xs: [CL1dSet; 128]) -> [L1dSet; 128]
-    ensures { λ ys. ⌜ ys ≡ map l1dSetIn xs ⌝ }
+    ensures { λ ys. ⌜ ys ≡ map l1dSetFromC xs ⌝ }
 {
     let first = l1d_set_in(xs[0]);
     let mut ys = [first; 128];
@@ -167,7 +167,7 @@ fn l1d_in(xs: [CL1dSet; 128]) -> [L1dSet; 128]
 }
 
 fn l2_in(xs: [CL2Set; 512]) -> [L2Set; 512]
-    ensures { λ ys. ⌜ ys ≡ map l2SetIn xs ⌝ }
+    ensures { λ ys. ⌜ ys ≡ map l2SetFromC xs ⌝ }
 {
     let first = l2_set_in(xs[0]);
     let mut ys = [first; 512];
@@ -179,7 +179,7 @@ fn l2_in(xs: [CL2Set; 512]) -> [L2Set; 512]
 }
 
 pub fn record_in(c: CRecord) -> Record
-    ensures { λ r. ⌜ r ≡ recordIn c ⌝ }
+    ensures { λ r. ⌜ r ≡ recordFromC c ⌝ }
 {
     let xs = c.l1d;
     let ys = c.l2;
@@ -204,7 +204,7 @@ fn byte_of(b: bool) -> u8
 }
 
 fn line_out(x: Line) -> CLine
-    ensures { λ y. ⌜ y ≡ lineOut x ⌝ }
+    ensures { λ y. ⌜ y ≡ lineToC x ⌝ }
 {
     CLine {
         valid: byte_of(x.valid),
@@ -214,7 +214,7 @@ fn line_out(x: Line) -> CLine
 }
 
 fn l1d_set_out(v: L1dSet) -> CL1dSet
-    ensures { λ w. ⌜ w ≡ l1dSetOut v ⌝ }
+    ensures { λ w. ⌜ w ≡ l1dSetToC v ⌝ }
 {
     let x = line_out(v.lines[0]);
     let y = line_out(v.lines[1]);
@@ -228,7 +228,7 @@ fn l1d_set_out(v: L1dSet) -> CL1dSet
 }
 
 fn l2_set_out(v: L2Set) -> CL2Set
-    ensures { λ w. ⌜ w ≡ l2SetOut v ⌝ }
+    ensures { λ w. ⌜ w ≡ l2SetToC v ⌝ }
 {
     let w = line_out(v.lines[0]);
     let x = line_out(v.lines[1]);
@@ -246,7 +246,7 @@ fn l2_set_out(v: L2Set) -> CL2Set
 }
 
 fn l1d_out(xs: [L1dSet; 128]) -> [CL1dSet; 128]
-    ensures { λ ys. ⌜ ys ≡ map l1dSetOut xs ⌝ }
+    ensures { λ ys. ⌜ ys ≡ map l1dSetToC xs ⌝ }
 {
     let first = l1d_set_out(xs[0]);
     let mut ys = [first; 128];
@@ -258,7 +258,7 @@ fn l1d_out(xs: [L1dSet; 128]) -> [CL1dSet; 128]
 }
 
 fn l2_out(xs: [L2Set; 512]) -> [CL2Set; 512]
-    ensures { λ ys. ⌜ ys ≡ map l2SetOut xs ⌝ }
+    ensures { λ ys. ⌜ ys ≡ map l2SetToC xs ⌝ }
 {
     let first = l2_set_out(xs[0]);
     let mut ys = [first; 512];
@@ -270,7 +270,7 @@ fn l2_out(xs: [L2Set; 512]) -> [CL2Set; 512]
 }
 
 pub fn record_out(r: Record) -> CRecord
-    ensures { λ c. ⌜ c ≡ recordOut r ⌝ }
+    ensures { λ c. ⌜ c ≡ recordToC r ⌝ }
 {
     let xs = r.l1d;
     let ys = r.l2;

@@ -1,7 +1,7 @@
 // Refusals 9 and 10 of the refusal table of paper 01: a MAR bit, and whether either cache holds a line of its range.
 ghost use mathlib.Core.Path.{_≡_};
-ghost use Rattle.model.specs.Basics.{any};
-ghost use Rattle.model.specs.Modes.{inRange, holdsRange};
+ghost use Rattle.model.specs.Basics.{anyOf};
+ghost use Rattle.model.specs.Refusals.{inRange, holdsRange};
 ghost use Rattle.mar.specs.Range.{marOperandsDue};
 use model::L1dSet;
 use model::L2Set;
@@ -15,20 +15,20 @@ fn in_range(x: Line, n: u32) -> bool
 }
 
 fn l1d_set_holds(v: L1dSet, n: u32) -> bool
-    ensures { λ b. ⌜ b ≡ any (inRange n) (v .lines) ⌝ }
+    ensures { λ b. ⌜ b ≡ anyOf (inRange n) (v .lines) ⌝ }
 {
     in_range(v.lines[0], n) | in_range(v.lines[1], n)
 }
 
 fn l2_set_holds(v: L2Set, n: u32) -> bool
-    ensures { λ b. ⌜ b ≡ any (inRange n) (v .lines) ⌝ }
+    ensures { λ b. ⌜ b ≡ anyOf (inRange n) (v .lines) ⌝ }
 {
     in_range(v.lines[0], n)
         | (in_range(v.lines[1], n) | (in_range(v.lines[2], n) | in_range(v.lines[3], n)))
 }
 
 fn l1d_holds(r: Record, n: u32) -> bool
-    ensures { λ b. ⌜ b ≡ any (λ (v : L1dSet). any (inRange n) (v .lines)) (r .l1d) ⌝ }
+    ensures { λ b. ⌜ b ≡ anyOf (λ (v : L1dSet). anyOf (inRange n) (v .lines)) (r .l1d) ⌝ }
 {
     for s in 0..128 {
         if l1d_set_holds(r.l1d[s], n) {
@@ -39,7 +39,7 @@ fn l1d_holds(r: Record, n: u32) -> bool
 }
 
 fn l2_holds(r: Record, n: u32) -> bool
-    ensures { λ b. ⌜ b ≡ any (λ (v : L2Set). any (inRange n) (v .lines)) (r .l2) ⌝ }
+    ensures { λ b. ⌜ b ≡ anyOf (λ (v : L2Set). anyOf (inRange n) (v .lines)) (r .l2) ⌝ }
 {
     for t in 0..512 {
         if l2_set_holds(r.l2[t], n) {

@@ -10,7 +10,8 @@ use lib.ListN.{length, take, drop, set, getD, replicate, length-append, length-t
 use lib.Seq.{take-all, drop-drop, drop-cons, set-at, append-snoc, take-suc, length-take-le, drop-length}
 use lib.Dec.{leb}
 use borrow.Author.Tests.{leb-true, leb-false, le-leb, lt-leb}
-use Rattle.model.specs.Bytes.{part, stored, splice, stored-none, part-inside, stored-inside, stored-outside, length-part, zeroFrom}
+use Rattle.model.specs.Bytes.{part, stored, splice, zeroFrom}
+use Rattle.model.specs.Laws.{stored-none, part-inside, stored-inside, stored-outside, length-part}
 
 -- d with its first n bytes replaced by those of s
 unfoldable pub copied : List ℕ → List ℕ → ℕ → List ℕ

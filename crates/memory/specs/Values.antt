@@ -11,9 +11,9 @@ use lib.ListN.{length, take, drop, set, getD, length-append}
 use lib.Seq.{drop-cons, take-add, drop-drop, sets, sets-eq}
 use lib.Dec.{leb, eqb}
 use borrow.Author.Tests.{leb-false, eqb-true, eqb-false, ne-eqb}
-use Rattle.model.specs.Basics.{bool}
-use Rattle.model.specs.Bytes.{part, stored, splice, part-inside, stored-inside, stored-outside, length-part, length-stored, little, littleBytes, length-littleBytes}
+use Rattle.model.specs.Bytes.{part, stored, splice, little, littleBytes}
 use Rattle.model.specs.Refusals.{sizeOk}
+use Rattle.model.specs.Laws.{bool, part-inside, stored-inside, stored-outside, length-part, length-stored, length-littleBytes}
 
 -- 256 to the n-th
 abbrev pub power : ℕ → ℕ

@@ -2,7 +2,7 @@
 -- Why: an accepted read reads right bytes, so the same; a write changes flat memory as it changes what is right; a mode change likewise; the other commands
 -- are not seen. After a global writeback in a mode with an L2 cache every place of external memory is right, so the two lists are equal.
 use Prim.Native.Nat.{ℕ, _+_, _*_, _-_, _≤_, _<_}
-use mathlib.Core.Bool.{true, false}
+use mathlib.Core.Bool.{true, false, _&&_}
 use mathlib.Core.Path.{_≡_, refl, sym, ap, _∙_}
 use mathlib.Core.Logic.{_≢_}
 use mathlib.Core.List.{List, [], _∷_}
@@ -11,17 +11,18 @@ use lib.ListN.{length, length-replicate}
 use lib.Seq.{ext-getD}
 use lib.Dec.{ltb, eqb}
 use borrow.Author.Tests.{eqb-true, ne-eqb, lt-leb}
-use Rattle.model.specs.Basics.{both, bool, false-true, both-true, pick-elim}
-use Rattle.model.specs.Bytes.{little, littleBytes, zeroFrom, length-littleBytes}
+use Rattle.model.specs.Bytes.{little, littleBytes, zeroFrom}
 use Rattle.model.specs.Memories.{l1dLength, externalBase, legalL2, legalExternal, cacheSize, isMode, sramLength}
 use Rattle.model.specs.Records.{State, state, sramOf, l2SetsOf, l2LineAt, freshRecord, freshState}
 use Rattle.model.specs.Access.{readAccess, writeAccess}
 use Rattle.model.specs.Modes.{smaller, flushL1d, flushL2, newMode, changeMode}
 use Rattle.model.specs.Commands.{l2WritebackAll, l2WritebackInvalidateAll}
+use Rattle.model.specs.Flat.{Flat, flat, freshFlat, flatPart, flatPut, flatMode, FlatReply, flatReply, flatRead, flatWrite, flatChange, flatStep}
 use Rattle.model.specs.Refusals.{accessDue, modeDue}
 use Rattle.model.specs.Trace.{command}
-use Rattle.model.specs.Flat.{Flat, flat, freshFlat, flatPart, flatPut, flatMode, FlatReply, flatReply, flatRead, flatWrite, flatChange, flatStep}
 use Rattle.model.specs.Calls.{Reply, refused, carriedOut, freshOk, freshCall, commandDue, readDone, writeDone, commandState, accepted, step, call}
+use Rattle.model.specs.Demand.{listedCode, listed, compared, global, modeAfter, Settled, AgreesAt, Agree, Demand3, end, next}
+use Rattle.model.specs.Laws.{bool, false-true, both-true, cond-elim, length-littleBytes}
 use Rattle.model.specs.declared.Command.{Command}
 use Rattle.model.proofs.Level.{Valid}
 use Rattle.model.proofs.Invariant.{Allowed, Layout}
@@ -33,7 +34,6 @@ use Rattle.model.proofs.Changes.{zero-length, zero-below, zero-above, s
 use Rattle.model.proofs.Due.{access-tells, accepted-read, accepted-write, mode-tells, mode-sets}
 use Rattle.model.proofs.Steps.{codes, Quiet, quiet-step, quiet-2, quiet-3, quiet-4, quiet-5, quiet-7, quiet-11}
 use Rattle.model.proofs.Tested.{legalL2-tells, legalExternal-tells, call-step}
-use Rattle.model.proofs.Demand.{listedCode, listed, compared, global, modeAfter, Settled, AgreesAt, Agree, end, next, Demand3}
 
 -- ---- chip and flat memory match: every byte that counts is flat memory's, and the sizes are the same
 abbrev flatByte : Flat → ℕ → ℕ
@@ -289,25 +289,23 @@ fresh-mode : (l : ℕ) (e : List ℕ) → freshState l e .rec .mode ≡ 0
 unfolding freshState freshRecord
 fresh-mode l e = refl
 
--- ---- demand 3
-pub demand3 : Demand3
-demand3 l e hl he cs y = agree cs 0 (freshState l e) (freshFlat l e) (fresh-matches l e hl he) (fresh-mode l e) y
-
--- the same from the call itself: a fresh start that was accepted, whatever bytes L1D and L2 were lent with
-fresh-accepted : (d m e : List ℕ) → freshCall d m e .number ≡ 0 → (legalL2 (length m) ≡ true) × (legalExternal (length e) ≡ true) × (freshCall d m e .next ≡ freshState (length m) e)
+-- ---- an accepted fresh start gives the fresh state, whatever bytes L1D and L2 were lent with
+pub fresh-accepted : (d m e : List ℕ) → freshCall d m e .number ≡ 0 → (legalL2 (length m) ≡ true) × (legalExternal (length e) ≡ true) × (freshCall d m e .next ≡ freshState (length m) e)
 unfolding freshCall freshOk
 fresh-accepted d m e =
     let ok = freshOk d m e in
-    pick-elim (λ (r : Reply). r .number ≡ 0 → (legalL2 (length m) ≡ true) × (legalExternal (length e) ≡ true) × (r .next ≡ freshState (length m) e)) ok
+    cond-elim (λ (r : Reply). r .number ≡ 0 → (legalL2 (length m) ≡ true) × (legalExternal (length e) ≡ true) × (r .next ≡ freshState (length m) e)) ok
     (carriedOut (freshState (length m) e)) (refused 1 (state (freshRecord 32768 128) d m e))
-    (λ t _. let p = both-true (eqb (length d) l1dLength) (both (legalL2 (length m)) (legalExternal (length e))) t in
+    (λ t _. let p = both-true (eqb (length d) l1dLength) (legalL2 (length m) && legalExternal (length e)) t in
     let q = both-true (legalL2 (length m)) (legalExternal (length e)) (p .1) in
     (q .0, q .1, refl))
     (λ _ h. absurd (omega arith))
 
-pub demand3-started : (d m e : List ℕ) → freshCall d m e .number ≡ 0 → (cs : List Command) → listed cs ≡ true →
-    Agree 0 cs (freshCall d m e .next) (freshFlat (length m) e)
-demand3-started d m e h cs y = let p = fresh-accepted d m e h in let s = p .2 in rw s (demand3 (length m) e (p .0) (p .1) cs y)
+-- ---- demand 3
+pub demand3 : Demand3
+demand3 d m e h cs y =
+    let p = fresh-accepted d m e h in let s = p .2 in
+    rw s (agree cs 0 (freshState (length m) e) (freshFlat (length m) e) (fresh-matches (length m) e (p .0) (p .1)) (fresh-mode (length m) e) y)
 
 -- and the fresh state is well formed
 pub fresh-well : (l : ℕ) (e : List ℕ) → legalL2 l ≡ true → legalExternal (length e) ≡ true → Well (freshState l e)

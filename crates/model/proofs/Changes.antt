@@ -13,12 +13,14 @@ use lib.ListN.{length, getD, take, replicate, length-append, length-replicate, g
 use lib.Seq.{getD-take, getD-append-add, length-take-le}
 use lib.Dec.{ltb, leb, eqb}
 use borrow.Author.Tests.{ltb-true, ltb-false, leb-true, leb-false, eq-eqb, eqb-true}
-use Rattle.model.specs.Basics.{any, bool, false-true}
+use Rattle.model.specs.Basics.{anyOf}
 use Rattle.model.specs.Bytes.{zeroFrom}
 use Rattle.model.specs.Memories.{externalBase, cacheSize, isMode, sramLength}
 use Rattle.model.specs.Lines.{emptyLine, Permutation2, Permutation4}
 use Rattle.model.specs.Records.{State, sramOf, marBit, noL2Set, l1dLineAt, l2LineAt, freshL1dSet, freshL2Set}
-use Rattle.model.specs.Modes.{smaller, newMode, changeMar, inRange, holdsRange}
+use Rattle.model.specs.Modes.{smaller, newMode, changeMar}
+use Rattle.model.specs.Refusals.{inRange, holdsRange}
+use Rattle.model.specs.Laws.{bool, false-true}
 use Rattle.model.specs.declared.Line.{Line}
 use Rattle.model.specs.declared.L1dSet.{L1dSet}
 use Rattle.model.specs.declared.L2Set.{L2Set}
@@ -152,11 +154,11 @@ module _ (z : State) (F F′ : Allowed) (q : Good z F) (m : ℕ) (ok : isMode m 
 
 -- ---- a MAR change
 module _ (n : ℕ) (r : Record) (h : holdsRange n r ≡ false) where
-  l1d-range : any (λ (v : L1dSet). any (inRange n) (v .lines)) (r .l1d) ≡ false
+  l1d-range : anyOf (λ (v : L1dSet). anyOf (inRange n) (v .lines)) (r .l1d) ≡ false
   unfolding holdsRange
-  l1d-range = bool (any (λ (v : L1dSet). any (inRange n) (v .lines)) (r .l1d)) (λ t. false-true (sym (rw t at h))) (λ t. t)
+  l1d-range = bool (anyOf (λ (v : L1dSet). anyOf (inRange n) (v .lines)) (r .l1d)) (λ t. false-true (sym (rw t at h))) (λ t. t)
 
-  l2-range : any (λ (v : L2Set). any (inRange n) (v .lines)) (r .l2) ≡ false
+  l2-range : anyOf (λ (v : L2Set). anyOf (inRange n) (v .lines)) (r .l2) ≡ false
   unfolding holdsRange
   l2-range = rw l1d-range at h
 

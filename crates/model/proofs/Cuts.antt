@@ -3,7 +3,7 @@
 -- `pieces-whole`), so that by `run-calls` each answer is the same, and leave the same state (`cut-anywhere`), on every well-formed state and for every code.
 -- Why: reading a command looks at its own bytes only (`decode-stable`), and takes one at least.
 use Prim.Native.Nat.{ℕ, zero, suc, _+_, _*_, _-_, _≤_, _<_}
-use mathlib.Core.Bool.{true}
+use mathlib.Core.Bool.{true, _||_, _&&_}
 use mathlib.Core.Path.{_≡_, refl, sym, ap, _∙_, subst}
 use mathlib.Core.List.{List, [], _∷_, _++_}
 use native.Mathlib.Omega.{arith}
@@ -11,14 +11,14 @@ use lib.ListN.{length, drop, length-drop}
 use lib.Seq.{drop-append-le, drop-drop}
 use lib.Dec.{ltb, leb, eqb}
 use borrow.Author.Tests.{lt-ltb, le-ltb, le-leb}
-use Rattle.model.specs.Basics.{both, either, bool, false-true, both-true}
-use Rattle.model.specs.Trace.{Number, moreGroups, groups, numberBelow, number32, number64, Decoded, oneNumber, secondNumber, twoNumbers, valueNumber, threeNumbers, decodeAfter, decode}
-use Rattle.model.specs.declared.Command.{Command}
 use Rattle.model.specs.Records.{State}
-use Rattle.model.specs.Calls.{call, runCall}
+use Rattle.model.specs.Trace.{Number, moreGroups, groups, numberBelow, number32, number64, Decoded, oneNumber, secondNumber, twoNumbers, valueNumber, threeNumbers, decodeAfter, decode}
+use Rattle.model.specs.Calls.{call, runCall, commandAt}
+use Rattle.model.specs.Traces.{carriedFrom, carried, after, Piece, pieceCommands, allCommands}
+use Rattle.model.specs.Laws.{bool, false-true, both-true}
+use Rattle.model.specs.declared.Command.{Command}
 use Rattle.model.proofs.Good.{Well}
 use Rattle.model.proofs.Tested.{call-well}
-use Rattle.model.proofs.Traces.{carriedFrom, carried, after, Piece, pieceCommands, allCommands}
 use Rattle.model.proofs.TraceAgreement.{run-calls}
 
 -- ---- numbers: a number that is read stays the same whatever stands behind it, and lies in what was read
@@ -53,7 +53,7 @@ groups-stable (b ∷ bs) ys h =
 below-stable : (limit : ℕ) (xs ys : List ℕ) → numberBelow limit xs .ok ≡ true → NumberStable (numberBelow limit) xs ys
 unfolding numberBelow
 below-stable limit xs ys h =
-    bool (both (groups xs .ok) (ltb (groups xs .value) limit))
+    bool (groups xs .ok && ltb (groups xs .value) limit)
     (λ t. let r = groups-stable xs ys (both-true (groups xs .ok) (ltb (groups xs .value) limit) t .0) in
     let s = r .same in let i = r .inside in
     record { same = rw (s, t) refl; inside = rw t i })
@@ -117,12 +117,12 @@ unfolding decodeAfter
 after-stable c xs ys h =
     bool (eqb c 1)
     (λ t. let r = three-stable c xs ys (rw t at h) in record { same = rw t (r .same); least = rw t (r .least); most = rw t (r .most) })
-    (λ t. bool (either (eqb c 0) (either (both (leb 4 c) (leb c 8)) (eqb c 11)))
+    (λ t. bool (eqb c 0 || ((leb 4 c && leb c 8) || eqb c 11))
     (λ u. let r = two-stable c xs ys (rw (t, u) at h) in record { same = rw (t, u) (r .same); least = rw (t, u) (r .least); most = rw (t, u) (r .most) })
     (λ u. bool (eqb c 10)
     (λ v. let r = one-stable c xs ys (rw (t, u, v) at h) in
     record { same = rw (t, u, v) (r .same); least = rw (t, u, v) (r .least); most = rw (t, u, v) (r .most) })
-    (λ v. bool (either (eqb c 2) (either (eqb c 3) (eqb c 9)))
+    (λ v. bool (eqb c 2 || (eqb c 3 || eqb c 9))
     (λ w. record { same = rw (t, u, v, w) refl; least = rw (t, u, v, w) (omega arith); most = rw (t, u, v, w) (omega arith) })
     (λ w. false-true (rw (t, u, v, w) at h)))))
 
@@ -156,34 +156,33 @@ whole-append (one {t} {cs} h r) u ds w =
     whole-more (t ++ u) (decode t) (cs ++ ds) (s .same u) h q
 
 -- ---- a run over it carries out just its commands
-carried-end : (source : ℕ → Decoded) (end room turns i k : ℕ) → end ≤ i → carriedFrom source end room turns i k ≡ []
+carried-end : (t : List ℕ) (room turns i k : ℕ) → length t ≤ i → carriedFrom t room turns i k ≡ []
 unfolding carriedFrom
-carried-end source end room zero i k h = refl
-carried-end source end room (suc turns) i k h = rw (le-ltb i end h) refl
+carried-end t room zero i k h = refl
+carried-end t room (suc turns) i k h = rw (le-ltb i (length t) h) refl
 
-carried-more : (source : ℕ → Decoded) (end room turns i k : ℕ) → i < end → source i .ok ≡ true → k * 10 + 10 ≤ room →
-    carriedFrom source end room (suc turns) i k ≡ source i .found ∷ carriedFrom source end room turns (i + source i .used) (suc k)
+carried-more : (t : List ℕ) (room turns i k : ℕ) → i < length t → commandAt t i .ok ≡ true → k * 10 + 10 ≤ room →
+    carriedFrom t room (suc turns) i k ≡ commandAt t i .found ∷ carriedFrom t room turns (i + commandAt t i .used) (suc k)
 unfolding carriedFrom
-carried-more source end room turns i k h o f = rw (lt-ltb i end h, o, le-leb (k * 10 + 10) room f) refl
+carried-more t room turns i k h o f = rw (lt-ltb i (length t) h, o, le-leb (k * 10 + 10) room f) refl
 
 whole-from : {u : List ℕ} {cs : List Command} → Whole u cs → (t : List ℕ) (room turns i k : ℕ) → u ≡ drop i t → length t ≤ i + turns → (k + length cs) * 10 ≤ room →
-    carriedFrom (λ j. decode (drop j t)) (length t) room turns i k ≡ cs
+    carriedFrom t room turns i k ≡ cs
 whole-from none t room turns i k e n f =
     let l : length (drop i t) ≡ 0 = ap length (sym e) in let d = length-drop i t in
-    carried-end (λ j. decode (drop j t)) (length t) room turns i k (omega arith)
+    carried-end t room turns i k (omega arith)
 whole-from (one {t = u} {cs = cs} h r) t room zero i k e n f =
     let s = decode-stable u h in let a = s .least in let b = s .most in
     let l : length u ≡ length (drop i t) = ap length e in let d = length-drop i t in absurd (omega arith)
 whole-from (one {t = u} {cs = cs} h r) t room (suc turns) i k e n f =
     let s = decode-stable u h in let a = s .least in let b = s .most in
     let l : length u ≡ length (drop i t) = ap length e in let d = length-drop i t in
-    let source : ℕ → Decoded = λ j. decode (drop j t) in
     let same : decode u ≡ decode (drop i t) = ap decode e in
     let next : drop (decode u .used) u ≡ drop (i + decode u .used) t =
     ap (λ (x : List ℕ). drop (decode u .used) x) e ∙ drop-drop (decode u .used) i t in
     let rest = whole-from r t room turns (i + decode u .used) (suc k) next (omega arith) (omega arith) in
-    carried-more source (length t) room turns i k (omega arith) (ap (λ (x : Decoded). x .ok) (sym same) ∙ h) (omega arith)
-    ∙ ap (λ (x : Decoded). x .found ∷ carriedFrom source (length t) room turns (i + x .used) (suc k)) (sym same)
+    carried-more t room turns i k (omega arith) (ap (λ (x : Decoded). x .ok) (sym same) ∙ h) (omega arith)
+    ∙ ap (λ (x : Decoded). x .found ∷ carriedFrom t room turns (i + x .used) (suc k)) (sym same)
     ∙ ap (λ (x : List Command). decode u .found ∷ x) rest
 
 pub whole-carried : {t : List ℕ} {cs : List Command} → Whole t cs → (room : ℕ) → length cs * 10 ≤ room → carried t room ≡ cs

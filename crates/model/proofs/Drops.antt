@@ -8,12 +8,12 @@ use mathlib.Core.Logic.{_≢_}
 use mathlib.Core.List.{List}
 use native.Mathlib.Omega.{arith}
 use lib.ListN.{getD}
-use Rattle.model.specs.Basics.{pick-elim}
 use Rattle.model.specs.Memories.{externalBase}
 use Rattle.model.specs.Lines.{l1dSetOf, emptyLine, upperHalf}
-use Rattle.model.specs.Records.{State, l2SetsOf, marBit, noL2Set, l1dLineAt, l2LineAt, l1dSetLine, l2SetLine}
-use Rattle.model.specs.Access.{l1dWay, inL1d, emptyL1d, emptyL2}
+use Rattle.model.specs.Records.{State, l2SetsOf, marBit, noL2Set, l1dLineAt, l2LineAt, withL1dLine, withL2Line}
+use Rattle.model.specs.Ways.{l1dWay, inL1d, emptyL1d, emptyL2}
 use Rattle.model.specs.Commands.{eachTouched, atL1d, atL2, dropL2, l2InvalidateBlock, l1dInvalidateBlock, l1dInvalidateAll}
+use Rattle.model.specs.Laws.{cond-elim}
 use Rattle.model.specs.declared.Line.{Line}
 use Rattle.model.specs.declared.L2Set.{L2Set}
 use Rattle.model.proofs.Level.{Valid, Free, Replaced, Sound, same-slot, emptied-line, emptied-sound}
@@ -40,7 +40,7 @@ record Dropped (z z′ : State) : Type 0 where
   fewer : (s w : ℕ) → Valid (l1dLevel z′) s w → l1dLineAt (z′ .rec) s w ≡ l1dLineAt (z .rec) s w
 
 emptyL1d-dropped : (z : State) → Well z → (s w : ℕ) → s < 128 → w < 2 → Dropped z (emptyL1d s w z) × (l1dLineAt (emptyL1d s w z .rec) s w ≡ emptyLine)
-unfolding emptyL1d l1dSetLine marBit
+unfolding emptyL1d withL1dLine marBit
 emptyL1d-dropped z h s w hs hw =
     let z′ = emptyL1d s w z in
     let u : Replaced 64 (l1dLevel z) (l1dLevel z′) s w emptyLine = l1d-replaced z (h .tidy) s w emptyLine (z .l1d) (z .l2) (z .ext) hs hw (λ _ _ _ _ _ _. refl) in (
@@ -65,14 +65,14 @@ half-dropped : (z : State) → Well z → (b : ℕ) → Dropped z (atL1d emptyL1
 unfolding atL1d
 half-dropped z h b =
     let s = l1dSetOf b in let w = l1dWay z b in
-    pick-elim (λ (x : State). Dropped z x × Free 64 (l1dLevel x) b) (inL1d z b) (emptyL1d s w z) z
+    cond-elim (λ (x : State). Dropped z x × Free 64 (l1dLevel x) b) (inL1d z b) (emptyL1d s w z) z
     (λ y. let p = l1d-hit z b y in let g = emptyL1d-dropped z h s w (omega arith) (p .way) in
     (g .0, evicted-free z Anything h s w b (emptyL1d s w z) (p .valid) (p .address) (g .0 .fewer) (g .1)))
     (λ y. (record { step = step-refl z Anything h; l2Same = refl; fewer = λ _ _ _. refl }, l1d-miss z Anything h b y))
 
 -- ---- an L2 line of which L1D holds nothing is dropped
 emptyL2-step : (z : State) → Well z → (t v : ℕ) → t < l2SetsOf (z .rec) → v < 4 → Clear z t v → Step z Anything (emptyL2 t v z)
-unfolding emptyL2 l2SetLine marBit
+unfolding emptyL2 withL2Line marBit
 emptyL2-step z h t v ht hv c =
     let z′ = emptyL2 t v z in
     let u : Replaced 128 (l2Level z) (l2Level z′) t v emptyLine = l2-replaced z (h .tidy) t v emptyLine (z .l1d) (z .l2) (z .ext) ht hv (λ _ _ _ _ _ _. refl) in

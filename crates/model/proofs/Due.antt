@@ -2,19 +2,18 @@
 -- and fits; a MAR change that is not refused sets a bit, or no line of its range is held. Each refusal is `first (unless test n) ..`, so that one lemma
 -- (`first-none`) takes them apart.
 use Prim.Native.Nat.{ℕ, suc, _+_, _-_, _/_, _%_, _≤_, _<_}
-use mathlib.Core.Bool.{Bool, true, false, not}
+use mathlib.Core.Bool.{Bool, true, false, not, _&&_, _||_}
 use mathlib.Core.Path.{_≡_, refl, sym, _∙_, subst}
 use mathlib.Core.Logic.{_≢_, _⊎_, inl, inr}
 use native.Mathlib.Omega.{arith}
 use lib.Dec.{leb, eqb}
 use borrow.Author.Tests.{lt-ltb, le-ltb, leb-true, eqb-true, eqb-false}
-use Rattle.model.specs.Basics.{both, either, bool, false-true, both-true}
-use Rattle.model.specs.Bytes.{littleBytes, length-littleBytes}
+use Rattle.model.specs.Bytes.{littleBytes}
 use Rattle.model.specs.Memories.{externalBase, cacheSize, isMode}
 use Rattle.model.specs.Records.{State, sramOf}
 use Rattle.model.specs.Access.{readAccess, writeAccess}
-use Rattle.model.specs.Modes.{holdsRange}
-use Rattle.model.specs.Refusals.{first, unless, sizeOk, placeOk, valueOk, accessDue, modeDue, marDue}
+use Rattle.model.specs.Refusals.{holdsRange, first, unless, sizeOk, placeOk, valueOk, accessDue, modeDue, marDue}
+use Rattle.model.specs.Laws.{bool, false-true, both-true, length-littleBytes}
 use Rattle.model.specs.declared.Record.{Record}
 use Rattle.model.proofs.Invariant.{Allowed}
 use Rattle.model.proofs.Memory.{Written}
@@ -35,7 +34,7 @@ not-yes : (b : Bool) → not b ≡ true → b ≡ false
 not-yes true h = false-true h
 not-yes false h = refl
 
-either-elim {ℓ} : {A : Type ℓ} (a b : Bool) → either a b ≡ true → (a ≡ true → A) → (b ≡ true → A) → A
+either-elim {ℓ} : {A : Type ℓ} (a b : Bool) → (a || b) ≡ true → (a ≡ true → A) → (b ≡ true → A) → A
 either-elim true b e f g = f refl
 either-elim false b e f g = g e
 
@@ -43,8 +42,8 @@ either-elim false b e f g = g e
 size-elim : (P : ℕ → Type 0) → P 1 → P 2 → P 4 → P 8 → (n : ℕ) → sizeOk n ≡ true → P n
 unfolding sizeOk
 size-elim P a b c d n e =
-    either-elim (eqb n 1) (either (eqb n 2) (either (eqb n 4) (eqb n 8))) e (λ t. rw (eqb-true n 1 t) a)
-    (λ e₁. either-elim (eqb n 2) (either (eqb n 4) (eqb n 8)) e₁ (λ t. rw (eqb-true n 2 t) b)
+    either-elim (eqb n 1) (eqb n 2 || (eqb n 4 || eqb n 8)) e (λ t. rw (eqb-true n 1 t) a)
+    (λ e₁. either-elim (eqb n 2) (eqb n 4 || eqb n 8) e₁ (λ t. rw (eqb-true n 2 t) b)
     (λ e₂. either-elim (eqb n 4) (eqb n 8) e₂ (λ t. rw (eqb-true n 4 t) c) (λ t. rw (eqb-true n 8 t) d)))
 
 -- it has bytes, they lie in one L1D line, and in SRAM or external memory
@@ -91,7 +90,7 @@ module _ (z : State) (F : Allowed) (q : Good z F) (n a : ℕ) where
 pub mode-tells : (l m : ℕ) → modeDue l m ≡ 0 → (isMode m ≡ true) × (cacheSize m ≤ l)
 unfolding modeDue
 mode-tells l m d =
-    let p = both-true (isMode m) (leb (cacheSize m) l) (unless-none (both (isMode m) (leb (cacheSize m) l)) 7 d) in
+    let p = both-true (isMode m) (leb (cacheSize m) l) (unless-none (isMode m && leb (cacheSize m) l) 7 d) in
     (p .0, leb-true (cacheSize m) l (p .1))
 
 -- every mode but 0 has L2 sets
@@ -109,7 +108,7 @@ mode-sets m h n =
 pub mar-tells : (r : Record) (n b : ℕ) → marDue r n b ≡ 0 → (b ≡ 1) ⊎ (holdsRange n r ≡ false)
 unfolding marDue
 mar-tells r n b d =
-    let p = first-none (both (either (eqb n 128) (eqb n 129)) (leb b 1)) 8 (unless (not (both (eqb b 0) (holdsRange n r))) 10) d in
-    let l = leb-true b 1 (both-true (either (eqb n 128) (eqb n 129)) (leb b 1) (p .0) .1) in
-    let t = not-yes (both (eqb b 0) (holdsRange n r)) (unless-none (not (both (eqb b 0) (holdsRange n r))) 9 (p .1)) in
+    let p = first-none ((eqb n 128 || eqb n 129) && leb b 1) 8 (unless (not (eqb b 0 && holdsRange n r)) 10) d in
+    let l = leb-true b 1 (both-true (eqb n 128 || eqb n 129) (leb b 1) (p .0) .1) in
+    let t = not-yes (eqb b 0 && holdsRange n r) (unless-none (not (eqb b 0 && holdsRange n r)) 9 (p .1)) in
     bool (eqb b 0) (λ y. inr (rw y at t)) (λ y. let y′ = eqb-false b 0 y in inl (omega arith))

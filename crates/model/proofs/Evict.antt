@@ -3,7 +3,7 @@
 -- Why: the bytes that go out are right (L1D is never behind), and they go to the next place for that address: to SRAM or external memory where L2 does not
 -- hold the line, else to the L2 line, which becomes dirty. That L2 has it follows from inclusion.
 use Prim.Native.Nat.{ℕ, _+_, _*_, _-_, _/_, _%_, _≤_, _<_}
-use mathlib.Core.Bool.{true, false}
+use mathlib.Core.Bool.{true, false, cond}
 use mathlib.Core.Path.{_≡_, refl, sym, ap, _∙_}
 use mathlib.Core.Logic.{_≢_}
 use mathlib.Core.List.{List}
@@ -11,12 +11,14 @@ use native.Mathlib.Omega.{arith}
 use lib.ListN.{length, getD}
 use lib.Dec.{ltb, eqb}
 use borrow.Author.Tests.{ltb-true, ltb-false, eqb-true, eqb-false}
-use Rattle.model.specs.Basics.{pick, bool, false-true, pick-elim}
-use Rattle.model.specs.Bytes.{stored, part, length-stored, length-part, part-at}
+use Rattle.model.specs.Bytes.{stored, part}
 use Rattle.model.specs.Memories.{externalBase}
 use Rattle.model.specs.Lines.{l1dSetOf, l1dData, l1dLine, l2Line, upperHalf, emptyLine, lineOf}
-use Rattle.model.specs.Records.{State, state, sramOf, l2SetOf, l2Data, marBit, l1dLineAt, l2LineAt, l1dSetLine, l2SetLine}
-use Rattle.model.specs.Access.{l1dWay, l2Way, inL1d, inL2, homeIsL2, putMemory, emptyL1d, putL2, putHome, homeL1d, evictL1d, takeHalf, takeHalves}
+use Rattle.model.specs.Records.{State, state, sramOf, l2SetOf, l2Data, marBit, l1dLineAt, l2LineAt, withL1dLine, withL2Line}
+use Rattle.model.specs.Ways.{l1dWay, l2Way, inL1d, inL2, emptyL1d}
+use Rattle.model.specs.Access.{writebackL1d, evictL1d}
+use Rattle.model.specs.Homes.{homeIsL2, putMemory, putL2, putHome, takeHalf, takeHalves}
+use Rattle.model.specs.Laws.{bool, false-true, cond-elim, length-stored, length-part, part-at}
 use Rattle.model.specs.declared.Line.{Line}
 use Rattle.model.proofs.Level.{Valid, Free, Replaced, same-slot, emptied-line, kept-valid, kept-address}
 use Rattle.model.proofs.Invariant.{Allowed, Inside, Invariant, invariant-same, l1d-dropped, l1d-into-memory, l1d-into-l2}
@@ -76,7 +78,7 @@ pub record L1dEvicted (z : State) (F : Allowed) (s w : ℕ) (z′ : State) : Typ
 module _ (z : State) (F : Allowed) (q : Good z F) (s w : ℕ) (hs : s < 128) (hw : w < 2) where
   -- ---- nothing to write
   evicted-clean : (Valid (l1dLevel z) s w → l1dLineAt (z .rec) s w .dirty ≡ false) → L1dEvicted z F s w (emptyL1d s w z)
-  unfolding emptyL1d l1dSetLine marBit
+  unfolding emptyL1d withL1dLine marBit
   evicted-clean c =
       let u = l1d-replaced z (q .tidy) s w emptyLine (z .l1d) (z .l2) (z .ext) hs hw (λ _ _ _ _ _ _. refl) in
       record {
@@ -112,7 +114,7 @@ module _ (z : State) (F : Allowed) (q : Good z F) (s w : ℕ) (hs : s < 128) (hw
 
   evicted-memory : Valid (l1dLevel z) s w → homeIsL2 (z .rec) b ≡ false →
       L1dEvicted z F s w (emptyL1d s w (state (z .rec) (z .l1d) (lowStored (z .l2) b bs) (highStored (z .ext) b bs)))
-  unfolding emptyL1d l1dSetLine marBit
+  unfolding emptyL1d withL1dLine marBit
   evicted-memory k e =
       let m′ = lowStored (z .l2) b bs in let e′ = highStored (z .ext) b bs in
       let z′ = emptyL1d s w (state (z .rec) (z .l1d) m′ e′) in
@@ -148,7 +150,7 @@ module _ (z : State) (F : Allowed) (q : Good z F) (s w : ℕ) (hs : s < 128) (hw
   -- ---- into the L2 line in slot t, v, which holds it; a: the line's address
   evicted-l2 : Valid (l1dLevel z) s w → (a : ℕ) → l1dLineAt (z .rec) s w .address ≡ a →
       (t v : ℕ) → Valid (l2Level z) t v → l2LineAt (z .rec) t v .address ≡ l2Line a → L1dEvicted z F s w (emptyL1d s w (putL2 t v a bs z))
-  unfolding emptyL1d putL2 l1dSetLine l2SetLine marBit
+  unfolding emptyL1d putL2 withL1dLine withL2Line marBit
   evicted-l2 k a e t v k₂ e₂ =
       let p = q .inv .l1dSound .place s w k in let al = p .aligned in
       let aligned : a % 64 ≡ 0 = rw e at al in
@@ -194,15 +196,15 @@ module _ (z : State) (F : Allowed) (q : Good z F) (s w : ℕ) (hs : s < 128) (hw
 
   -- ---- it leaves, dirty or clean
   pub evictL1d-good : L1dEvicted z F s w (evictL1d s w z)
-  unfolding evictL1d homeL1d putHome
+  unfolding evictL1d writebackL1d putHome
   evictL1d-good =
       let P : State → Type 0 = λ (y : State). L1dEvicted z F s w (emptyL1d s w y) in
       let t = l2SetOf (z .rec) b in let v = l2Way z b in
-      pick-elim P (l1dLineAt (z .rec) s w .valid) (pick (l1dLineAt (z .rec) s w .dirty) (putHome b bs z) z) z
-      (λ k. pick-elim P (l1dLineAt (z .rec) s w .dirty) (putHome b bs z) z
-      (λ d. pick-elim P (homeIsL2 (z .rec) b) (pick (inL2 z b) (putL2 t v b bs z) z) (putMemory b bs z)
+      cond-elim P (l1dLineAt (z .rec) s w .valid) (cond (l1dLineAt (z .rec) s w .dirty) (putHome b bs z) z) z
+      (λ k. cond-elim P (l1dLineAt (z .rec) s w .dirty) (putHome b bs z) z
+      (λ d. cond-elim P (homeIsL2 (z .rec) b) (cond (inL2 z b) (putL2 t v b bs z) z) (putMemory b bs z)
       (λ e. let c = home-l2 (z .rec) b e in
-      pick-elim P (inL2 z b) (putL2 t v b bs z) z
+      cond-elim P (inL2 z b) (putL2 t v b bs z) z
       (λ y. let h = l2-hit z b y in evicted-l2 k b refl t v (h .valid) (h .address))
       (λ y. let i = q .inv .inclusion s w k (c .0) (c .1) in absurd (l2-miss z F q b y (i .0) (i .1) (i .2) (i .3))))
       (λ e. rw (putMemory-state b bs z) (evicted-memory k e)))
@@ -257,11 +259,11 @@ unfolding takeHalf
 takeHalf-good z F q t v b al k₂ e₂ =
     let s = l1dSetOf b in let w = l1dWay z b in
     let bs = part (z .l1d) (l1dData s w) 64 in
-    let z′ = emptyL1d s w (pick (l1dLineAt (z .rec) s w .dirty) (putL2 t v b bs z) z) in
-    pick-elim (HalfTaken z F b) (inL1d z b) z′ z
+    let z′ = emptyL1d s w (cond (l1dLineAt (z .rec) s w .dirty) (putL2 t v b bs z) z) in
+    cond-elim (HalfTaken z F b) (inL1d z b) z′ z
     (λ y. let h = l1d-hit z b y in let e = h .address in
     half-left z F q b y z′
-    (pick-elim (λ (x : State). L1dEvicted z F s w (emptyL1d s w x)) (l1dLineAt (z .rec) s w .dirty) (putL2 t v b bs z) z
+    (cond-elim (λ (x : State). L1dEvicted z F s w (emptyL1d s w x)) (l1dLineAt (z .rec) s w .dirty) (putL2 t v b bs z) z
     (λ d. evicted-l2 z F q s w (omega arith) (h .way) (h .valid) b (omega arith) t v k₂ e₂)
     (λ d. evicted-clean z F q s w (omega arith) (h .way) (λ _. d))))
     (λ y. record { left = left-refl z F q; free = l1d-miss z F q b y })

@@ -3,7 +3,7 @@
 -- Why: the way is emptied first, so that nothing is lost; nobody else holds the line, or the search would have found it; the home's bytes are right because
 -- L1D does not hold the line, and where the home is SRAM or external memory L2 does not hold it either.
 use Prim.Native.Nat.{ℕ, suc, _+_, _*_, _-_, _/_, _%_, _≤_, _<_}
-use mathlib.Core.Bool.{true, false}
+use mathlib.Core.Bool.{true, false, cond}
 use mathlib.Core.Path.{_≡_, refl, sym, ap, _∙_}
 use mathlib.Core.Logic.{_≢_}
 use mathlib.Core.List.{List}
@@ -12,12 +12,14 @@ use native.Mathlib.Nat.{mod-lt}
 use lib.ListN.{length, getD}
 use lib.Dec.{ltb}
 use borrow.Author.Tests.{ltb-true, ltb-false, lt-ltb, le-ltb}
-use Rattle.model.specs.Basics.{pick, bool, false-true, pick-elim}
-use Rattle.model.specs.Bytes.{stored, part, length-stored, length-part, part-at}
+use Rattle.model.specs.Bytes.{stored, part}
 use Rattle.model.specs.Memories.{externalBase}
-use Rattle.model.specs.Lines.{l1dSetOf, l1dData, l1dLine, l2Line, lineOf, l2Victim}
-use Rattle.model.specs.Records.{State, l2SetsOf, l2SetOf, l2Data, marBit, l2SetAt, l1dLineAt, l2LineAt, l1dSetLine}
-use Rattle.model.specs.Access.{l2Way, inL2, cacheable, homeIsL2, memoryPart, useL2, evictL2, fillL2, l2WayFor, fetchL2, homeLine, fillL1d}
+use Rattle.model.specs.Lines.{l1dSetOf, l1dData, l1dLine, l2Line, lineOf}
+use Rattle.model.specs.Records.{State, l2SetsOf, l2SetOf, l2Data, marBit, l2SetAt, l1dLineAt, l2LineAt, withL1dLine}
+use Rattle.model.specs.Ways.{l2Victim, l2Way, inL2, useL2}
+use Rattle.model.specs.Access.{cacheable, homeLine, fillL1d}
+use Rattle.model.specs.Homes.{homeIsL2, memoryPart, evictL2, fillL2, l2WayFor, fetchL2}
+use Rattle.model.specs.Laws.{bool, false-true, cond-elim, length-stored, length-part, part-at}
 use Rattle.model.specs.declared.Line.{Line}
 use Rattle.model.specs.declared.Record.{Record}
 use Rattle.model.proofs.Level.{Valid, Other, NoDirty, Free, Replaced, same-slot}
@@ -104,7 +106,7 @@ way-for-hit z a y = rw y refl
 pub way-for-bound : (z : State) (a : ℕ) → l2WayFor z a < 4
 unfolding l2WayFor
 way-for-bound z a =
-    pick-elim (λ (v : ℕ). v < 4) (inL2 z a) (l2Way z a) (l2Victim (l2SetAt (z .rec) (l2SetOf (z .rec) a)))
+    cond-elim (λ (v : ℕ). v < 4) (inL2 z a) (l2Way z a) (l2Victim (l2SetAt (z .rec) (l2SetOf (z .rec) a)))
     (λ y. l2-hit z a y .way) (λ _. l2-victim-bound (l2SetAt (z .rec) (l2SetOf (z .rec) a)))
 
 used-lines : (z₁ z₂ : State) (t v : ℕ) → z₂ .rec .l1d ≡ z₁ .rec .l1d → (s w : ℕ) → l1dLineAt (useL2 t v z₂ .rec) s w ≡ l1dLineAt (z₁ .rec) s w
@@ -166,9 +168,9 @@ module _ (z : State) (F : Allowed) (q : Good z F) (a n : ℕ) (f : AccessFits (l
   pub fetchL2-good : L2Fetched z F a (fetchL2 a z)
   unfolding fetchL2
   fetchL2-good =
-      pick-elim (L2Fetched z F a) (homeIsL2 (z .rec) a)
-      (pick (inL2 z a) (useL2 t v z) (useL2 t v (fillL2 t v (l2Line a) (evictL2 t v z)))) z
-      (λ d. pick-elim (L2Fetched z F a) (inL2 z a) (useL2 t v z) (useL2 t v (fillL2 t v (l2Line a) (evictL2 t v z)))
+      cond-elim (L2Fetched z F a) (homeIsL2 (z .rec) a)
+      (cond (inL2 z a) (useL2 t v z) (useL2 t v (fillL2 t v (l2Line a) (evictL2 t v z)))) z
+      (λ d. cond-elim (L2Fetched z F a) (inL2 z a) (useL2 t v z) (useL2 t v (fillL2 t v (l2Line a) (evictL2 t v z)))
       fetched-hit (λ y. fetched-miss d (l2-miss z F q a y)))
       (λ d. record { good = q; kept = kept-refl z; fewer = λ _ _ _. refl; has = λ d′. false-true (sym d ∙ d′) })
 
@@ -190,8 +192,8 @@ homeLine-good z F q v a f fr has =
       high = λ k. let g = f .high (omega arith) in omega arith;
     } in
     let fits : Fits (z .l2) (z .ext) b 64 = record { low = λ h. let g = f .low h in omega arith; high = λ h. let g = f .high h in omega arith } in
-    pick-elim (HomeRead F b) (homeIsL2 (z .rec) a) (part (z .l2) (l2Data (z .rec) t v + b % 128) 64)
-    (pick (ltb b externalBase) (part (z .l2) b 64) (part (z .ext) (b - externalBase) 64))
+    cond-elim (HomeRead F b) (homeIsL2 (z .rec) a) (part (z .l2) (l2Data (z .rec) t v + b % 128) 64)
+    (cond (ltb b externalBase) (part (z .l2) b 64) (part (z .ext) (b - externalBase) 64))
     (λ d. let h = has d in let e = h .address in
     let f₂ = l2-fits z (q .tidy) t v (l2-bounds z F q t v (h .valid) .0) (h .way) in
     record {
@@ -218,7 +220,7 @@ pub record L1dFilled (z : State) (F : Allowed) (s w b : ℕ) (z′ : State) : Ty
 pub fillL1d-good : (z : State) (F : Allowed) → Good z F → (w v a : ℕ) → (Valid (l1dLevel z) (l1dSetOf a) w → ⊥) →
     L1dPlaced (layoutOf (z .rec)) (l1dSetOf a) w (l1dLine a) → Free 64 (l1dLevel z) a → HomeRead F (l1dLine a) (homeLine v a z) →
     (externalBase ≤ l1dLine a → l2SetsOf (z .rec) ≢ 0 → InL2Line (l2Level z) (l1dLine a)) → L1dFilled z F (l1dSetOf a) w (l1dLine a) (fillL1d w v a z)
-unfolding fillL1d l1dSetLine marBit
+unfolding fillL1d withL1dLine marBit
 fillL1d-good z F q w v a room p none ld held =
     let s = l1dSetOf a in let b = l1dLine a in
     let hs : s < 128 = omega arith in

@@ -3,7 +3,7 @@
 -- Shown: a search of a set finds the line or nobody holds it (one lemma on `wayHolding` for both caches); a chosen way is one of the set; slots do
 -- not overlap; and one line or one order of the record replaced keeps lengths, orders and empty ways (from `Tables`, for both caches).
 use Prim.Native.Nat.{ℕ, zero, suc, _+_, _*_, _/_, _%_, _≤_, _<_}
-use mathlib.Core.Bool.{true, false}
+use mathlib.Core.Bool.{true, false, cond}
 use mathlib.Core.Path.{_≡_, refl, sym, ap, _∙_}
 use mathlib.Core.Logic.{_≢_, _⊎_, inl, inr, ⊎-elim}
 use mathlib.Core.List.{List}
@@ -12,12 +12,13 @@ use lib.ListN.{length, getD}
 use lib.Seq.{getD-set-other}
 use lib.Dec.{ltb, eqb}
 use borrow.Author.Tests.{ltb-true, ltb-false, eqb-true, eqb-false, eq-eqb}
-use Rattle.model.specs.Basics.{pick, bool, false-true, both-true, pick-elim}
 use Rattle.model.specs.Bytes.{stored}
 use Rattle.model.specs.Memories.{externalBase, cacheSize, isMode}
-use Rattle.model.specs.Lines.{l1dSetOf, l1dData, l2Slot, l1dLine, l2Line, emptyLine, holds, l1dGet, l2Get, l2Put, l1dUse, l2Use, wayHolding, lowestInvalid, l1dFind, l2Find, l1dVictim, l2Victim, used2-permutation, used4-permutation}
-use Rattle.model.specs.Records.{State, state, sramOf, l2SetsOf, l2SetOf, l2Data, marBit, noL2Set, l1dSetAt, l2SetAt, l1dLineAt, l2LineAt, l1dSetLine, l2SetLine, freshL2Set}
-use Rattle.model.specs.Access.{l1dWay, l2Way, inL1d, inL2, homeIsL2, useL1d, useL2}
+use Rattle.model.specs.Lines.{l1dSetOf, l1dData, l2Slot, l1dLine, l2Line, emptyLine, holds, l1dGet, l2Get, l2Put, l1dUse, l2Use}
+use Rattle.model.specs.Records.{State, state, sramOf, l2SetsOf, l2SetOf, l2Data, marBit, noL2Set, l1dSetAt, l2SetAt, l1dLineAt, l2LineAt, withL1dLine, withL2Line, freshL2Set}
+use Rattle.model.specs.Ways.{wayHolding, lowestInvalid, l1dFind, l2Find, l1dVictim, l2Victim, l1dWay, l2Way, inL1d, inL2, useL1d, useL2}
+use Rattle.model.specs.Homes.{homeIsL2}
+use Rattle.model.specs.Laws.{bool, false-true, both-true, cond-elim, used2-permutation, used4-permutation}
 use Rattle.model.specs.declared.Line.{Line}
 use Rattle.model.specs.declared.L1dSet.{L1dSet}
 use Rattle.model.specs.declared.L2Set.{L2Set}
@@ -102,10 +103,10 @@ kept-trans z z′ z″ a b = record { mode = b .mode ∙ a .mode; layout = b .la
 pub cache-whole : (m : ℕ) → cacheSize m % 32768 ≡ 0
 unfolding cacheSize
 cache-whole m =
-    pick-elim (λ (c : ℕ). c % 32768 ≡ 0) (eqb m 1) 32768 (pick (eqb m 2) 65536 (pick (eqb m 3) 131072 (pick (eqb m 7) 262144 0))) (λ _. refl)
-    (λ _. pick-elim (λ (c : ℕ). c % 32768 ≡ 0) (eqb m 2) 65536 (pick (eqb m 3) 131072 (pick (eqb m 7) 262144 0)) (λ _. refl)
-    (λ _. pick-elim (λ (c : ℕ). c % 32768 ≡ 0) (eqb m 3) 131072 (pick (eqb m 7) 262144 0) (λ _. refl)
-    (λ _. pick-elim (λ (c : ℕ). c % 32768 ≡ 0) (eqb m 7) 262144 0 (λ _. refl) (λ _. refl))))
+    cond-elim (λ (c : ℕ). c % 32768 ≡ 0) (eqb m 1) 32768 (cond (eqb m 2) 65536 (cond (eqb m 3) 131072 (cond (eqb m 7) 262144 0))) (λ _. refl)
+    (λ _. cond-elim (λ (c : ℕ). c % 32768 ≡ 0) (eqb m 2) 65536 (cond (eqb m 3) 131072 (cond (eqb m 7) 262144 0)) (λ _. refl)
+    (λ _. cond-elim (λ (c : ℕ). c % 32768 ≡ 0) (eqb m 3) 131072 (cond (eqb m 7) 262144 0) (λ _. refl)
+    (λ _. cond-elim (λ (c : ℕ). c % 32768 ≡ 0) (eqb m 7) 262144 0 (λ _. refl) (λ _. refl))))
 
 -- ---- a search among any number of ways
 module _ (l : Line) (a : ℕ) where
@@ -123,7 +124,7 @@ pub way-found : (g : ℕ → Line) (n k b : ℕ) → wayHolding g n k b < k + n 
 unfolding wayHolding
 way-found g zero k b = λ h. absurd (omega arith)
 way-found g (suc n) k b =
-    pick-elim (λ (w : ℕ). w < k + suc n → (g w .valid ≡ true) × (g w .address ≡ b)) (holds (g k) b) k (wayHolding g n (suc k) b)
+    cond-elim (λ (w : ℕ). w < k + suc n → (g w .valid ≡ true) × (g w .address ≡ b)) (holds (g k) b) k (wayHolding g n (suc k) b)
     (λ t _. holds-tells (g k) b t)
     (λ _ h. way-found g n (suc k) b (omega arith))
 
@@ -131,7 +132,7 @@ pub way-missing : (g : ℕ → Line) (n k b : ℕ) → k + n ≤ wayHolding g n 
 unfolding wayHolding
 way-missing g zero k b = λ h w l u. absurd (omega arith)
 way-missing g (suc n) k b =
-    pick-elim (λ (f : ℕ). k + suc n ≤ f → (w : ℕ) → k ≤ w → w < k + suc n → g w .valid ≡ true → g w .address ≢ b) (holds (g k) b) k (wayHolding g n (suc k) b)
+    cond-elim (λ (f : ℕ). k + suc n ≤ f → (w : ℕ) → k ≤ w → w < k + suc n → g w .valid ≡ true → g w .address ≢ b) (holds (g k) b) k (wayHolding g n (suc k) b)
     (λ _ h. absurd (omega arith))
     (λ t h w l u v a. bool (eqb w k)
     (λ i. let j = eqb-true w k i in false-true (sym t ∙ holds-yes (g k) b (rw j at v) (rw j at a)))
@@ -191,7 +192,7 @@ pub lowest-bound : (g : ℕ → Line) (n k last : ℕ) → last < k + n → lowe
 unfolding lowestInvalid
 lowest-bound g zero k last h = h
 lowest-bound g (suc n) k last h =
-    pick-elim (λ (w : ℕ). w < k + suc n) (g k .valid) (lowestInvalid g n (suc k) last) k
+    cond-elim (λ (w : ℕ). w < k + suc n) (g k .valid) (lowestInvalid g n (suc k) last) k
     (λ _. let r = lowest-bound g n (suc k) last (omega arith) in omega arith) (λ _. omega arith)
 
 pub l1d-victim-bound : (v : L1dSet) → l1dVictim v < 2
@@ -312,28 +313,28 @@ lists-tidy z h d m e a b c = record { sizes = sizes-with (h .sizes) d m e a b c;
 module _ (z : State) (h : Tidy z) (s w : ℕ) (l : Line) (d m e : List ℕ) where
   pub l1d-replaced : s < 128 → w < 2 →
       ((s′ w′ : ℕ) → Other s w s′ w′ → Valid (l1dLevel z) s′ w′ → (i : ℕ) → i < 64 → getD d (l1dData s′ w′ + i) 0 ≡ getD (z .l1d) (l1dData s′ w′ + i) 0) →
-      Replaced 64 (l1dLevel z) (l1dLevel (state (l1dSetLine (z .rec) s w l) d m e)) s w l
-  unfolding l1dSetLine
+      Replaced 64 (l1dLevel z) (l1dLevel (state (withL1dLine (z .rec) s w l) d m e)) s w l
+  unfolding withL1dLine
   l1d-replaced hs hw r = replaced-line l1dKind (z .rec .l1d) s w l (h .l1d .shaped) hs hw 64 l1dData (z .l1d) d r
 
   pub l1d-tidy : (l .valid ≡ false → l ≡ emptyLine) → length d ≡ length (z .l1d) → length m ≡ length (z .l2) → length e ≡ length (z .ext) →
-      Tidy (state (l1dSetLine (z .rec) s w l) d m e)
-  unfolding l1dSetLine
+      Tidy (state (withL1dLine (z .rec) s w l) d m e)
+  unfolding withL1dLine
   l1d-tidy v a b c =
       record { sizes = sizes-with (h .sizes) d m e a b c; l1d = table-line l1dKind (z .rec .l1d) s w l (h .l1d) v; l2 = h .l2; idle = h .idle }
 
   pub l2-replaced : s < l2SetsOf (z .rec) → w < 4 →
       ((s′ w′ : ℕ) → Other s w s′ w′ → Valid (l2Level z) s′ w′ → (i : ℕ) → i < 128 →
       getD m (l2Data (z .rec) s′ w′ + i) 0 ≡ getD (z .l2) (l2Data (z .rec) s′ w′ + i) 0) →
-      Replaced 128 (l2Level z) (l2Level (state (l2SetLine (z .rec) s w l) d m e)) s w l
-  unfolding l2SetLine
+      Replaced 128 (l2Level z) (l2Level (state (withL2Line (z .rec) s w l) d m e)) s w l
+  unfolding withL2Line
   l2-replaced hs hw r =
       let c = h .sizes .cacheMost in let c′ = h .sizes .l2Most in
       replaced-line l2Kind (z .rec .l2) s w l (h .l2 .shaped) (omega arith) hw 128 (l2Data (z .rec)) (z .l2) m r
 
   pub l2-tidy : s < l2SetsOf (z .rec) → (l .valid ≡ false → l ≡ emptyLine) → length d ≡ length (z .l1d) → length m ≡ length (z .l2) → length e ≡ length (z .ext) →
-      Tidy (state (l2SetLine (z .rec) s w l) d m e)
-  unfolding l2SetLine
+      Tidy (state (withL2Line (z .rec) s w l) d m e)
+  unfolding withL2Line
   l2-tidy hs v a b c =
       record {
         sizes = sizes-with (h .sizes) d m e a b c;

@@ -10,9 +10,9 @@ use mathlib.Core.Logic.{_≢_}
 use native.Mathlib.Omega.{arith}
 use lib.Dec.{eqb}
 use borrow.Author.Tests.{eqb-true, eqb-false}
-use Rattle.model.specs.Basics.{bool, false-true}
 use Rattle.model.specs.Memories.{externalBase}
 use Rattle.model.specs.Lines.{emptyLine, lineOf}
+use Rattle.model.specs.Laws.{bool, false-true}
 use Rattle.model.specs.declared.Line.{Line}
 use Rattle.model.proofs.Level.{Level, Valid, NoDirty, Free, Sound, Replaced, same-slot, replaced-at, replaced-sound, replaced-nodirty, emptied-other, emptied-line, emptied-was, emptied-sound, kept-at, kept-sound, kept-is, kept-was}
 

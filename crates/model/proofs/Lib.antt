@@ -10,11 +10,9 @@ pub mod Invariant
 pub mod Level
 pub mod Memory
 pub mod ReadWrite
-pub mod Demand
 pub mod Steps
 pub mod Sweeps
 pub mod Tables
 pub mod Tested
 pub mod TraceAgreement
-pub mod Traces
 pub mod Writeback

@@ -2,6 +2,7 @@
 -- Shown: what each byte is after bytes were put at an address, after a line was copied, after half a line went into a slot; and what may stand where
 -- (`Written`) after a write. All of it rests on the laws of `stored` and `part` (Bytes), so that nothing above this file opens them.
 use Prim.Native.Nat.{ℕ, _+_, _*_, _-_, _/_, _%_, _≤_, _<_}
+use mathlib.Core.Bool.{cond}
 use mathlib.Core.Path.{_≡_, refl, sym, _∙_}
 use mathlib.Core.Logic.{_≢_, _⊎_, ⊎-elim}
 use mathlib.Core.List.{List}
@@ -9,9 +10,9 @@ use native.Mathlib.Omega.{arith}
 use lib.ListN.{length, getD}
 use lib.Dec.{ltb}
 use borrow.Author.Tests.{ltb-true, ltb-false, lt-ltb, le-ltb}
-use Rattle.model.specs.Basics.{pick, bool, pick-elim}
-use Rattle.model.specs.Bytes.{stored, part, length-stored, length-part, stored-before, stored-in, stored-after, part-at}
+use Rattle.model.specs.Bytes.{stored, part}
 use Rattle.model.specs.Memories.{externalBase}
+use Rattle.model.specs.Laws.{bool, cond-elim, length-stored, length-part, stored-before, stored-in, stored-after, part-at}
 use Rattle.model.proofs.Invariant.{Allowed, carry}
 
 -- ---- stored, said once: a byte inside is that of the bytes put there, a byte outside is what it was
@@ -50,7 +51,7 @@ other-slot n m bs p p′ o f c h i k =
 
 -- ---- the two memories as one
 unfoldable pub memoryByte : List ℕ → List ℕ → ℕ → ℕ
-memoryByte m e a = pick (ltb a externalBase) (getD m a 0) (getD e (a - externalBase) 0)
+memoryByte m e a = cond (ltb a externalBase) (getD m a 0) (getD e (a - externalBase) 0)
 
 pub memory-low : (m e : List ℕ) (a : ℕ) → a < externalBase → memoryByte m e a ≡ getD m a 0
 unfolding memoryByte
@@ -62,10 +63,10 @@ memory-high m e a h = rw (le-ltb a externalBase h)
 
 -- bytes put at an address: into the memory that it lies in
 unfoldable pub lowStored : List ℕ → ℕ → List ℕ → List ℕ
-lowStored m a bs = pick (ltb a externalBase) (stored m a bs) m
+lowStored m a bs = cond (ltb a externalBase) (stored m a bs) m
 
 unfoldable pub highStored : List ℕ → ℕ → List ℕ → List ℕ
-highStored e a bs = pick (ltb a externalBase) e (stored e (a - externalBase) bs)
+highStored e a bs = cond (ltb a externalBase) e (stored e (a - externalBase) bs)
 
 pub low-length : (m bs : List ℕ) (a : ℕ) → length (lowStored m a bs) ≡ length m
 unfolding lowStored
@@ -83,17 +84,17 @@ pub record Fits (m e : List ℕ) (a n : ℕ) : Type 0 where
 -- the n bytes at a, read: so many, and each the byte of its address
 module _ (m e : List ℕ) (a n : ℕ) (r : Fits m e a n) where
   abbrev read : List ℕ
-  read = pick (ltb a externalBase) (part m a n) (part e (a - externalBase) n)
+  read = cond (ltb a externalBase) (part m a n) (part e (a - externalBase) n)
 
   pub read-length : length read ≡ n
   read-length =
-      pick-elim (λ (l : List ℕ). length l ≡ n) (ltb a externalBase) (part m a n) (part e (a - externalBase) n)
+      cond-elim (λ (l : List ℕ). length l ≡ n) (ltb a externalBase) (part m a n) (part e (a - externalBase) n)
       (λ t. length-part m a n (r .low (ltb-true a externalBase t)))
       (λ t. let h = ltb-false a externalBase t in let f = r .high h in length-part e (a - externalBase) n (omega arith))
 
   pub read-at : length m ≤ externalBase → (j : ℕ) → j < n → getD read j 0 ≡ memoryByte m e (a + j)
   read-at hm j h =
-      pick-elim (λ (l : List ℕ). getD l j 0 ≡ memoryByte m e (a + j)) (ltb a externalBase) (part m a n) (part e (a - externalBase) n)
+      cond-elim (λ (l : List ℕ). getD l j 0 ≡ memoryByte m e (a + j)) (ltb a externalBase) (part m a n) (part e (a - externalBase) n)
       (λ t. let l = ltb-true a externalBase t in let f = r .low l in part-at m a n j f h ∙ sym (memory-low m e (a + j) (omega arith)))
       (λ t. let l = ltb-false a externalBase t in let f = r .high l in
       let i : a + j - externalBase ≡ a - externalBase + j = omega arith in

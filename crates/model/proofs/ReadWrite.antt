@@ -3,19 +3,21 @@
 -- Why: a read reads the L1D way that holds the line, found or just filled, or memory that no line holds. A write goes to one place, the highest that holds the
 -- line, which becomes dirty: so every place below that is behind now has a dirty line above it, and no other place holds the address.
 use Prim.Native.Nat.{ℕ, suc, _+_, _%_, _≤_, _<_}
-use mathlib.Core.Bool.{true, false}
+use mathlib.Core.Bool.{true, false, cond}
 use mathlib.Core.Path.{_≡_, refl, sym, ap, _∙_, subst}
 use mathlib.Core.Logic.{_≢_}
 use mathlib.Core.List.{List, []}
 use native.Mathlib.Omega.{arith}
 use lib.ListN.{length, getD}
 use borrow.Author.Tests.{le-ltb, ne-eqb}
-use Rattle.model.specs.Basics.{pick, false-true, pick-elim}
-use Rattle.model.specs.Bytes.{stored, length-stored, length-part, part-at}
+use Rattle.model.specs.Bytes.{stored}
 use Rattle.model.specs.Memories.{externalBase}
-use Rattle.model.specs.Lines.{l1dSetOf, l1dData, l1dLine, l2Line, lineOf, l1dVictim, l2Sets, l2SetIn}
-use Rattle.model.specs.Records.{State, state, l2SetsOf, l2SetOf, l2Data, marBit, l1dSetAt, l1dLineAt, l2LineAt, l1dSetLine, l2SetLine}
-use Rattle.model.specs.Access.{l1dWay, inL1d, cacheable, homeIsL2, memoryPart, putMemory, useL1d, putL2, putL1d, evictL1d, l2WayFor, fetchL2, fillL1d, homeServer, Access, access, l1dBytes, readHit, readFilled, readEmptied, readMiss, readAccess, writeHit, writeHome, writeMiss, writeAccess}
+use Rattle.model.specs.Lines.{l1dSetOf, l1dData, l1dLine, l2Line, lineOf, l2Sets, l2SetIn}
+use Rattle.model.specs.Records.{State, state, l2SetsOf, l2SetOf, l2Data, marBit, l1dSetAt, l1dLineAt, l2LineAt, withL1dLine, withL2Line}
+use Rattle.model.specs.Ways.{l1dVictim, l1dWay, inL1d, useL1d}
+use Rattle.model.specs.Access.{cacheable, putL1d, evictL1d, fillL1d, Access, access, l1dBytes, readHit, readFilled, readEmptied, readMiss, readAccess, writeHit, writeHome, writeMiss, writeAccess}
+use Rattle.model.specs.Homes.{homeIsL2, memoryPart, putMemory, putL2, l2WayFor, fetchL2, homeServer}
+use Rattle.model.specs.Laws.{false-true, cond-elim, length-stored, length-part, part-at}
 use Rattle.model.specs.declared.Line.{Line}
 use Rattle.model.specs.declared.Record.{Record}
 use Rattle.model.proofs.Level.{Valid, Free, Replaced}
@@ -97,10 +99,10 @@ module _ (z : State) (F : Allowed) (q : Good z F) (a n : ℕ) (f : AccessFits (l
         right = r .right;
       }
 
-  cacheable-read : ReadGood z F a (suc n) (pick (inL1d z a) (readHit (suc n) a z) (readMiss (suc n) a z))
+  cacheable-read : ReadGood z F a (suc n) (cond (inL1d z a) (readHit (suc n) a z) (readMiss (suc n) a z))
   unfolding readHit readMiss
   cacheable-read =
-      pick-elim (ReadGood z F a (suc n)) (inL1d z a) (readHit (suc n) a z) (readMiss (suc n) a z)
+      cond-elim (ReadGood z F a (suc n)) (inL1d z a) (readHit (suc n) a z) (readMiss (suc n) a z)
       (λ y. held-read z F q (l1dWay z a) 1 a (suc n) row (l1d-hit z a y))
       (λ y. read-miss (l1d-miss z F q a y) (l1dVictim (l1dSetAt (z .rec) (l1dSetOf a))) (l1d-victim-bound (l1dSetAt (z .rec) (l1dSetOf a))))
 
@@ -108,7 +110,7 @@ pub read-good : (z : State) (F : Allowed) → Good z F → (a n : ℕ) → Acces
     ReadGood z F a (suc n) (readAccess (suc n) a z)
 unfolding readAccess memoryPart
 read-good z F q a n f h =
-    pick-elim (ReadGood z F a (suc n)) (cacheable (z .rec) a) (pick (inL1d z a) (readHit (suc n) a z) (readMiss (suc n) a z)) (access 4 (memoryPart a (suc n) z) z)
+    cond-elim (ReadGood z F a (suc n)) (cacheable (z .rec) a) (cond (inL1d z a) (readHit (suc n) a z) (readMiss (suc n) a z)) (access 4 (memoryPart a (suc n) z) z)
     (λ t. cacheable-read z F q a n f (cacheable-yes (z .rec) a t) h)
     (λ t. let c = cacheable-no (z .rec) a t in let c₀ = c .0 in
     let m = q .tidy .sizes .l2Length in let e = q .tidy .sizes .extLength in let mx = q .tidy .sizes .l2Most in
@@ -155,7 +157,7 @@ module _ (z : State) (F F′ : Allowed) (q : Good z F) (a : ℕ) (bs : List ℕ)
 
   -- into the L2 line that holds a
   putL2-good : (t v : ℕ) → Valid (l2Level z) t v → l2LineAt (z .rec) t v .address ≡ l2Line a → Free 64 (l1dLevel z) a → Step z F′ (putL2 t v a bs z)
-  unfolding putL2 l2SetLine marBit
+  unfolding putL2 withL2Line marBit
   putL2-good t v k e fr =
       let bb = l2-bounds z F q t v k in let ht = bb .0 in let hv = bb .1 in
       let o = a % 128 in
@@ -182,7 +184,7 @@ module _ (z : State) (F F′ : Allowed) (q : Good z F) (a : ℕ) (bs : List ℕ)
 
   -- into the L1D line that holds a
   putL1d-good : (w : ℕ) → Valid (l1dLevel z) (l1dSetOf a) w → l1dLineAt (z .rec) (l1dSetOf a) w .address ≡ l1dLine a → Step z F′ (putL1d w a bs z)
-  unfolding putL1d l1dSetLine marBit
+  unfolding putL1d withL1dLine marBit
   putL1d-good w k e =
       let s = l1dSetOf a in
       let hs : s < 128 = omega arith in
@@ -229,7 +231,7 @@ module _ (z : State) (F F′ : Allowed) (q : Good z F) (a n : ℕ) (bs : List �
       let z₁ = fetchL2 a z in let v = l2WayFor z a in
       let fr : Free 64 (l1dLevel z₁) a = λ s′ w′ k e. let x = g .fewer s′ w′ k in l1d-miss z F q a y s′ w′ (rw x at k) (rw x at e) in
       let done : (x : State) → Step z₁ F′ x → Step z F′ x = λ x p. record { good = p .good; kept = kept-trans z z₁ x (g .kept) (p .kept) } in
-      pick-elim (Step z F′) (homeIsL2 (z₁ .rec) a) (putL2 (l2SetOf (z₁ .rec) a) v a bs z₁) (putMemory a bs z₁)
+      cond-elim (Step z F′) (homeIsL2 (z₁ .rec) a) (putL2 (l2SetOf (z₁ .rec) a) v a bs z₁) (putMemory a bs z₁)
       (λ d. let h = hit-same z z₁ a v (g .kept .mode) (g .has (sym (home-same z z₁ a (g .kept .mode)) ∙ d)) in
       done (putL2 (l2SetOf (z₁ .rec) a) v a bs z₁) (putL2-good z₁ F F′ (g .good) a bs wr row-bytes (l2SetOf (z₁ .rec) a) v (h .valid) (h .address) fr))
       (λ d. done (putMemory a bs z₁)
@@ -238,7 +240,7 @@ module _ (z : State) (F F′ : Allowed) (q : Good z F) (a n : ℕ) (bs : List �
   pub write-good : Step z F′ (writeAccess a bs z .next)
   unfolding writeAccess
   write-good =
-      pick-elim After (cacheable (z .rec) a) (pick (inL1d z a) (writeHit a bs z) (writeMiss a bs z)) (access 4 [] (putMemory a bs z))
-      (λ t. pick-elim After (inL1d z a) (writeHit a bs z) (writeMiss a bs z) write-hit (write-miss t))
+      cond-elim After (cacheable (z .rec) a) (cond (inL1d z a) (writeHit a bs z) (writeMiss a bs z)) (access 4 [] (putMemory a bs z))
+      (λ t. cond-elim After (inL1d z a) (writeHit a bs z) (writeMiss a bs z) write-hit (write-miss t))
       (λ t. let c = cacheable-no (z .rec) a t in
       putMemory-good z F F′ q a bs wr row-bytes bytes-fit (l1d-uncacheable z F q a (c .0) (c .1)) (l2-uncacheable z F q a (c .0) (c .1)))

@@ -2,18 +2,18 @@
 -- state good by the same F with L, E and the mode as they were; and every command, of any code, leaves a well-formed state (`step-well`).
 -- Why: the lemmas of the single commands, and a refused command changes nothing. At a written-out code the definitions of `step` compute.
 use Prim.Native.Nat.{ℕ, zero, suc, _≤_}
-use mathlib.Core.Bool.{Bool, true, false}
+use mathlib.Core.Bool.{cond, and-false}
 use mathlib.Core.Path.{_≡_, refl, ap}
 use native.Mathlib.Omega.{arith}
 use lib.Dec.{leb, eqb}
 use borrow.Author.Tests.{eqb-true, ne-eqb, lt-leb}
-use Rattle.model.specs.Basics.{pick, both, pick-elim}
 use Rattle.model.specs.Records.{State, sramOf}
 use Rattle.model.specs.Modes.{flushL1d, flushL2, changeMode, changeMar}
 use Rattle.model.specs.Commands.{l2WritebackAll, l2WritebackInvalidateAll, l2WritebackBlock, l2WritebackInvalidateBlock, l2InvalidateBlock, l1dWritebackInvalidateBlock, l1dInvalidateBlock}
 use Rattle.model.specs.Refusals.{accessDue, blockDue, modeDue, marDue}
 use Rattle.model.specs.Trace.{command}
 use Rattle.model.specs.Calls.{Reply, refused, carriedOut, commandDue, readDone, writeDone, commandState, accepted, step}
+use Rattle.model.specs.Laws.{cond-elim}
 use Rattle.model.specs.declared.Command.{Command}
 use Rattle.model.proofs.Invariant.{Allowed, Layout}
 use Rattle.model.proofs.Good.{Good, Anything, Well}
@@ -55,8 +55,8 @@ quiet-step z F z′ s = record { good = s .good; mode = s .kept .mode; l2len = s
 
 module _ (z : State) (F : Allowed) (q : Good z F) (a b v : ℕ) where
   -- carried out where its number is 0, else refused
-  quiet-unless : (d : ℕ) (z′ : State) → (d ≡ 0 → Quiet z F z′) → Quiet z F (pick (eqb d 0) (carriedOut z′) (refused d z) .next)
-  quiet-unless d z′ h = pick-elim (λ (r : Reply). Quiet z F (r .next)) (eqb d 0) (carriedOut z′) (refused d z) (λ t. h (eqb-true d 0 t)) (λ _. quiet-refl z F q)
+  quiet-unless : (d : ℕ) (z′ : State) → (d ≡ 0 → Quiet z F z′) → Quiet z F (cond (eqb d 0) (carriedOut z′) (refused d z) .next)
+  quiet-unless d z′ h = cond-elim (λ (r : Reply). Quiet z F (r .next)) (eqb d 0) (carriedOut z′) (refused d z) (λ t. h (eqb-true d 0 t)) (λ _. quiet-refl z F q)
 
   pub quiet-2 : Quiet z F (step (command 2 a b v) z .next)
   unfolding step commandDue accepted commandState
@@ -93,8 +93,8 @@ module _ (z : State) (F : Allowed) (q : Good z F) (a b v : ℕ) where
 -- ---- every command keeps a well-formed state
 module _ (z : State) (h : Well z) (a b v : ℕ) where
   -- any reply whose accepted form leaves a well-formed state
-  well-unless : (d : ℕ) (r : Reply) → (d ≡ 0 → Well (r .next)) → Well (pick (eqb d 0) r (refused d z) .next)
-  well-unless d r f = pick-elim (λ (x : Reply). Well (x .next)) (eqb d 0) r (refused d z) (λ t. f (eqb-true d 0 t)) (λ _. h)
+  well-unless : (d : ℕ) (r : Reply) → (d ≡ 0 → Well (r .next)) → Well (cond (eqb d 0) r (refused d z) .next)
+  well-unless d r f = cond-elim (λ (x : Reply). Well (x .next)) (eqb d 0) r (refused d z) (λ t. f (eqb-true d 0 t)) (λ _. h)
 
   well-0 : Well (step (command 0 a b v) z .next)
   unfolding step commandDue accepted readDone
@@ -127,29 +127,18 @@ module _ (z : State) (h : Well z) (a b v : ℕ) where
       newMode-good (flushL2 (flushL1d z)) Anything Anything (o .step .good) a (m .0) (rw (o .step .kept .l2len) (m .1)) (o .l1dNone) (o .l2Clean)
       (λ _ _ _ _ _. refl) (λ _ _ _. refl) (λ _ _ _ _. refl))
 
-both-false : (b : Bool) → both b false ≡ false
-both-false true = refl
-both-false false = refl
-
--- a code that the trace lacks does nothing
-pub other-code : (k a b v : ℕ) (z : State) → 12 ≤ k → step (command k a b v) z ≡ carriedOut z
-unfolding step commandDue accepted commandState
+-- an unknown code is refused with 11
+pub other-code : (k a b v : ℕ) (z : State) → 12 ≤ k → step (command k a b v) z ≡ refused 11 z
+unfolding step commandDue
 other-code k a b v z h =
     rw (
       ne-eqb k 0 (omega arith),
       ne-eqb k 1 (omega arith),
       lt-leb k 8 (omega arith),
-      both-false (leb 4 k),
+      and-false (leb 4 k),
       ne-eqb k 10 (omega arith),
       ne-eqb k 11 (omega arith),
-      ne-eqb k 2 (omega arith),
-      ne-eqb k 3 (omega arith),
-      ne-eqb k 4 (omega arith),
-      ne-eqb k 5 (omega arith),
-      ne-eqb k 6 (omega arith),
-      ne-eqb k 7 (omega arith),
-      ne-eqb k 8 (omega arith),
-      ne-eqb k 9 (omega arith),
+      lt-leb k 11 (omega arith),
     ) refl
 
 pub step-well : (c : Command) (z : State) → Well z → Well (step c z .next)

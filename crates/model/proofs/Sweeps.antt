@@ -11,13 +11,16 @@ use native.Mathlib.Omega.{arith}
 use lib.ListN.{getD}
 use lib.Dec.{eqb}
 use borrow.Author.Tests.{eqb-true, eqb-false}
-use Rattle.model.specs.Basics.{each, bool, false-true, pick-elim}
+use Rattle.model.specs.Basics.{each}
 use Rattle.model.specs.Memories.{externalBase}
 use Rattle.model.specs.Lines.{l1dSetOf, emptyLine, l2Sets}
 use Rattle.model.specs.Records.{State, l2SetsOf, l2SetOf, l1dLineAt, l2LineAt}
-use Rattle.model.specs.Access.{l1dWay, l2Way, inL1d, inL2, evictL1d, writeOutL2, writebackL2, evictL2}
-use Rattle.model.specs.Commands.{linesTouched, eachTouched, eachL2, atL2, atL1d, unlessMode0, l2WritebackAll, l2WritebackInvalidateAll, l2WritebackBlock, l2WritebackInvalidateBlock, l1dWritebackInvalidateBlock}
+use Rattle.model.specs.Ways.{l1dWay, l2Way, inL1d, inL2}
+use Rattle.model.specs.Access.{evictL1d}
+use Rattle.model.specs.Homes.{writeOutL2, writebackL2, evictL2}
 use Rattle.model.specs.Modes.{flushL1d, flushL2}
+use Rattle.model.specs.Commands.{linesTouched, eachTouched, eachL2, atL2, atL1d, unlessMode0, l2WritebackAll, l2WritebackInvalidateAll, l2WritebackBlock, l2WritebackInvalidateBlock, l1dWritebackInvalidateBlock}
+use Rattle.model.specs.Laws.{bool, false-true, cond-elim, no-ways}
 use Rattle.model.specs.declared.Line.{Line}
 use Rattle.model.specs.declared.Record.{Record}
 use Rattle.model.proofs.Level.{Valid, same-slot}
@@ -108,7 +111,7 @@ module _ (z : State) (F : Allowed) (q : Good z F) where
   pub atL1d-good : (f : ℕ → ℕ → State → State) → ((s w : ℕ) → s < 128 → w < 2 → Step z F (f s w z)) → (a : ℕ) → Step z F (atL1d f a z)
   unfolding atL1d
   atL1d-good f h a =
-      pick-elim (Step z F) (inL1d z a) (f (l1dSetOf a) (l1dWay z a) z) z
+      cond-elim (Step z F) (inL1d z a) (f (l1dSetOf a) (l1dWay z a) z) z
       (λ y. h (l1dSetOf a) (l1dWay z a) (omega arith) (l1d-hit z a y .way)) (λ _. step-refl z F q)
 
   pub atL2-good : (f : ℕ → ℕ → State → State) → ((t v : ℕ) → Valid (l2Level z) t v → t < l2SetsOf (z .rec) → v < 4 → Step z F (f t v z)) → (a : ℕ) →
@@ -116,12 +119,12 @@ module _ (z : State) (F : Allowed) (q : Good z F) where
   unfolding atL2
   atL2-good f h a =
       let t = l2SetOf (z .rec) a in let v = l2Way z a in
-      pick-elim (Step z F) (inL2 z a) (f t v z) z
+      cond-elim (Step z F) (inL2 z a) (f t v z) z
       (λ y. let p = l2-hit z a y in h t v (p .valid) (l2-bounds z F q t v (p .valid) .0) (p .way)) (λ _. step-refl z F q)
 
   pub unless-good : (f : State → State) → Step z F (f z) → Step z F (unlessMode0 f z)
   unfolding unlessMode0
-  unless-good f s = pick-elim (Step z F) (eqb (l2SetsOf (z .rec)) 0) z (f z) (λ _. step-refl z F q) (λ _. s)
+  unless-good f s = cond-elim (Step z F) (eqb (l2SetsOf (z .rec)) 0) z (f z) (λ _. step-refl z F q) (λ _. s)
 
 evictL1d-step : (z : State) (F : Allowed) → Good z F → (s w : ℕ) → s < 128 → w < 2 → Step z F (evictL1d s w z)
 evictL1d-step z F q s w hs hw = let l = evictL1d-good z F q s w hs hw .left in record { good = l .good; kept = l .kept }
@@ -140,11 +143,11 @@ module _ (F : Allowed) where
 module _ (z : State) (F : Allowed) (q : Good z F) where
   pub l2WritebackAll-good : SweptTo z F (l2SetsOf (z .rec) * 4) (l2WritebackAll z)
   unfolding l2WritebackAll
-  l2WritebackAll-good = sweep z F q writebackL2 (writebackL2-sweeps F)
+  l2WritebackAll-good = rw (no-ways writebackL2 z) (sweep z F q writebackL2 (writebackL2-sweeps F))
 
   pub l2WritebackInvalidateAll-good : SweptTo z F (l2SetsOf (z .rec) * 4) (l2WritebackInvalidateAll z)
   unfolding l2WritebackInvalidateAll
-  l2WritebackInvalidateAll-good = sweep z F q evictL2 (evictL2-sweeps F)
+  l2WritebackInvalidateAll-good = rw (no-ways evictL2 z) (sweep z F q evictL2 (evictL2-sweeps F))
 
   l2-block : (f : ℕ → ℕ → State → State) → Sweeps F f → (b c : ℕ) → Step z F (unlessMode0 (eachTouched 128 (atL2 f) b c) z)
   l2-block f h b c =

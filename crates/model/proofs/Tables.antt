@@ -12,9 +12,10 @@ use lib.ListN.{getD, set, length, replicate, length-set, length-replicate, getD-
 use lib.Seq.{getD-set-same, getD-set-other}
 use lib.Dec.{ltb, eqb}
 use borrow.Author.Tests.{ltb-true, ltb-false, eqb-true, eqb-false}
-use Rattle.model.specs.Basics.{bool, any, false-true}
+use Rattle.model.specs.Basics.{anyOf}
 use Rattle.model.specs.Lines.{emptyLine, Permutation2, Permutation4, l1dPut, l2Put}
 use Rattle.model.specs.Records.{noL1dSet, noL2Set}
+use Rattle.model.specs.Laws.{bool, false-true}
 use Rattle.model.specs.declared.Line.{Line}
 use Rattle.model.specs.declared.L1dSet.{L1dSet}
 use Rattle.model.specs.declared.L2Set.{L2Set}
@@ -103,8 +104,8 @@ pub record Table (k : Kind) (xs : List (k .OneSet)) : Type 0 where
   pub empty : (s w : ℕ) → lineIn k xs s w .valid ≡ false → lineIn k xs s w ≡ emptyLine
 
 -- ---- what the tests over lists tell, element by element
-pub any-none {ℓ} : {A : Type ℓ} (p : A → Bool) (d : A) → p d ≡ false → (xs : List A) → any p xs ≡ false → (i : ℕ) → p (getD xs i d) ≡ false
-unfolding any
+pub any-none {ℓ} : {A : Type ℓ} (p : A → Bool) (d : A) → p d ≡ false → (xs : List A) → anyOf p xs ≡ false → (i : ℕ) → p (getD xs i d) ≡ false
+unfolding anyOf
 any-none p d e [] h i = e
 any-none p d e (x ∷ xs) h zero = bool (p x) (λ t. false-true (sym (rw t at h))) (λ t. t)
 any-none p d e (x ∷ xs) h (suc i) = bool (p x) (λ t. false-true (sym (rw t at h))) (λ t. any-none p d e xs (rw t at h) i)
@@ -237,11 +238,11 @@ module _ (k : Kind) (xs : List (k .OneSet)) where
       g (ap (λ (v : k .OneSet). getD (k .lines v) w emptyLine) (List·getD-eq-default xs (k .none) {n = s} (omega arith)) ∙ none-line w))
 
   -- ---- a test that finds no line of the table finds none in any slot
-  pub none-found : (p : Line → Bool) → p emptyLine ≡ false → any (λ (v : k .OneSet). any p (k .lines v)) xs ≡ false → (s w : ℕ) → p (lineIn k xs s w) ≡ false
-  unfolding any
+  pub none-found : (p : Line → Bool) → p emptyLine ≡ false → anyOf (λ (v : k .OneSet). anyOf p (k .lines v)) xs ≡ false → (s w : ℕ) → p (lineIn k xs s w) ≡ false
+  unfolding anyOf
   none-found p e h s w =
       any-none p emptyLine e (k .lines (setIn k xs s))
-      (any-none (λ (v : k .OneSet). any p (k .lines v)) (k .none) (ap (λ (l : List Line). any p l) (k .none-lines)) xs h s) w
+      (any-none (λ (v : k .OneSet). anyOf p (k .lines v)) (k .none) (ap (λ (l : List Line). anyOf p l) (k .none-lines)) xs h s) w
 
 -- ---- a table of equal sets, all of whose lines are empty
 module _ (k : Kind) (v : k .OneSet) (n : ℕ) (all : (w : ℕ) → getD (k .lines v) w emptyLine ≡ emptyLine) where

@@ -2,7 +2,7 @@
 -- which the record's types give and no test asks for, are a hypothesis (`Shape`). So a call's state is never refused by the next call: `call-well`, `call-shape`.
 -- Why: each test of the record is one of the fields of `Well`, line by line and set by set; what both caches need is shown once over a table of sets.
 use Prim.Native.Nat.{ℕ, zero, suc, _+_, _/_, _%_, _≤_, _<_}
-use mathlib.Core.Bool.{Bool, true, false, not}
+use mathlib.Core.Bool.{Bool, true, false, not, cond, _&&_}
 use mathlib.Core.Path.{_≡_, refl, sym, ap, _∙_}
 use mathlib.Core.Logic.{_≢_}
 use mathlib.Core.List.{List, [], _∷_}
@@ -11,12 +11,13 @@ use lib.ListN.{length, getD}
 use lib.Seq.{ext-getD}
 use lib.Dec.{ltb, leb, eqb}
 use borrow.Author.Tests.{ltb-true, ltb-false, leb-true, le-leb, eqb-true, eqb-false, eq-eqb, ne-eqb, lt-ltb, le-ltb}
-use Rattle.model.specs.Basics.{pick, both, any, all, bool, false-true, both-true, pick-elim}
+use Rattle.model.specs.Basics.{anyOf, allIndexed}
 use Rattle.model.specs.Memories.{externalBase, legalL2, legalExternal, cacheSize, isMode}
 use Rattle.model.specs.Lines.{l1dSetOf, l1dData, l2Line, emptyLine, holds, Permutation2, Permutation4}
-use Rattle.model.specs.Records.{State, sramOf, l2SetsOf, l2SetOf, l2Data, marBit, noL1dSet, noL2Set, l1dSetAt, l2SetAt, l1dLineAt, l2LineAt, legalSizes, permuted2, permuted4, emptyWay, insideL2Line, l1dPlace, l2Place, l1dLineOk, l2LineOk, noneTwice, freshUnlessUsed, l1dSetOk, l2SetOk, wellFormed, freshL2Set}
+use Rattle.model.specs.Records.{State, sramOf, l2SetsOf, l2SetOf, l2Data, marBit, noL1dSet, noL2Set, l1dSetAt, l2SetAt, l1dLineAt, l2LineAt, legalSizes, permuted2, permuted4, emptyWay, insideL2Line, l1dPlace, l2Place, l1dLineOk, l2LineOk, noneTwice, freshUnlessUsed, l1dSetOk, l2SetOk, wellFormed, freshL2Set, coveredByL2, ownL1dSet, l1dRegion, ownL2Set, inSram, l2Region, inCacheable, inUse}
 use Rattle.model.specs.Refusals.{first, unless, lentL1d, lentL2, lentExternal, lentDue}
 use Rattle.model.specs.Calls.{Reply, refused, step, call}
+use Rattle.model.specs.Laws.{bool, false-true, both-true, cond-elim}
 use Rattle.model.specs.declared.Line.{Line}
 use Rattle.model.specs.declared.Order2.{Order2}
 use Rattle.model.specs.declared.Order4.{Order4}
@@ -35,7 +36,7 @@ use Rattle.model.proofs.Steps.{step-well}
 -- ---- several tests, joined by `both`: each of them holds, by its place; and from all of them
 abbrev every : Bool → List Bool → Bool
 every b [] = b
-every b (c ∷ cs) = both b (every c cs)
+every b (c ∷ cs) = b && every c cs
 
 abbrev Every : Bool → List Bool → Type 0
 Every b [] = b ≡ true
@@ -70,35 +71,35 @@ differ-makes : (a b : ℕ) → a ≢ b → not (eqb a b) ≡ true
 differ-makes a b n = not-makes (eqb a b) (ne-eqb a b n)
 
 -- ---- tests over lists, element by element
-all-from {ℓ} : {A : Type ℓ} (f : ℕ → A → Bool) (d : A) (xs : List A) (i : ℕ) → all f i xs ≡ true → (j : ℕ) → j < length xs → f (i + j) (getD xs j d) ≡ true
-unfolding all
+all-from {ℓ} : {A : Type ℓ} (f : ℕ → A → Bool) (d : A) (xs : List A) (i : ℕ) → allIndexed f i xs ≡ true → (j : ℕ) → j < length xs → f (i + j) (getD xs j d) ≡ true
+unfolding allIndexed
 all-from f d [] i h j k = absurd (omega arith)
-all-from f d (x ∷ xs) i h zero k = let e : i + 0 ≡ i = omega arith in rw e (both-true (f i x) (all f (suc i) xs) h .0)
+all-from f d (x ∷ xs) i h zero k = let e : i + 0 ≡ i = omega arith in rw e (both-true (f i x) (allIndexed f (suc i) xs) h .0)
 all-from f d (x ∷ xs) i h (suc j) k =
     let e : i + suc j ≡ suc i + j = omega arith in
-    rw e (all-from f d xs (suc i) (both-true (f i x) (all f (suc i) xs) h .1) j (omega arith))
+    rw e (all-from f d xs (suc i) (both-true (f i x) (allIndexed f (suc i) xs) h .1) j (omega arith))
 
-all-tells {ℓ} : {A : Type ℓ} (f : ℕ → A → Bool) (d : A) (xs : List A) → all f 0 xs ≡ true → (j : ℕ) → j < length xs → f j (getD xs j d) ≡ true
+all-tells {ℓ} : {A : Type ℓ} (f : ℕ → A → Bool) (d : A) (xs : List A) → allIndexed f 0 xs ≡ true → (j : ℕ) → j < length xs → f j (getD xs j d) ≡ true
 all-tells f d xs h j k = let e : 0 + j ≡ j = omega arith in rw e at (all-from f d xs 0 h j k)
 
-all-build {ℓ} : {A : Type ℓ} (f : ℕ → A → Bool) (d : A) (xs : List A) (i : ℕ) → ((j : ℕ) → j < length xs → f (i + j) (getD xs j d) ≡ true) → all f i xs ≡ true
-unfolding all
+all-build {ℓ} : {A : Type ℓ} (f : ℕ → A → Bool) (d : A) (xs : List A) (i : ℕ) → ((j : ℕ) → j < length xs → f (i + j) (getD xs j d) ≡ true) → allIndexed f i xs ≡ true
+unfolding allIndexed
 all-build f d [] i h = refl
 all-build f d (x ∷ xs) i h =
     let e : i + 0 ≡ i = omega arith in
-    makes (f i x) (all f (suc i) xs ∷ [])
+    makes (f i x) (allIndexed f (suc i) xs ∷ [])
     ((rw e at (h 0 (omega arith))) and all-build f d xs (suc i) (λ j k. let e′ : suc i + j ≡ i + suc j = omega arith in rw e′ (h (suc j) (omega arith))))
 
-all-makes {ℓ} : {A : Type ℓ} (f : ℕ → A → Bool) (d : A) (xs : List A) → ((j : ℕ) → j < length xs → f j (getD xs j d) ≡ true) → all f 0 xs ≡ true
+all-makes {ℓ} : {A : Type ℓ} (f : ℕ → A → Bool) (d : A) (xs : List A) → ((j : ℕ) → j < length xs → f j (getD xs j d) ≡ true) → allIndexed f 0 xs ≡ true
 all-makes f d xs h = all-build f d xs 0 (λ j k. let e : 0 + j ≡ j = omega arith in rw e (h j k))
 
-any-tells {ℓ} : {A : Type ℓ} (p : A → Bool) (d : A) (xs : List A) → any p xs ≡ true → (j : ℕ) × (p (getD xs j d) ≡ true)
-unfolding any
+any-tells {ℓ} : {A : Type ℓ} (p : A → Bool) (d : A) (xs : List A) → anyOf p xs ≡ true → (j : ℕ) × (p (getD xs j d) ≡ true)
+unfolding anyOf
 any-tells p d [] h = false-true h
 any-tells p d (x ∷ xs) h = bool (p x) (λ t. (zero, t)) (λ t. let r = any-tells p d xs (rw t at h) in (suc (r .0), r .1))
 
-any-makes {ℓ} : {A : Type ℓ} (p : A → Bool) (d : A) → p d ≡ false → (xs : List A) (j : ℕ) → p (getD xs j d) ≡ true → any p xs ≡ true
-unfolding any
+any-makes {ℓ} : {A : Type ℓ} (p : A → Bool) (d : A) → p d ≡ false → (xs : List A) (j : ℕ) → p (getD xs j d) ≡ true → anyOf p xs ≡ true
+unfolding anyOf
 any-makes p d n [] j h = false-true (sym n ∙ h)
 any-makes p d n (x ∷ xs) zero h = rw h refl
 any-makes p d n (x ∷ xs) (suc j) h = bool (p x) (λ t. rw t refl) (λ t. rw t (any-makes p d n xs j h))
@@ -112,9 +113,9 @@ twice-no : (x : Line) (xs : List Line) → noneTwice (x ∷ xs) ≡ true → (k 
     getD xs k emptyLine .address ≢ x .address
 unfolding noneTwice holds
 twice-no x xs h k v v′ e =
-    let p = tells (not (both (x .valid) (any (λ y. holds y (x .address)) xs))) (noneTwice xs ∷ []) h in
-    let n = not-tells (both (x .valid) (any (λ y. holds y (x .address)) xs)) (p 0) in
-    let n′ : any (λ y. holds y (x .address)) xs ≡ false = rw v at n in
+    let p = tells (not (x .valid && anyOf (λ y. holds y (x .address)) xs)) (noneTwice xs ∷ []) h in
+    let n = not-tells (x .valid && anyOf (λ y. holds y (x .address)) xs) (p 0) in
+    let n′ : anyOf (λ y. holds y (x .address)) xs ≡ false = rw v at n in
     false-true (sym (any-none (λ y. holds y (x .address)) emptyLine refl xs n′ k) ∙ holds-yes (getD xs k emptyLine) (x .address) v′ e)
 
 once-tells : (xs : List Line) → noneTwice xs ≡ true → OnceIn xs
@@ -124,17 +125,17 @@ once-tells (x ∷ xs) h zero zero v v′ e = refl
 once-tells (x ∷ xs) h zero (suc k) v v′ e = absurd (twice-no x xs h k v v′ (sym e))
 once-tells (x ∷ xs) h (suc j) zero v v′ e = absurd (twice-no x xs h j v′ v e)
 once-tells (x ∷ xs) h (suc j) (suc k) v v′ e =
-    let p = tells (not (both (x .valid) (any (λ y. holds y (x .address)) xs))) (noneTwice xs ∷ []) h in
+    let p = tells (not (x .valid && anyOf (λ y. holds y (x .address)) xs)) (noneTwice xs ∷ []) h in
     ap suc (once-tells xs (p 1) j k v v′ e)
 
 once-makes : (xs : List Line) → OnceIn xs → noneTwice xs ≡ true
 unfolding noneTwice
 once-makes [] h = refl
 once-makes (x ∷ xs) h =
-    makes (not (both (x .valid) (any (λ y. holds y (x .address)) xs))) (noneTwice xs ∷ [])
-    (not-makes (both (x .valid) (any (λ y. holds y (x .address)) xs))
+    makes (not (x .valid && anyOf (λ y. holds y (x .address)) xs)) (noneTwice xs ∷ [])
+    (not-makes (x .valid && anyOf (λ y. holds y (x .address)) xs)
     (bool (x .valid)
-    (λ v. rw v (bool (any (λ y. holds y (x .address)) xs)
+    (λ v. rw v (bool (anyOf (λ y. holds y (x .address)) xs)
     (λ t. let r = any-tells (λ y. holds y (x .address)) emptyLine xs t in
     let p = holds-tells (getD xs (r .0) emptyLine) (x .address) (r .1) in
     let e : suc (r .0) ≡ 0 = h 0 (suc (r .0)) v (p .0) (sym (p .1)) in absurd (omega arith))
@@ -217,70 +218,74 @@ unfolding freshUnlessUsed
 fresh-order-makes r t o f = bool (ltb t (l2SetsOf r)) (λ y. rw y refl) (λ y. let e = f (ltb-false t (l2SetsOf r) y) in rw (y, e) refl)
 
 -- ---- a line's place in L1D
-abbrev extTests : Record → ℕ → List Bool
-extTests r a = marBit r a ∷ insideL2Line r a ∷ []
-
-abbrev l1dWhere : Record → ℕ → Bool
-l1dWhere r a = pick (ltb a externalBase) (leb (a + 64) (sramOf r)) (every (leb (a + 64) (externalBase + r .extlen)) (extTests r a))
-
 module _ (r : Record) (s w a : ℕ) (hw : w < 2) (h : l1dPlace r s a ≡ true) where
-  l1d-tests : (i : ℕ) → getD (eqb (a % 64) 0 ∷ eqb s (l1dSetOf a) ∷ l1dWhere r a ∷ []) i true ≡ true
+  l1d-tests : (i : ℕ) → getD (ownL1dSet s a ∷ l1dRegion r a ∷ coveredByL2 r a ∷ []) i true ≡ true
   unfolding l1dPlace
-  l1d-tests = tells (eqb (a % 64) 0) (eqb s (l1dSetOf a) ∷ l1dWhere r a ∷ []) h
+  l1d-tests = tells (ownL1dSet s a) (l1dRegion r a ∷ coveredByL2 r a ∷ []) h
 
-  ext-tests : externalBase ≤ a → (i : ℕ) → getD (leb (a + 64) (externalBase + r .extlen) ∷ extTests r a) i true ≡ true
-  ext-tests k = tells (leb (a + 64) (externalBase + r .extlen)) (extTests r a) (rw (le-ltb a externalBase k) at (l1d-tests 2))
+  own-tests : (eqb (a % 64) 0 ≡ true) × (eqb s (l1dSetOf a) ≡ true)
+  unfolding ownL1dSet
+  own-tests = both-true (eqb (a % 64) 0) (eqb s (l1dSetOf a)) (l1d-tests 0)
+
+  low-test : a < externalBase → leb (a + 64) (sramOf r) ≡ true
+  unfolding l1dRegion inSram
+  low-test k = rw (lt-ltb a externalBase k) at (l1d-tests 1)
+
+  high-tests : externalBase ≤ a → (leb (a + 64) (externalBase + r .extlen) ≡ true) × (marBit r a ≡ true)
+  unfolding l1dRegion inCacheable
+  high-tests k = both-true (leb (a + 64) (externalBase + r .extlen)) (marBit r a) (rw (le-ltb a externalBase k) at (l1d-tests 1))
+
+  inside-test : externalBase ≤ a → insideL2Line r a ≡ true
+  unfolding coveredByL2
+  inside-test k = rw (le-ltb a externalBase k) at (l1d-tests 2)
 
   l1d-place-tells : L1dPlaced (layoutOf r) s w a
   l1d-place-tells =
       record {
-        aligned = eqb-true (a % 64) 0 (l1d-tests 0);
-        ownSet = eqb-true s (l1dSetOf a) (l1d-tests 1);
+        aligned = eqb-true (a % 64) 0 (own-tests .0);
+        ownSet = eqb-true s (l1dSetOf a) (own-tests .1);
         way = hw;
-        low = λ k. leb-true (a + 64) (sramOf r) (rw (lt-ltb a externalBase k) at (l1d-tests 2));
-        high = λ k. leb-true (a + 64) (externalBase + r .extlen) (ext-tests k 0);
-        marSet = λ k. ext-tests k 1;
+        low = λ k. leb-true (a + 64) (sramOf r) (low-test k);
+        high = λ k. leb-true (a + 64) (externalBase + r .extlen) (high-tests k .0);
+        marSet = λ k. high-tests k .1;
       }
 
 l1d-place-makes : (r : Record) (s w a : ℕ) → L1dPlaced (layoutOf r) s w a → (externalBase ≤ a → insideL2Line r a ≡ true) → l1dPlace r s a ≡ true
-unfolding l1dPlace
+unfolding l1dPlace ownL1dSet l1dRegion inSram inCacheable coveredByL2
 l1d-place-makes r s w a p hd =
-    makes (eqb (a % 64) 0) (eqb s (l1dSetOf a) ∷ l1dWhere r a ∷ [])
-    (eq-eqb (a % 64) 0 (p .aligned)
-    and eq-eqb s (l1dSetOf a) (p .ownSet)
-    and bool (ltb a externalBase)
-    (λ t. let k = ltb-true a externalBase t in rw t (le-leb (a + 64) (sramOf r) (p .low k)))
-    (λ t. let k = ltb-false a externalBase t in
-    rw t (makes (leb (a + 64) (externalBase + r .extlen)) (extTests r a) (le-leb (a + 64) (externalBase + r .extlen) (p .high k) and p .marSet k and hd k))))
+    rw (eq-eqb (a % 64) 0 (p .aligned), eq-eqb s (l1dSetOf a) (p .ownSet))
+    (bool (ltb a externalBase)
+    (λ t. rw (t, le-leb (a + 64) (sramOf r) (p .low (ltb-true a externalBase t))) refl)
+    (λ t. let k = ltb-false a externalBase t in rw (t, le-leb (a + 64) (externalBase + r .extlen) (p .high k), p .marSet k, hd k) refl))
 
 -- ---- in L2
-abbrev l2Tests : Record → ℕ → ℕ → List Bool
-l2Tests r t a = eqb t (l2SetOf r a) ∷ ltb t (l2SetsOf r) ∷ leb externalBase a ∷ leb (a + 128) (externalBase + r .extlen) ∷ marBit r a ∷ []
-
 l2-place-tells : (r : Record) (t v a : ℕ) → v < 4 → l2Place r t a ≡ true → L2Placed (layoutOf r) t v a
-unfolding l2Place
+unfolding l2Place ownL2Set l2Region inCacheable
 l2-place-tells r t v a hv h =
-    let p = tells (eqb (a % 128) 0) (l2Tests r t a) h in
+    let p = tells (ownL2Set r t a) (inUse r t ∷ l2Region r a ∷ []) h in
+    let own = both-true (eqb (a % 128) 0) (eqb t (l2SetOf r a)) (p 0) in
+    let q = tells (leb externalBase a) (leb (a + 128) (externalBase + r .extlen) ∷ marBit r a ∷ []) (p 2) in
     record {
-      aligned = eqb-true (a % 128) 0 (p 0);
-      ownSet = eqb-true t (l2SetOf r a) (p 1);
-      setUsed = ltb-true t (l2SetsOf r) (p 2);
+      aligned = eqb-true (a % 128) 0 (own .0);
+      ownSet = eqb-true t (l2SetOf r a) (own .1);
+      setUsed = ltb-true t (l2SetsOf r) (p 1);
       way = hv;
-      low = leb-true externalBase a (p 3);
-      high = leb-true (a + 128) (externalBase + r .extlen) (p 4);
-      marSet = p 5;
+      low = leb-true externalBase a (q 0);
+      high = leb-true (a + 128) (externalBase + r .extlen) (q 1);
+      marSet = q 2;
     }
 
 l2-place-makes : (r : Record) (t v a : ℕ) → L2Placed (layoutOf r) t v a → l2Place r t a ≡ true
-unfolding l2Place
+unfolding l2Place ownL2Set l2Region inCacheable
 l2-place-makes r t v a p =
-    makes (eqb (a % 128) 0) (l2Tests r t a)
-    (eq-eqb (a % 128) 0 (p .aligned)
-    and eq-eqb t (l2SetOf r a) (p .ownSet)
-    and lt-ltb t (l2SetsOf r) (p .setUsed)
-    and le-leb externalBase a (p .low)
-    and le-leb (a + 128) (externalBase + r .extlen) (p .high)
-    and p .marSet)
+    rw (
+      eq-eqb (a % 128) 0 (p .aligned),
+      eq-eqb t (l2SetOf r a) (p .ownSet),
+      lt-ltb t (l2SetsOf r) (p .setUsed),
+      le-leb externalBase a (p .low),
+      le-leb (a + 128) (externalBase + r .extlen) (p .high),
+      p .marSet,
+    ) refl
 
 -- ---- inside a valid L2 line
 inside-tells : (z : State) (a : ℕ) → l2SetsOf (z .rec) ≢ 0 → insideL2Line (z .rec) a ≡ true → InL2Line (l2Level z) a
@@ -306,10 +311,10 @@ inside-makes z h a f =
 
 -- ---- a table of sets, said once for both caches: `place s a` tests the address of a valid line of set s
 abbrev lineTest : (ℕ → ℕ → Bool) → ℕ → ℕ → Line → Bool
-lineTest place s = λ _ x. pick (x .valid) (place s (x .address)) (emptyWay x)
+lineTest place s = λ _ x. cond (x .valid) (place s (x .address)) (emptyWay x)
 
 module _ (k : Kind) (xs : List (k .OneSet)) (shape : Shaped k xs) (place : ℕ → ℕ → Bool)
-    (lines : (s : ℕ) → s < k .sets → all (lineTest place s) 0 (k .lines (setIn k xs s)) ≡ true)
+    (lines : (s : ℕ) → s < k .sets → allIndexed (lineTest place s) 0 (k .lines (setIn k xs s)) ≡ true)
     (twice : (s : ℕ) → s < k .sets → noneTwice (k .lines (setIn k xs s)) ≡ true) where
   line-test : (s w : ℕ) → s < k .sets → w < k .ways → lineTest place s w (lineIn k xs s w) ≡ true
   line-test s w hs hw = let n = shape .ways s hs in all-tells (lineTest place s) emptyLine (k .lines (setIn k xs s)) (lines s hs) w (omega arith)
@@ -335,7 +340,7 @@ module _ (k : Kind) (xs : List (k .OneSet)) (shape : Shaped k xs) (place : ℕ �
 
 module _ (k : Kind) (xs : List (k .OneSet)) (h : Table k xs) (place : ℕ → ℕ → Bool)
     (placed : (s w : ℕ) → lineIn k xs s w .valid ≡ true → place s (lineIn k xs s w .address) ≡ true) where
-  table-lines : (s : ℕ) → all (lineTest place s) 0 (k .lines (setIn k xs s)) ≡ true
+  table-lines : (s : ℕ) → allIndexed (lineTest place s) 0 (k .lines (setIn k xs s)) ≡ true
   table-lines s =
       all-makes (lineTest place s) emptyLine (k .lines (setIn k xs s))
       (λ w _. bool (lineIn k xs s w .valid) (λ i. rw i (placed s w i)) (λ i. let e = h .empty s w i in rw e empty-makes))
@@ -388,14 +393,14 @@ module _ (l : ℕ) where
       let p = tells (eqb (l % 128) 0) (leb 128 l ∷ leb l 33554432 ∷ []) h in (leb-true 128 l (p 1), leb-true l 33554432 (p 2), eqb-true (l % 128) 0 (p 0))
 
 module _ (z : State) (h : Sizes (z .rec .l2len) (z .rec .extlen) (z .rec .mode) (z .l1d) (z .l2) (z .ext)) where
-  sizes-lent : both (lentL1d (z .l1d)) (both (lentL2 (z .rec) (z .l2)) (lentExternal (z .rec) (z .ext))) ≡ true
+  sizes-lent : (lentL1d (z .l1d) && (lentL2 (z .rec) (z .l2) && lentExternal (z .rec) (z .ext))) ≡ true
   unfolding lentL1d lentL2 lentExternal
   sizes-lent =
       let l = z .rec .l2len in let e = z .rec .extlen in
       let n = h .l2Length in let x = h .extLength in
       let a = h .l2Least in let b = h .l2Most in let c = h .l2Whole in let d = h .extLeast in let f = h .extMost in let g = h .extWhole in
       makes (eqb (length (z .l1d)) 16384)
-      (both (legalL2 (length (z .l2))) (eqb (length (z .l2)) l) ∷ both (legalExternal (length (z .ext))) (eqb (length (z .ext)) e) ∷ [])
+      ((legalL2 (length (z .l2)) && eqb (length (z .l2)) l) ∷ (legalExternal (length (z .ext)) && eqb (length (z .ext)) e) ∷ [])
       (eq-eqb (length (z .l1d)) 16384 (h .l1dLength)
       and makes (legalL2 (length (z .l2))) (eqb (length (z .l2)) l ∷ [])
       (legalL2-makes (length (z .l2)) (omega arith) (omega arith) (rw n c) and eq-eqb (length (z .l2)) l n)
@@ -414,22 +419,22 @@ module _ (z : State) (h : Sizes (z .rec .l2len) (z .rec .extlen) (z .rec .mode) 
 
 -- ---- from the test to the invariant
 module _ (z : State) (shape : Shape (z .rec)) (sizes : Sizes (z .rec .l2len) (z .rec .extlen) (z .rec .mode) (z .l1d) (z .l2) (z .ext))
-    (l1d : all (l1dSetOk (z .rec)) 0 (z .rec .l1d) ≡ true) (l2 : all (l2SetOk (z .rec)) 0 (z .rec .l2) ≡ true) where
+    (l1d : allIndexed (l1dSetOk (z .rec)) 0 (z .rec .l1d) ≡ true) (l2 : allIndexed (l2SetOk (z .rec)) 0 (z .rec .l2) ≡ true) where
   l1d-set-tests : (s : ℕ) → s < 128 → (i : ℕ) →
-      getD (all (lineTest (l1dPlace (z .rec)) s) 0 (l1dSetAt (z .rec) s .lines) ∷ noneTwice (l1dSetAt (z .rec) s .lines) ∷ permuted2 (l1dSetAt (z .rec) s .order) ∷ []) i true ≡ true
+      getD (allIndexed (lineTest (l1dPlace (z .rec)) s) 0 (l1dSetAt (z .rec) s .lines) ∷ noneTwice (l1dSetAt (z .rec) s .lines) ∷ permuted2 (l1dSetAt (z .rec) s .order) ∷ []) i true ≡ true
   unfolding l1dSetOk l1dLineOk
   l1d-set-tests s hs =
       let v = l1dSetAt (z .rec) s in let n = shape .l1d .sets in
-      tells (all (lineTest (l1dPlace (z .rec)) s) 0 (v .lines)) (noneTwice (v .lines) ∷ permuted2 (v .order) ∷ [])
+      tells (allIndexed (lineTest (l1dPlace (z .rec)) s) 0 (v .lines)) (noneTwice (v .lines) ∷ permuted2 (v .order) ∷ [])
       (all-tells (l1dSetOk (z .rec)) noL1dSet (z .rec .l1d) l1d s (omega arith))
 
   l2-set-tests : (t : ℕ) → t < 512 → (i : ℕ) →
-      getD (all (lineTest (l2Place (z .rec)) t) 0 (l2SetAt (z .rec) t .lines) ∷ noneTwice (l2SetAt (z .rec) t .lines) ∷
+      getD (allIndexed (lineTest (l2Place (z .rec)) t) 0 (l2SetAt (z .rec) t .lines) ∷ noneTwice (l2SetAt (z .rec) t .lines) ∷
       permuted4 (l2SetAt (z .rec) t .order) ∷ freshUnlessUsed (z .rec) t (l2SetAt (z .rec) t .order) ∷ []) i true ≡ true
   unfolding l2SetOk l2LineOk
   l2-set-tests t ht =
       let v = l2SetAt (z .rec) t in let n = shape .l2 .sets in
-      tells (all (lineTest (l2Place (z .rec)) t) 0 (v .lines)) (noneTwice (v .lines) ∷ permuted4 (v .order) ∷ freshUnlessUsed (z .rec) t (v .order) ∷ [])
+      tells (allIndexed (lineTest (l2Place (z .rec)) t) 0 (v .lines)) (noneTwice (v .lines) ∷ permuted4 (v .order) ∷ freshUnlessUsed (z .rec) t (v .order) ∷ [])
       (all-tells (l2SetOk (z .rec)) noL2Set (z .rec .l2) l2 t (omega arith))
 
   l1d-placed : (s w : ℕ) → Valid (l1dLevel z) s w → (s < 128) × (w < 2) × (l1dPlace (z .rec) s (l1dLineAt (z .rec) s w .address) ≡ true)
@@ -473,37 +478,37 @@ module _ (z : State) (shape : Shape (z .rec)) (sizes : Sizes (z .rec .l2len) (z 
       })
       l1d-sound l2-sound
       (λ s w i b n. let p = l1d-placed s w i in let a = l1dLineAt (z .rec) s w .address in
-      inside-tells z a n (ext-tests (z .rec) s w a (p .1) (p .2) b 2))
+      inside-tells z a n (inside-test (z .rec) s w a (p .1) (p .2) b))
 
 -- ---- checks 1 and 2 find nothing: the state is well formed
 pub due-well : (z : State) → Shape (z .rec) → lentDue z ≡ 0 → Well z
 unfolding lentDue wellFormed
 due-well z shape h =
-    let p = first-none (both (lentL1d (z .l1d)) (both (lentL2 (z .rec) (z .l2)) (lentExternal (z .rec) (z .ext)))) 0 (unless (wellFormed (z .rec)) 2) h in
+    let p = first-none (lentL1d (z .l1d) && (lentL2 (z .rec) (z .l2) && lentExternal (z .rec) (z .ext))) 0 (unless (wellFormed (z .rec)) 2) h in
     let a = tells (lentL1d (z .l1d)) (lentL2 (z .rec) (z .l2) ∷ lentExternal (z .rec) (z .ext) ∷ []) (p .0) in
-    let b = tells (legalSizes (z .rec)) (all (l1dSetOk (z .rec)) 0 (z .rec .l1d) ∷ all (l2SetOk (z .rec)) 0 (z .rec .l2) ∷ []) (unless-none (wellFormed (z .rec)) 1 (p .1)) in
+    let b = tells (legalSizes (z .rec)) (allIndexed (l1dSetOk (z .rec)) 0 (z .rec .l1d) ∷ allIndexed (l2SetOk (z .rec)) 0 (z .rec .l2) ∷ []) (unless-none (wellFormed (z .rec)) 1 (p .1)) in
     tests-well z shape (sizes-tell z (a 0) (a 1) (a 2) (b 0)) (b 1) (b 2)
 
 -- ---- and the other way: a well-formed state passes checks 1 and 2
 module _ (z : State) (h : Well z) where
-  l1d-passes : all (l1dSetOk (z .rec)) 0 (z .rec .l1d) ≡ true
+  l1d-passes : allIndexed (l1dSetOk (z .rec)) 0 (z .rec .l1d) ≡ true
   unfolding l1dSetOk l1dLineOk
   l1d-passes =
       all-makes (l1dSetOk (z .rec)) noL1dSet (z .rec .l1d)
       (λ s k. let n = h .tidy .l1d .shaped .sets in let v = l1dSetAt (z .rec) s in
-      makes (all (lineTest (l1dPlace (z .rec)) s) 0 (v .lines)) (noneTwice (v .lines) ∷ permuted2 (v .order) ∷ [])
+      makes (allIndexed (lineTest (l1dPlace (z .rec)) s) 0 (v .lines)) (noneTwice (v .lines) ∷ permuted2 (v .order) ∷ [])
       (table-lines l1dKind (z .rec .l1d) (h .tidy .l1d) (l1dPlace (z .rec))
       (λ s′ w i. let a = l1dLineAt (z .rec) s′ w .address in
       l1d-place-makes (z .rec) s′ w a (h .inv .l1dSound .place s′ w i) (λ b. inside-makes z h a (λ n. h .inv .inclusion s′ w i b n))) s
       and once-makes (v .lines) (λ w w′ i i′ e. h .inv .l1dSound .once s w s w′ i i′ e .1)
       and order2-makes (v .order) (h .tidy .l1d .ordered s (omega arith))))
 
-  l2-passes : all (l2SetOk (z .rec)) 0 (z .rec .l2) ≡ true
+  l2-passes : allIndexed (l2SetOk (z .rec)) 0 (z .rec .l2) ≡ true
   unfolding l2SetOk l2LineOk
   l2-passes =
       all-makes (l2SetOk (z .rec)) noL2Set (z .rec .l2)
       (λ t k. let n = h .tidy .l2 .shaped .sets in let v = l2SetAt (z .rec) t in
-      makes (all (lineTest (l2Place (z .rec)) t) 0 (v .lines)) (noneTwice (v .lines) ∷ permuted4 (v .order) ∷ freshUnlessUsed (z .rec) t (v .order) ∷ [])
+      makes (allIndexed (lineTest (l2Place (z .rec)) t) 0 (v .lines)) (noneTwice (v .lines) ∷ permuted4 (v .order) ∷ freshUnlessUsed (z .rec) t (v .order) ∷ [])
       (table-lines l2Kind (z .rec .l2) (h .tidy .l2) (l2Place (z .rec))
       (λ t′ w i. l2-place-makes (z .rec) t′ w (l2LineAt (z .rec) t′ w .address) (h .inv .l2Sound .place t′ w i)) t
       and once-makes (v .lines) (λ w w′ i i′ e. h .inv .l2Sound .once t w t w′ i i′ e .1)
@@ -513,7 +518,7 @@ module _ (z : State) (h : Well z) where
   pub well-formed : wellFormed (z .rec) ≡ true
   unfolding wellFormed
   well-formed =
-      makes (legalSizes (z .rec)) (all (l1dSetOk (z .rec)) 0 (z .rec .l1d) ∷ all (l2SetOk (z .rec)) 0 (z .rec .l2) ∷ [])
+      makes (legalSizes (z .rec)) (allIndexed (l1dSetOk (z .rec)) 0 (z .rec .l1d) ∷ allIndexed (l2SetOk (z .rec)) 0 (z .rec .l2) ∷ [])
       (sizes-legal z (h .tidy .sizes) and l1d-passes and l2-passes)
 
   pub well-due : lentDue z ≡ 0
@@ -535,5 +540,5 @@ call-well c z h = let e = call-step c z h in rw e (step-well c z h)
 pub call-shape : (c : Command) (z : State) → Shape (z .rec) → Shape (call c z .next .rec)
 unfolding call
 call-shape c z s =
-    pick-elim (λ (r : Reply). Shape (r .next .rec)) (eqb (lentDue z) 0) (step c z) (refused (lentDue z) z)
+    cond-elim (λ (r : Reply). Shape (r .next .rec)) (eqb (lentDue z) 0) (step c z) (refused (lentDue z) z)
     (λ t. well-shape (step c z .next) (step-well c z (due-well z s (eqb-true (lentDue z) 0 t)))) (λ _. s)

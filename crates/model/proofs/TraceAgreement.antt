@@ -7,25 +7,24 @@ use mathlib.Core.Bool.{true}
 use mathlib.Core.Path.{_≡_, refl, sym, _∙_}
 use mathlib.Core.List.{List, [], _∷_, _++_}
 use native.Mathlib.Omega.{arith}
-use lib.ListN.{length, getD, drop}
+use lib.ListN.{length, getD}
 use lib.Seq.{ext-getD}
 use lib.Dec.{ltb, leb}
 use borrow.Author.Tests.{leb-true}
-use Rattle.model.specs.Basics.{bool, both-true}
-use Rattle.model.specs.Bytes.{part, stored, littleBytes, length-part, length-stored, length-littleBytes, part-at}
+use Rattle.model.specs.Bytes.{part, stored, littleBytes}
 use Rattle.model.specs.Records.{State, freshState}
-use Rattle.model.specs.Trace.{Decoded, decode}
 use Rattle.model.specs.Flat.{Flat, freshFlat, flatStep}
-use Rattle.model.specs.Calls.{Reply, Run, ran, step, call, putAnswer, runFrom, runCall}
+use Rattle.model.specs.Calls.{Reply, Run, ran, step, call, putAnswer, runFrom, runCall, commandAt, putReply}
+use Rattle.model.specs.Demand.{listedCode, listed, compared}
+use Rattle.model.specs.Traces.{carriedFrom, carried, after, flatAfter, AnswersAre, RunIsCalls, AnswersAgree, Piece, pieceCommands, allCommands, RunsAgree, TraceDemand3}
+use Rattle.model.specs.Laws.{bool, both-true, length-part, length-stored, length-littleBytes, part-at}
 use Rattle.model.specs.declared.Command.{Command}
 use Rattle.model.proofs.Memory.{stored-at, stored-elsewhere}
 use Rattle.model.proofs.Good.{Well, good-well}
 use Rattle.model.proofs.Steps.{step-well}
 use Rattle.model.proofs.Tested.{well-due, call-step}
-use Rattle.model.proofs.Demand.{listedCode, listed, compared}
-use Rattle.model.proofs.Agreement.{Is, Matches, step-answered, fresh-matches}
-use Rattle.model.proofs.Traces.{carriedFrom, carried, after, flatAfter, AnswersAre, RunIsCalls, AnswersAgree, Piece, pieceCommands, allCommands, RunsAgree, TraceDemand3}
-use Rattle.model.proofs.Traces as T
+use Rattle.model.proofs.Agreement.{Is, Matches, step-answered, fresh-matches, fresh-accepted}
+use Rattle.model.specs.Traces as T
 
 -- ---- the ten bytes of an answer
 abbrev answerBytes : Reply → List ℕ
@@ -75,21 +74,21 @@ ran-next r cs z k o c e f h =
       answers-are = T.next here rest;
     }
 
-run-from : (source : ℕ → Decoded) (end room turns i : ℕ) (z : State) (k : ℕ) (o : List ℕ) → Well z → length o ≡ room →
-    RanCalls (runFrom source end turns i z k o) (carriedFrom source end room turns i k) z k o
+run-from : (t : List ℕ) (room turns i : ℕ) (z : State) (k : ℕ) (o : List ℕ) → Well z → length o ≡ room →
+    RanCalls (runFrom t turns i z k o) (carriedFrom t room turns i k) z k o
 unfolding runFrom carriedFrom putAnswer
-run-from source end room zero i z k o w e = ran-none z i k 0 o
-run-from source end room (suc turns) i z k o w e =
-    bool (ltb i end)
-    (λ t₁. bool (source i .ok)
+run-from t room zero i z k o w e = ran-none z i k 0 o
+run-from t room (suc turns) i z k o w e =
+    bool (ltb i (length t))
+    (λ t₁. bool (commandAt t i .ok)
     (λ t₂. bool (leb (k * 10 + 10) room)
-    (λ t₃. let c = source i .found in let a = step c z in
+    (λ t₃. let c = commandAt t i .found in let a = step c z in
     let f = leb-true (k * 10 + 10) room t₃ in
-    let o′ = putAnswer o k (a .number) (a .server) (a .value) in
+    let o′ = putReply o k a in
     let l : length o′ ≡ room = length-stored o (answerBytes a) (k * 10) ∙ e in
-    let h = run-from source end room turns (i + source i .used) (a .next) (suc k) o′ (step-well c z w) l in
-    rw (t₁, t₂, e, t₃) (ran-next (runFrom source end turns (i + source i .used) (a .next) (suc k) o′)
-    (carriedFrom source end room turns (i + source i .used) (suc k)) z k o c (call-step c z w) (omega arith) h))
+    let h = run-from t room turns (i + commandAt t i .used) (a .next) (suc k) o′ (step-well c z w) l in
+    rw (t₁, t₂, e, t₃) (ran-next (runFrom t turns (i + commandAt t i .used) (a .next) (suc k) o′)
+    (carriedFrom t room turns (i + commandAt t i .used) (suc k)) z k o c (call-step c z w) (omega arith) h))
     (λ t₃. rw (t₁, t₂, e, t₃) (ran-none z i k 12 o)))
     (λ t₂. rw (t₁, t₂) (ran-none z i k 11 o)))
     (λ t₁. rw t₁ (ran-none z i k 0 o))
@@ -98,7 +97,7 @@ run-from source end room (suc turns) i z k o w e =
 pub run-calls : (t o : List ℕ) (z : State) → Well z → RunIsCalls t o z
 unfolding runCall carried
 run-calls t o z w =
-    let h = run-from (λ i. decode (drop i t)) (length t) (length o) (length t) 0 z 0 o w refl in
+    let h = run-from t (length o) (length t) 0 z 0 o w refl in
     let d = well-due z w in
     let n : 0 + length (carried t (length o)) ≡ length (carried t (length o)) = omega arith in
     record { next = rw d (h .next); count = rw d (h .count ∙ n); answers-are = rw d (h .answers-are) }
@@ -137,4 +136,6 @@ runs-agree (p ∷ ps) z f m y =
     T.next (a .0) rest
 
 pub trace-demand3 : TraceDemand3
-trace-demand3 l e hl he ps y = runs-agree ps (freshState l e) (freshFlat l e) (fresh-matches l e hl he) y
+trace-demand3 d m e h ps y =
+    let p = fresh-accepted d m e h in let s = p .2 in
+    rw s (runs-agree ps (freshState (length m) e) (freshFlat (length m) e) (fresh-matches (length m) e (p .0) (p .1)) y)

@@ -2,7 +2,7 @@
 -- Why: once L1D holds nothing of the line (its halves were taken in), the L2 bytes are right, so external memory is right after they went there, and a
 -- clean line may leave. A line that comes in is right because no dirty line held it.
 use Prim.Native.Nat.{ℕ, _+_, _-_, _≤_, _<_}
-use mathlib.Core.Bool.{false}
+use mathlib.Core.Bool.{false, cond}
 use mathlib.Core.Path.{_≡_, refl, sym, ap, _∙_}
 use mathlib.Core.Logic.{_≢_}
 use mathlib.Core.List.{List}
@@ -10,12 +10,13 @@ use native.Mathlib.Omega.{arith}
 use lib.ListN.{length, getD}
 use lib.Dec.{ltb}
 use borrow.Author.Tests.{ltb-true, ltb-false}
-use Rattle.model.specs.Basics.{pick, bool, false-true, pick-elim}
-use Rattle.model.specs.Bytes.{stored, part, length-stored, length-part}
+use Rattle.model.specs.Bytes.{stored, part}
 use Rattle.model.specs.Memories.{externalBase}
 use Rattle.model.specs.Lines.{emptyLine, lineOf}
-use Rattle.model.specs.Records.{State, state, l2SetsOf, l2Data, marBit, noL1dSet, l1dLineAt, l2LineAt, l2SetLine}
-use Rattle.model.specs.Access.{emptyL2, takeHalves, writeOutL2, writebackL2, evictL2, fillL2}
+use Rattle.model.specs.Records.{State, state, l2SetsOf, l2Data, marBit, noL1dSet, l1dLineAt, l2LineAt, withL2Line}
+use Rattle.model.specs.Ways.{emptyL2}
+use Rattle.model.specs.Homes.{takeHalves, writeOutL2, writebackL2, evictL2, fillL2}
+use Rattle.model.specs.Laws.{bool, false-true, cond-elim, length-stored, length-part}
 use Rattle.model.specs.declared.Line.{Line}
 use Rattle.model.specs.declared.L1dSet.{L1dSet}
 use Rattle.model.specs.declared.Record.{Record}
@@ -41,11 +42,11 @@ module _ (z : State) (F : Allowed) (q : Good z F) (t v : ℕ) (ht : t < l2SetsOf
 
   abbrev cleaned : State
   cleaned =
-      state (l2SetLine (z .rec) t v (lineOf (l2LineAt (z .rec) t v .address) false)) (z .l1d) (z .l2)
+      state (withL2Line (z .rec) t v (lineOf (l2LineAt (z .rec) t v .address) false)) (z .l1d) (z .l2)
       (stored (z .ext) (b - externalBase) (part (z .l2) (l2Data (z .rec) t v) 128))
 
   out-dirty : Valid (l2Level z) t v → Clear z t v → WrittenOut z F t v cleaned
-  unfolding l2SetLine marBit
+  unfolding withL2Line marBit
   out-dirty k c =
       let p = q .inv .l2Sound .place t v k in
       let al = p .aligned in let lo = p .low in let hi = p .high in let le = q .tidy .sizes .extLength in
@@ -84,8 +85,8 @@ module _ (z : State) (F : Allowed) (q : Good z F) (t v : ℕ) (ht : t < l2SetsOf
   pub writeOutL2-good : (Valid (l2Level z) t v → Clear z t v) → WrittenOut z F t v (writeOutL2 t v z)
   unfolding writeOutL2
   writeOutL2-good c =
-      pick-elim (WrittenOut z F t v) (l2LineAt (z .rec) t v .valid) (pick (l2LineAt (z .rec) t v .dirty) cleaned z) z
-      (λ k. pick-elim (WrittenOut z F t v) (l2LineAt (z .rec) t v .dirty) cleaned z (λ d. out-dirty k (c k)) (λ d. out-same (λ _. d)))
+      cond-elim (WrittenOut z F t v) (l2LineAt (z .rec) t v .valid) (cond (l2LineAt (z .rec) t v .dirty) cleaned z) z
+      (λ k. cond-elim (WrittenOut z F t v) (l2LineAt (z .rec) t v .dirty) cleaned z (λ d. out-dirty k (c k)) (λ d. out-same (λ _. d)))
       (λ k. out-same (λ k′. false-true (sym k ∙ k′)))
 
 -- ---- writeback of an L2 slot, with or without invalidation: it is done, clean or empty, and L1D holds nothing of it
@@ -132,7 +133,7 @@ module _ (z : State) (F : Allowed) (q : Good z F) (t v : ℕ) (ht : t < l2SetsOf
   pub writebackL2-good : Swept z F t v (writebackL2 t v z)
   unfolding writebackL2
   writebackL2-good =
-      pick-elim (Swept z F t v) (l2LineAt (z .rec) t v .valid) (writeOutL2 t v (takeHalves t v (l2LineAt (z .rec) t v .address) z)) z
+      cond-elim (Swept z F t v) (l2LineAt (z .rec) t v .valid) (writeOutL2 t v (takeHalves t v (l2LineAt (z .rec) t v .address) z)) z
       writeback-valid
       (λ k. record {
         good = q;
@@ -145,7 +146,7 @@ module _ (z : State) (F : Allowed) (q : Good z F) (t v : ℕ) (ht : t < l2SetsOf
       })
 
   pub evictL2-good : L2Evicted z F t v (evictL2 t v z)
-  unfolding evictL2 emptyL2 l2SetLine marBit
+  unfolding evictL2 emptyL2 withL2Line marBit
   evictL2-good =
       let g = writebackL2-good in
       let z₁ = writebackL2 t v z in
@@ -179,7 +180,7 @@ pub record L2Filled (z : State) (F : Allowed) (t v b : ℕ) (z′ : State) : Typ
 
 pub fillL2-good : (z : State) (F : Allowed) → Good z F → (t v b : ℕ) → (Valid (l2Level z) t v → ⊥) → L2Placed (layoutOf (z .rec)) t v b →
     ((t′ v′ : ℕ) → Valid (l2Level z) t′ v′ → l2LineAt (z .rec) t′ v′ .address ≢ b) → L2Filled z F t v b (fillL2 t v b z)
-unfolding fillL2 l2SetLine marBit
+unfolding fillL2 withL2Line marBit
 fillL2-good z F q t v b room p none =
     let ht = p .setUsed in let hv = p .way in
     let al = p .aligned in let lo = p .low in let hi = p .high in let le = q .tidy .sizes .extLength in

@@ -1,17 +1,17 @@
 -- Paper 01: the calls, the run over a trace, the technician's view. What every contract of an exported call cites.
 use Prim.Native.Nat.{ℕ, zero, suc, _+_, _*_}
-use mathlib.Core.Bool.{Bool}
+use mathlib.Core.Bool.{Bool, cond, _&&_}
 use mathlib.Core.List.{List, [], _∷_}
 use lib.ListN.{length, drop}
 use lib.Dec.{ltb, leb, eqb}
-use Rattle.model.specs.Basics.{pick, both}
 use Rattle.model.specs.Bytes.{stored, little, littleBytes}
 use Rattle.model.specs.Memories.{l1dLength, legalL2, legalExternal}
 use Rattle.model.specs.Records.{State, state, sramOf, freshRecord, freshState}
-use Rattle.model.specs.Access.{memoryPart, readAccess, writeAccess}
+use Rattle.model.specs.Access.{readAccess, writeAccess}
+use Rattle.model.specs.Homes.{memoryPart}
 use Rattle.model.specs.Modes.{changeMode, changeMar}
 use Rattle.model.specs.Commands.{l2WritebackAll, l2WritebackInvalidateAll, l2WritebackBlock, l2WritebackInvalidateBlock, l2InvalidateBlock, l1dWritebackInvalidateBlock, l1dInvalidateBlock, l1dInvalidateAll}
-use Rattle.model.specs.Refusals.{lentDue, viewDue, accessDue, blockDue, modeDue, marDue}
+use Rattle.model.specs.Refusals.{lentDue, viewDue, accessDue, blockDue, modeDue, marDue, unless}
 use Rattle.model.specs.Trace.{Decoded, decode}
 use Rattle.model.specs.declared.Command.{Command}
 use Rattle.model.specs.declared.Record.{Record}
@@ -34,54 +34,56 @@ refused n z = reply n 0 0 z
 abbrev pub carriedOut : State → Reply
 carriedOut z = reply 0 0 0 z
 
--- ---- one command: the number due by its code, and what it does when none is
+-- ---- one command: the number due by its code ("11 means an unknown code", which a trace never gives), and what it does when none is
 unfoldable pub commandDue : Command → State → ℕ
 commandDue c z =
-    pick (eqb (c .code) 0) (accessDue (sramOf (z .rec)) (z .rec .extlen) (c .first) (c .second) 0)
-    (pick (eqb (c .code) 1) (accessDue (sramOf (z .rec)) (z .rec .extlen) (c .first) (c .second) (c .value))
-    (pick (both (leb 4 (c .code)) (leb (c .code) 8)) (blockDue (c .first) (c .second))
-    (pick (eqb (c .code) 10) (modeDue (z .rec .l2len) (c .first))
-    (pick (eqb (c .code) 11) (marDue (z .rec) (c .first) (c .second)) 0))))
+    cond (eqb (c .code) 0) (accessDue (sramOf (z .rec)) (z .rec .extlen) (c .first) (c .second) 0)
+    (cond (eqb (c .code) 1) (accessDue (sramOf (z .rec)) (z .rec .extlen) (c .first) (c .second) (c .value))
+    (cond (leb 4 (c .code) && leb (c .code) 8) (blockDue (c .first) (c .second))
+    (cond (eqb (c .code) 10) (modeDue (z .rec .l2len) (c .first))
+    (cond (eqb (c .code) 11) (marDue (z .rec) (c .first) (c .second)) (unless (leb (c .code) 11) 11)))))
 
+-- "little-endian": bytes are read as a value, and a value is written as bytes
 unfoldable pub readDone : ℕ → ℕ → State → Reply
 readDone n a z = reply 0 (readAccess n a z .server) (little (readAccess n a z .bytes)) (readAccess n a z .next)
 
 unfoldable pub writeDone : ℕ → ℕ → ℕ → State → Reply
 writeDone n a v z = reply 0 (writeAccess a (littleBytes v n) z .server) 0 (writeAccess a (littleBytes v n) z .next)
 
--- the state after an accepted command that is neither a read nor a write; a code that the trace lacks does nothing
+-- the state after an accepted command that is neither a read nor a write (an unknown code is never accepted)
 unfoldable pub commandState : Command → State → State
 commandState c z =
-    pick (eqb (c .code) 2) (l2WritebackAll z)
-    (pick (eqb (c .code) 3) (l2WritebackInvalidateAll z)
-    (pick (eqb (c .code) 4) (l2WritebackBlock (c .first) (c .second) z)
-    (pick (eqb (c .code) 5) (l2WritebackInvalidateBlock (c .first) (c .second) z)
-    (pick (eqb (c .code) 6) (l2InvalidateBlock (c .first) (c .second) z)
-    (pick (eqb (c .code) 7) (l1dWritebackInvalidateBlock (c .first) (c .second) z)
-    (pick (eqb (c .code) 8) (l1dInvalidateBlock (c .first) (c .second) z)
-    (pick (eqb (c .code) 9) (l1dInvalidateAll z)
-    (pick (eqb (c .code) 10) (changeMode (c .first) z)
-    (pick (eqb (c .code) 11) (changeMar (c .first) (c .second) z) z)))))))))
+    cond (eqb (c .code) 2) (l2WritebackAll z)
+    (cond (eqb (c .code) 3) (l2WritebackInvalidateAll z)
+    (cond (eqb (c .code) 4) (l2WritebackBlock (c .first) (c .second) z)
+    (cond (eqb (c .code) 5) (l2WritebackInvalidateBlock (c .first) (c .second) z)
+    (cond (eqb (c .code) 6) (l2InvalidateBlock (c .first) (c .second) z)
+    (cond (eqb (c .code) 7) (l1dWritebackInvalidateBlock (c .first) (c .second) z)
+    (cond (eqb (c .code) 8) (l1dInvalidateBlock (c .first) (c .second) z)
+    (cond (eqb (c .code) 9) (l1dInvalidateAll z)
+    (cond (eqb (c .code) 10) (changeMode (c .first) z)
+    (cond (eqb (c .code) 11) (changeMar (c .first) (c .second) z) z)))))))))
 
+-- what an accepted command gives
 unfoldable pub accepted : Command → State → Reply
 accepted c z =
-    pick (eqb (c .code) 0) (readDone (c .first) (c .second) z)
-    (pick (eqb (c .code) 1) (writeDone (c .first) (c .second) (c .value) z) (carriedOut (commandState c z)))
+    cond (eqb (c .code) 0) (readDone (c .first) (c .second) z)
+    (cond (eqb (c .code) 1) (writeDone (c .first) (c .second) (c .value) z) (carriedOut (commandState c z)))
 
 -- one command on a state that passed checks 1 and 2
 unfoldable pub step : Command → State → Reply
-step c z = pick (eqb (commandDue c z) 0) (accepted c z) (refused (commandDue c z) z)
+step c z = cond (eqb (commandDue c z) 0) (accepted c z) (refused (commandDue c z) z)
 
 -- ---- a direct call: "The lowest due number wins"
 unfoldable pub call : Command → State → Reply
-call c z = pick (eqb (lentDue z) 0) (step c z) (refused (lentDue z) z)
+call c z = cond (eqb (lentDue z) 0) (step c z) (refused (lentDue z) z)
 
 -- ---- the fresh start: "A fresh start can meet only 1, and then returns the record of L = 32,768, E = 128."
 unfoldable pub freshOk : List ℕ → List ℕ → List ℕ → Bool
-freshOk d m e = both (eqb (length d) l1dLength) (both (legalL2 (length m)) (legalExternal (length e)))
+freshOk d m e = eqb (length d) l1dLength && (legalL2 (length m) && legalExternal (length e))
 
 unfoldable pub freshCall : List ℕ → List ℕ → List ℕ → Reply
-freshCall d m e = pick (freshOk d m e) (carriedOut (freshState (length m) e)) (refused 1 (state (freshRecord 32768 128) d m e))
+freshCall d m e = cond (freshOk d m e) (carriedOut (freshState (length m) e)) (refused 1 (state (freshRecord 32768 128) d m e))
 
 -- ---- the run: "It returns the record, bytes consumed, the count of answers, stop number (0 at the end). Later answer bytes are unchanged."
 pub record Run : Type 0 where
@@ -99,15 +101,21 @@ unfoldable pub putAnswer : List ℕ → ℕ → ℕ → ℕ → ℕ → List ℕ
 putAnswer o k n s v = stored o (k * 10) (n ∷ s ∷ littleBytes v 8)
 
 -- "Then it carries out commands. .. Refusals 3 to 10 are answered and the run goes on. 11, then 12, stop it before that command".
--- `source i` is the command at byte i, `end` where the trace ends; each command takes a byte at least, so that `end` turns are enough.
-unfoldable pub runFrom : (ℕ → Decoded) → ℕ → ℕ → ℕ → State → ℕ → List ℕ → Run
-runFrom source end zero i z k o = ran z i k 0 o
-runFrom source end (suc turns) i z k o =
-    pick (ltb i end)
-    (pick (source i .ok)
-    (pick (leb (k * 10 + 10) (length o))
-    (runFrom source end turns (i + source i .used) (step (source i .found) z .next) (suc k)
-    (putAnswer o k (step (source i .found) z .number) (step (source i .found) z .server) (step (source i .found) z .value)))
+-- "in a trace 11, then 12, come before 3 to 10". t: the trace, i: the byte it has come to, k: the answers so far, o: their bytes. Each command takes a byte at least,
+-- so that as many turns as the trace has bytes are enough.
+abbrev pub commandAt : List ℕ → ℕ → Decoded
+commandAt t i = decode (drop i t)
+
+abbrev pub putReply : List ℕ → ℕ → Reply → List ℕ
+putReply o k x = putAnswer o k (x .number) (x .server) (x .value)
+
+unfoldable pub runFrom : List ℕ → ℕ → ℕ → State → ℕ → List ℕ → Run
+runFrom t zero i z k o = ran z i k 0 o
+runFrom t (suc turns) i z k o =
+    cond (ltb i (length t))
+    (cond (commandAt t i .ok)
+    (cond (leb (k * 10 + 10) (length o))
+    (runFrom t turns (i + commandAt t i .used) (step (commandAt t i .found) z .next) (suc k) (putReply o k (step (commandAt t i .found) z)))
     (ran z i k 12 o))
     (ran z i k 11 o))
     (ran z i k 0 o)
@@ -115,8 +123,8 @@ runFrom source end (suc turns) i z k o =
 -- "A run checks 1 and 2 first; either one stops it with nothing consumed, answered or changed."
 unfoldable pub runCall : List ℕ → List ℕ → State → Run
 runCall t o z =
-    pick (eqb (lentDue z) 0) (runFrom (λ i. decode (drop i t)) (length t) (length t) 0 z 0 o) (ran z 0 0 (lentDue z) o)
+    cond (eqb (lentDue z) 0) (runFrom t (length t) 0 z 0 o) (ran z 0 0 (lentDue z) o)
 
--- ---- "Looking behind L1D": "the bytes of SRAM or of external memory themselves .. A refusal returns the empty part"
+-- ---- "Looking behind L1D": "the bytes of SRAM or of external memory themselves .. never the L2 cache's copy. A refusal returns the empty part"
 unfoldable pub viewCall : Record → List ℕ → List ℕ → ℕ → List ℕ
-viewCall r m e a = pick (eqb (viewDue r m e a) 0) (memoryPart a 64 (state r [] m e)) []
+viewCall r m e a = cond (eqb (viewDue r m e a) 0) (memoryPart a 64 (state r [] m e)) []

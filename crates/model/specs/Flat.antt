@@ -1,9 +1,9 @@
 -- Paper 01, "Flat memory".
 use Prim.Native.Nat.{ℕ, _-_}
+use mathlib.Core.Bool.{cond}
 use mathlib.Core.List.{List}
 use lib.ListN.{length, replicate}
 use lib.Dec.{ltb, eqb}
-use Rattle.model.specs.Basics.{pick}
 use Rattle.model.specs.Bytes.{part, stored, little, littleBytes, zeroFrom}
 use Rattle.model.specs.Memories.{externalBase, sramLength}
 use Rattle.model.specs.Modes.{smaller}
@@ -25,11 +25,11 @@ freshFlat l e = flat l (replicate l 0) e
 
 -- the n bytes at address a, and bytes put there
 unfoldable pub flatPart : ℕ → ℕ → Flat → List ℕ
-flatPart a n f = pick (ltb a externalBase) (part (f .sram) a n) (part (f .ext) (a - externalBase) n)
+flatPart a n f = cond (ltb a externalBase) (part (f .sram) a n) (part (f .ext) (a - externalBase) n)
 
 unfoldable pub flatPut : ℕ → List ℕ → Flat → Flat
 flatPut a bs f =
-    pick (ltb a externalBase) (flat (f .l2len) (stored (f .sram) a bs) (f .ext))
+    cond (ltb a externalBase) (flat (f .l2len) (stored (f .sram) a bs) (f .ext))
     (flat (f .l2len) (f .sram) (stored (f .ext) (a - externalBase) bs))
 
 -- "S becomes L − C for the new mode; SRAM bytes below the smaller of old and new S are kept, the other SRAM bytes are zero."
@@ -51,19 +51,19 @@ flatDue n a v f = accessDue (length (f .sram)) (length (f .ext)) n a v
 
 -- "If none is due, a read's value is the bytes at its address, little-endian,"
 unfoldable pub flatRead : ℕ → ℕ → Flat → FlatReply
-flatRead n a f = pick (eqb (flatDue n a 0 f) 0) (flatReply 0 (little (flatPart a n f)) f) (flatReply (flatDue n a 0 f) 0 f)
+flatRead n a f = cond (eqb (flatDue n a 0 f) 0) (flatReply 0 (little (flatPart a n f)) f) (flatReply (flatDue n a 0 f) 0 f)
 
 -- "and a write puts its value there likewise."
 unfoldable pub flatWrite : ℕ → ℕ → ℕ → Flat → FlatReply
-flatWrite n a v f = pick (eqb (flatDue n a v f) 0) (flatReply 0 0 (flatPut a (littleBytes v n) f)) (flatReply (flatDue n a v f) 0 f)
+flatWrite n a v f = cond (eqb (flatDue n a v f) 0) (flatReply 0 0 (flatPut a (littleBytes v n) f)) (flatReply (flatDue n a v f) 0 f)
 
 -- "A mode change gets 8 if that is due."
 unfoldable pub flatChange : ℕ → Flat → FlatReply
-flatChange m f = pick (eqb (modeDue (f .l2len) m) 0) (flatReply 0 0 (flatMode m f)) (flatReply (modeDue (f .l2len) m) 0 f)
+flatChange m f = cond (eqb (modeDue (f .l2len) m) 0) (flatReply 0 0 (flatMode m f)) (flatReply (modeDue (f .l2len) m) 0 f)
 
 -- "No other call, and no refused one, does anything."
 unfoldable pub flatStep : Command → Flat → FlatReply
 flatStep c f =
-    pick (eqb (c .code) 0) (flatRead (c .first) (c .second) f)
-    (pick (eqb (c .code) 1) (flatWrite (c .first) (c .second) (c .value) f)
-    (pick (eqb (c .code) 10) (flatChange (c .first) f) (flatReply 0 0 f)))
+    cond (eqb (c .code) 0) (flatRead (c .first) (c .second) f)
+    (cond (eqb (c .code) 1) (flatWrite (c .first) (c .second) (c .value) f)
+    (cond (eqb (c .code) 10) (flatChange (c .first) f) (flatReply 0 0 f)))

@@ -3,10 +3,15 @@ pub mod Bytes
 pub mod Memories
 pub mod Lines
 pub mod Records
+pub mod Ways
 pub mod Access
+pub mod Homes
 pub mod Modes
 pub mod Commands
 pub mod Flat
 pub mod Refusals
 pub mod Trace
 pub mod Calls
+pub mod Demand
+pub mod Traces
+pub mod Laws

@@ -1,13 +1,11 @@
--- Paper 01, "Lines and the record": where lines and their bytes lie, one set of each cache, the order of use.
-use Prim.Native.Nat.{ℕ, zero, suc, _+_, _*_, _/_, _%_, _<_}
-use mathlib.Core.Bool.{Bool, true, false}
-use mathlib.Core.Path.{_≡_, refl, sym, _∙_, subst}
+-- Paper 01, "Lines and the record": where lines and their bytes lie, a line, the order of use, one set of each cache.
+-- "Line length, ways and sets belong to each cache's kind as constants, those for L2 being per mode.": in the code, `L1d` and `L2` of crate sets. Here they are
+-- written out, as the paper's formulas have them.
+use Prim.Native.Nat.{ℕ, _*_, _<_, _+_, _/_, _%_}
+use mathlib.Core.Bool.{Bool, true, false, cond, _&&_}
 use mathlib.Core.Logic.{_≢_}
-use native.Mathlib.Omega.{arith}
 use lib.ListN.{getD, set}
 use lib.Dec.{eqb}
-use borrow.Author.Tests.{eqb-true, eqb-false}
-use Rattle.model.specs.Basics.{pick, both}
 use Rattle.model.specs.Memories.{cacheSize}
 use Rattle.model.specs.declared.Line.{Line}
 use Rattle.model.specs.declared.Order2.{Order2}
@@ -36,29 +34,14 @@ l2Slot sets s w = w * sets + s
 abbrev pub l2DataIn : ℕ → ℕ → ℕ → ℕ → ℕ
 l2DataIn sram sets s w = sram + l2Slot sets s w * 128
 
--- ---- "A line address is that of the line's first byte."
-abbrev pub l1dLine : ℕ → ℕ
-l1dLine a = a / 64 * 64
-
-abbrev pub l2Line : ℕ → ℕ
-l2Line a = a / 128 * 128
-
--- the upper half of the L2 line at b; its lower half is at b itself
-abbrev pub upperHalf : ℕ → ℕ
-upperHalf b = b / 128 * 128 + 64
-
--- ---- "valid, dirty, line address"
--- "An invalid way is clean with address 0."
-abbrev pub emptyLine : Line
-emptyLine = record { valid = false; dirty = false; address = 0 }
-
+-- ---- "the lines, held by set and by way: valid, dirty, line address."
 -- a valid line at a, dirty or clean
 abbrev pub lineOf : ℕ → Bool → Line
 lineOf a d = record { valid = true; dirty = d; address = a }
 
 -- the line is valid and at address a
 unfoldable pub holds : Line → ℕ → Bool
-holds x a = both (x .valid) (eqb (x .address) a)
+holds x a = x .valid && eqb (x .address) a
 
 -- ---- "Each set has its order of use, a permutation of its ways, most recent first."
 pub record Permutation2 (o : Order2) : Type 0 where
@@ -80,14 +63,29 @@ pub record Permutation4 (o : Order4) : Type 0 where
 
 -- "Using a way takes an order and gives back the new one, that way in front, the others as they stood."
 unfoldable pub used2 : Order2 → ℕ → Order2
-used2 o w = pick (eqb (o .first) w) o (record { first = w; second = o .first })
+used2 o w = cond (eqb (o .first) w) o (record { first = w; second = o .first })
 
 unfoldable pub used4 : Order4 → ℕ → Order4
 used4 o w =
-    pick (eqb (o .first) w) o
-    (pick (eqb (o .second) w) (record { first = w; second = o .first; third = o .third; fourth = o .fourth })
-    (pick (eqb (o .third) w) (record { first = w; second = o .first; third = o .second; fourth = o .fourth })
+    cond (eqb (o .first) w) o
+    (cond (eqb (o .second) w) (record { first = w; second = o .first; third = o .third; fourth = o .fourth })
+    (cond (eqb (o .third) w) (record { first = w; second = o .first; third = o .second; fourth = o .fourth })
     (record { first = w; second = o .first; third = o .second; fourth = o .third })))
+
+-- ---- "An invalid way is clean with address 0."
+abbrev pub emptyLine : Line
+emptyLine = record { valid = false; dirty = false; address = 0 }
+
+-- ---- "A line address is that of the line's first byte."
+abbrev pub l1dLine : ℕ → ℕ
+l1dLine a = a / 64 * 64
+
+abbrev pub l2Line : ℕ → ℕ
+l2Line a = a / 128 * 128
+
+-- the upper half of the L2 line at b; its lower half is at b itself
+abbrev pub upperHalf : ℕ → ℕ
+upperHalf b = b / 128 * 128 + 64
 
 -- ---- one set: its lines by way, a way's line replaced, a way used
 abbrev pub l1dGet : L1dSet → ℕ → Line
@@ -107,96 +105,3 @@ l1dUse v w = record { lines = v .lines; order = used2 (v .order) w }
 
 unfoldable pub l2Use : L2Set → ℕ → L2Set
 l2Use v w = record { lines = v .lines; order = used4 (v .order) w }
-
--- the first of the ways k, k + 1, .., k + n - 1 that holds line b; k + n where none does
-unfoldable pub wayHolding : (ℕ → Line) → ℕ → ℕ → ℕ → ℕ
-wayHolding g zero k b = k
-wayHolding g (suc n) k b = pick (holds (g k) b) k (wayHolding g n (suc k) b)
-
--- "the way is the lowest invalid one, else the last in order": of the ways k, k + 1, .., k + n - 1
-unfoldable pub lowestInvalid : (ℕ → Line) → ℕ → ℕ → ℕ → ℕ
-lowestInvalid g zero k last = last
-lowestInvalid g (suc n) k last = pick (g k .valid) (lowestInvalid g n (suc k) last) k
-
--- the way of a set that holds line b (2, 4: none does), and the way that is chosen for a line to come.
--- The remainder by the number of ways says nothing of a permutation; it makes the way one of the set for every record.
-unfoldable pub l1dFind : L1dSet → ℕ → ℕ
-l1dFind v b = wayHolding (l1dGet v) 2 0 b
-
-unfoldable pub l2Find : L2Set → ℕ → ℕ
-l2Find v b = wayHolding (l2Get v) 4 0 b
-
-unfoldable pub l1dVictim : L1dSet → ℕ
-l1dVictim v = lowestInvalid (l1dGet v) 2 0 (v .order .second % 2)
-
-unfoldable pub l2Victim : L2Set → ℕ
-l2Victim v = lowestInvalid (l2Get v) 4 0 (v .order .fourth % 4)
-
--- ---- laws of the order
-pub used2-permutation : (o : Order2) (w : ℕ) → w < 2 → Permutation2 o → Permutation2 (used2 o w)
-unfolding used2
-used2-permutation o w h p = go (eqb (o .first) w) refl
-  where
-    go : (b : Bool) → eqb (o .first) w ≡ b → Permutation2 (pick b o (record { first = w; second = o .first }))
-    go true e = p
-    go false e = let n = eqb-false (o .first) w e in omega arith
-
-pub used4-permutation : (o : Order4) (w : ℕ) → w < 4 → Permutation4 o → Permutation4 (used4 o w)
-unfolding used4
-used4-permutation o w h p = go (eqb (o .first) w) refl (eqb (o .second) w) refl (eqb (o .third) w) refl
-  where
-    go : (x : Bool) → eqb (o .first) w ≡ x → (y : Bool) → eqb (o .second) w ≡ y → (z : Bool) → eqb (o .third) w ≡ z →
-        Permutation4 (pick x o
-        (pick y (record { first = w; second = o .first; third = o .third; fourth = o .fourth })
-        (pick z (record { first = w; second = o .first; third = o .second; fourth = o .fourth })
-        (record { first = w; second = o .first; third = o .second; fourth = o .third }))))
-    go true e y f z g = p
-    go false e true f z g =
-        let n = eqb-false (o .first) w e in let m = eqb-true (o .second) w f in
-        record {
-          below1 = h;
-          below2 = p .below1;
-          below3 = p .below3;
-          below4 = p .below4;
-          apart12 = λ q. n (sym q);
-          apart13 = λ q. p .apart23 (m ∙ q);
-          apart14 = λ q. p .apart24 (m ∙ q);
-          apart23 = p .apart13;
-          apart24 = p .apart14;
-          apart34 = p .apart34;
-        }
-    go false e false f true g =
-        let n = eqb-false (o .first) w e in let m = eqb-false (o .second) w f in let k = eqb-true (o .third) w g in
-        record {
-          below1 = h;
-          below2 = p .below1;
-          below3 = p .below2;
-          below4 = p .below4;
-          apart12 = λ q. n (sym q);
-          apart13 = λ q. m (sym q);
-          apart14 = λ q. p .apart34 (k ∙ q);
-          apart23 = p .apart12;
-          apart24 = p .apart14;
-          apart34 = p .apart24;
-        }
-    go false e false f false g =
-        let n = eqb-false (o .first) w e in let m = eqb-false (o .second) w f in let k = eqb-false (o .third) w g in
-        record {
-          below1 = h;
-          below2 = p .below1;
-          below3 = p .below2;
-          below4 = p .below3;
-          apart12 = λ q. n (sym q);
-          apart13 = λ q. m (sym q);
-          apart14 = λ q. k (sym q);
-          apart23 = p .apart12;
-          apart24 = p .apart13;
-          apart34 = p .apart23;
-        }
-
--- what `touch` ensures, from the equation alone
-pub kept2 : {o r : Order2} {w : ℕ} → r ≡ used2 o w → (r ≡ used2 o w) × (w < 2 → Permutation2 o → Permutation2 r)
-kept2 {o} {r} {w} e = (e, λ h p. subst Permutation2 (sym e) (used2-permutation o w h p))
-
-pub kept4 : {o r : Order4} {w : ℕ} → r ≡ used4 o w → (r ≡ used4 o w) × (w < 4 → Permutation4 o → Permutation4 r)
-kept4 {o} {r} {w} e = (e, λ h p. subst Permutation4 (sym e) (used4-permutation o w h p))

@@ -1,20 +1,17 @@
 -- Paper 01, "Modes and MAR".
 use Prim.Native.Nat.{ℕ, _*_, _/_, _%_}
-use mathlib.Core.Bool.{Bool}
+use mathlib.Core.Bool.{cond}
 use lib.ListN.{length, replicate}
 use lib.Dec.{leb, eqb}
-use Rattle.model.specs.Basics.{pick, both, either, each, any}
+use Rattle.model.specs.Basics.{each}
 use Rattle.model.specs.Bytes.{zeroFrom}
 use Rattle.model.specs.Memories.{sramLength}
 use Rattle.model.specs.Records.{State, state, sramOf, l2SetsOf, freshL1dSet, freshL2Set}
-use Rattle.model.specs.Access.{evictL1d, writeOutL2}
-use Rattle.model.specs.declared.Line.{Line}
-use Rattle.model.specs.declared.L1dSet.{L1dSet}
-use Rattle.model.specs.declared.L2Set.{L2Set}
-use Rattle.model.specs.declared.Record.{Record}
+use Rattle.model.specs.Access.{evictL1d}
+use Rattle.model.specs.Homes.{writeOutL2}
 
 unfoldable pub smaller : ℕ → ℕ → ℕ
-smaller a b = pick (leb a b) a b
+smaller a b = cond (leb a b) a b
 
 -- "An accepted mode change, even to the same mode, writes back all dirty lines of L1D, then of L2,": set by set and way by way.
 -- (An L1D line that went home is empty at once; the change empties them all.)
@@ -41,6 +38,7 @@ newMode m z =
     (zeroFrom (smaller (sramOf (z .rec)) (sramLength (z .rec .l2len) m)) (z .l2) (length (z .l2)))
     (z .ext)
 
+-- the whole change
 unfoldable pub changeMode : ℕ → State → State
 changeMode m z = newMode m (flushL2 (flushL1d z))
 
@@ -52,16 +50,9 @@ changeMar n b z =
       l2len = z .rec .l2len;
       extlen = z .rec .extlen;
       mode = z .rec .mode;
-      mar128 = pick (eqb n 128) (eqb b 1) (z .rec .mar128);
-      mar129 = pick (eqb n 129) (eqb b 1) (z .rec .mar129);
+      mar128 = cond (eqb n 128) (eqb b 1) (z .rec .mar128);
+      mar129 = cond (eqb n 129) (eqb b 1) (z .rec .mar129);
       l1d = z .rec .l1d;
       l2 = z .rec .l2;
     })
     (z .l1d) (z .l2) (z .ext)
-
--- "either cache holds a line of that range" (refusal 10): a valid line with an address from n × 1000000h on
-unfoldable pub inRange : ℕ → Line → Bool
-inRange n x = both (x .valid) (eqb (x .address / 16777216) n)
-
-unfoldable pub holdsRange : ℕ → Record → Bool
-holdsRange n r = either (any (λ (v : L1dSet). any (inRange n) (v .lines)) (r .l1d)) (any (λ (v : L2Set). any (inRange n) (v .lines)) (r .l2))

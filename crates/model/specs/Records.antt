@@ -1,10 +1,10 @@
 -- Paper 01, "Lines and the record": the record with the lent memories, which records are well formed, the fresh record.
-use Prim.Native.Nat.{ℕ, _+_, _%_}
-use mathlib.Core.Bool.{Bool, true, false, not}
+use Prim.Native.Nat.{ℕ, _+_, _%_, _*_}
+use mathlib.Core.Bool.{Bool, true, false, not, cond, _&&_}
 use mathlib.Core.List.{List, [], _∷_}
 use lib.ListN.{length, getD, set, replicate}
 use lib.Dec.{ltb, leb, eqb}
-use Rattle.model.specs.Basics.{pick, both, any, all}
+use Rattle.model.specs.Basics.{anyOf, allIndexed}
 use Rattle.model.specs.Memories.{legalL2, legalExternal, externalBase, cacheSize, isMode, sramLength}
 use Rattle.model.specs.Lines.{l1dSetOf, l2Sets, l2SetIn, l2DataIn, l2Line, emptyLine, holds, l1dGet, l2Get, l1dPut, l2Put}
 use Rattle.model.specs.declared.Line.{Line}
@@ -39,7 +39,7 @@ l2Data r t v = l2DataIn (sramOf r) (l2SetsOf r) t v
 
 -- "MAR n covers the 16 MiB from n × 1000000h (001, Table 28)": the bit of an external address
 unfoldable pub marBit : Record → ℕ → Bool
-marBit r a = pick (ltb a 2164260864) (r .mar128) (r .mar129)
+marBit r a = cond (ltb a (129 * 0x1000000)) (r .mar128) (r .mar129)
 
 -- ---- "the lines, held by set and by way": a set of the record, and a line of a set.
 -- What stands for a set past the end of the array is what the language gives: no lines, order 0.
@@ -71,72 +71,93 @@ withL2Set r t v =
     record { l2len = r .l2len; extlen = r .extlen; mode = r .mode; mar128 = r .mar128; mar129 = r .mar129; l1d = r .l1d; l2 = set (r .l2) t v }
 
 -- the record with one line replaced
-unfoldable pub l1dSetLine : Record → ℕ → ℕ → Line → Record
-l1dSetLine r s w x = withL1dSet r s (l1dPut (l1dSetAt r s) w x)
+unfoldable pub withL1dLine : Record → ℕ → ℕ → Line → Record
+withL1dLine r s w x = withL1dSet r s (l1dPut (l1dSetAt r s) w x)
 
-unfoldable pub l2SetLine : Record → ℕ → ℕ → Line → Record
-l2SetLine r t v x = withL2Set r t (l2Put (l2SetAt r t) v x)
+unfoldable pub withL2Line : Record → ℕ → ℕ → Line → Record
+withL2Line r t v x = withL2Set r t (l2Put (l2SetAt r t) v x)
 
 -- ---- "A record is well formed when L, E and the mode are legal with C ≤ L;"
 unfoldable pub legalSizes : Record → Bool
-legalSizes r = both (legalL2 (r .l2len)) (both (legalExternal (r .extlen)) (both (isMode (r .mode)) (leb (cacheSize (r .mode)) (r .l2len))))
+legalSizes r = legalL2 (r .l2len) && (legalExternal (r .extlen) && (isMode (r .mode) && leb (cacheSize (r .mode)) (r .l2len)))
 
 -- "orders are permutations;"
 unfoldable pub permuted2 : Order2 → Bool
-permuted2 o = both (ltb (o .first) 2) (both (ltb (o .second) 2) (not (eqb (o .first) (o .second))))
+permuted2 o = ltb (o .first) 2 && (ltb (o .second) 2 && not (eqb (o .first) (o .second)))
 
 unfoldable pub permuted4 : Order4 → Bool
 permuted4 o =
-    both (ltb (o .first) 4) (both (ltb (o .second) 4) (both (ltb (o .third) 4) (both (ltb (o .fourth) 4)
-    (both (not (eqb (o .first) (o .second))) (both (not (eqb (o .first) (o .third))) (both (not (eqb (o .first) (o .fourth)))
-    (both (not (eqb (o .second) (o .third))) (both (not (eqb (o .second) (o .fourth))) (not (eqb (o .third) (o .fourth)))))))))))
+    ltb (o .first) 4 && (ltb (o .second) 4 && (ltb (o .third) 4 && (ltb (o .fourth) 4 &&
+    (not (eqb (o .first) (o .second)) && (not (eqb (o .first) (o .third)) && (not (eqb (o .first) (o .fourth)) &&
+    (not (eqb (o .second) (o .third)) && (not (eqb (o .second) (o .fourth)) && not (eqb (o .third) (o .fourth))))))))))
 
 -- "invalid ways are as just said;" (clean, address 0)
 unfoldable pub emptyWay : Line → Bool
-emptyWay x = both (not (x .dirty)) (eqb (x .address) 0)
+emptyWay x = not (x .dirty) && eqb (x .address) 0
 
--- "valid line addresses are multiples of the line length and lie in their own set, .. L1D lines lie in SRAM or in external memory whose MAR
--- bit is 1; .. and in a mode other than 0 each external L1D line lies inside a valid L2 line."
-unfoldable pub insideL2Line : Record → ℕ → Bool
-insideL2Line r a = pick (eqb (l2SetsOf r) 0) true (any (λ y. holds y (l2Line a)) (l2SetAt r (l2SetOf r a) .lines))
+-- "valid line addresses are multiples of the line length and lie in their own set,": address a of a line in set s of L1D, set t of L2
+unfoldable pub ownL1dSet : ℕ → ℕ → Bool
+ownL1dSet s a = eqb (a % 64) 0 && eqb s (l1dSetOf a)
 
-unfoldable pub l1dPlace : Record → ℕ → ℕ → Bool
-l1dPlace r s a =
-    both (eqb (a % 64) 0) (both (eqb s (l1dSetOf a))
-    (pick (ltb a externalBase) (leb (a + 64) (sramOf r))
-    (both (leb (a + 64) (externalBase + r .extlen)) (both (marBit r a) (insideL2Line r a)))))
-
--- "L2 lines only in the latter;"
-unfoldable pub l2Place : Record → ℕ → ℕ → Bool
-l2Place r t a =
-    both (eqb (a % 128) 0) (both (eqb t (l2SetOf r a)) (both (ltb t (l2SetsOf r))
-    (both (leb externalBase a) (both (leb (a + 128) (externalBase + r .extlen)) (marBit r a)))))
-
-unfoldable pub l1dLineOk : Record → ℕ → Line → Bool
-l1dLineOk r s x = pick (x .valid) (l1dPlace r s (x .address)) (emptyWay x)
-
-unfoldable pub l2LineOk : Record → ℕ → Line → Bool
-l2LineOk r t x = pick (x .valid) (l2Place r t (x .address)) (emptyWay x)
+unfoldable pub ownL2Set : Record → ℕ → ℕ → Bool
+ownL2Set r t a = eqb (a % 128) 0 && eqb t (l2SetOf r a)
 
 -- "no line twice;" (a line lies in its own set, so that twice in a cache is twice in a set)
 unfoldable pub noneTwice : List Line → Bool
 noneTwice [] = true
-noneTwice (x ∷ xs) = both (not (both (x .valid) (any (λ y. holds y (x .address)) xs))) (noneTwice xs)
+noneTwice (x ∷ xs) = not (x .valid && anyOf (λ y. holds y (x .address)) xs) && noneTwice xs
 
--- "sets not in use are fresh;" (that their lines are empty is part of `l2Place`, which asks for a set in use)
+-- "L1D lines lie in SRAM or in external memory whose MAR bit is 1;": the n bytes at a
+unfoldable pub inSram : Record → ℕ → ℕ → Bool
+inSram r n a = leb (a + n) (sramOf r)
+
+unfoldable pub inCacheable : Record → ℕ → ℕ → Bool
+inCacheable r n a = leb (a + n) (externalBase + r .extlen) && marBit r a
+
+unfoldable pub l1dRegion : Record → ℕ → Bool
+l1dRegion r a = cond (ltb a externalBase) (inSram r 64 a) (inCacheable r 64 a)
+
+-- "L2 lines only in the latter;"
+unfoldable pub l2Region : Record → ℕ → Bool
+l2Region r a = leb externalBase a && inCacheable r 128 a
+
+-- "sets not in use are fresh;": only a set in use has a line, and only its order is another than the fresh one
+abbrev pub inUse : Record → ℕ → Bool
+inUse r t = ltb t (l2SetsOf r)
+
 unfoldable pub freshUnlessUsed : Record → ℕ → Order4 → Bool
 freshUnlessUsed r t o =
-    pick (ltb t (l2SetsOf r)) true (both (eqb (o .first) 3) (both (eqb (o .second) 2) (both (eqb (o .third) 1) (eqb (o .fourth) 0))))
+    cond (inUse r t) true (eqb (o .first) 3 && (eqb (o .second) 2 && (eqb (o .third) 1 && eqb (o .fourth) 0)))
+
+-- "and in a mode other than 0 each external L1D line lies inside a valid L2 line."
+unfoldable pub insideL2Line : Record → ℕ → Bool
+insideL2Line r a = cond (eqb (l2SetsOf r) 0) true (anyOf (λ y. holds y (l2Line a)) (l2SetAt r (l2SetOf r a) .lines))
+
+unfoldable pub coveredByL2 : Record → ℕ → Bool
+coveredByL2 r a = cond (ltb a externalBase) true (insideL2Line r a)
+
+-- ---- the clauses together: where a valid line may stand, one line, one set, the record
+unfoldable pub l1dPlace : Record → ℕ → ℕ → Bool
+l1dPlace r s a = ownL1dSet s a && (l1dRegion r a && coveredByL2 r a)
+
+unfoldable pub l2Place : Record → ℕ → ℕ → Bool
+l2Place r t a = ownL2Set r t a && (inUse r t && l2Region r a)
+
+unfoldable pub l1dLineOk : Record → ℕ → Line → Bool
+l1dLineOk r s x = cond (x .valid) (l1dPlace r s (x .address)) (emptyWay x)
+
+unfoldable pub l2LineOk : Record → ℕ → Line → Bool
+l2LineOk r t x = cond (x .valid) (l2Place r t (x .address)) (emptyWay x)
 
 unfoldable pub l1dSetOk : Record → ℕ → L1dSet → Bool
-l1dSetOk r s v = both (all (λ _ x. l1dLineOk r s x) 0 (v .lines)) (both (noneTwice (v .lines)) (permuted2 (v .order)))
+l1dSetOk r s v = allIndexed (λ _ x. l1dLineOk r s x) 0 (v .lines) && (noneTwice (v .lines) && permuted2 (v .order))
 
 unfoldable pub l2SetOk : Record → ℕ → L2Set → Bool
 l2SetOk r t v =
-    both (all (λ _ x. l2LineOk r t x) 0 (v .lines)) (both (noneTwice (v .lines)) (both (permuted4 (v .order)) (freshUnlessUsed r t (v .order))))
+    allIndexed (λ _ x. l2LineOk r t x) 0 (v .lines) && (noneTwice (v .lines) && (permuted4 (v .order) && freshUnlessUsed r t (v .order)))
 
 unfoldable pub wellFormed : Record → Bool
-wellFormed r = both (legalSizes r) (both (all (l1dSetOk r) 0 (r .l1d)) (all (l2SetOk r) 0 (r .l2)))
+wellFormed r = legalSizes r && (allIndexed (l1dSetOk r) 0 (r .l1d) && allIndexed (l2SetOk r) 0 (r .l2))
 
 -- ---- "Fresh: mode 0, MAR bits 0, nothing valid, orders 1,0 and 3,2,1,0."
 abbrev pub freshL1dSet : L1dSet

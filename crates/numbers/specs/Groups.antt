@@ -1,7 +1,7 @@
 -- How a loop reads a number off a trace: what the groups read so far make of the groups that follow. Numbers of both widths go by these laws:
 -- k groups fit any bits, and the group behind them has to stay below m, where the limit is m * 128 ^ k.
 use Prim.Native.Nat.{ℕ, zero, suc, _+_, _*_, _-_, _^_, _≤_, _<_}
-use mathlib.Core.Bool.{Bool, true, false}
+use mathlib.Core.Bool.{Bool, true, false, cond, _&&_}
 use mathlib.Core.List.{List, [], _∷_}
 use mathlib.Core.Path.{_≡_, refl, ap, _∙_, subst}
 use native.Mathlib.Omega.{arith}
@@ -11,12 +11,12 @@ use lib.ListN.{length, getD, drop, drop-of-length-le, length-drop}
 use lib.Seq.{drop-cons}
 use lib.Dec.{ltb, eqb}
 use borrow.Author.Tests.{ltb-true, lt-ltb, le-ltb, ne-eqb}
-use Rattle.model.specs.Basics.{pick, both, bool, false-true}
 use Rattle.model.specs.Trace.{Number, number, noNumber, groups, moreGroups, numberBelow}
+use Rattle.model.specs.Laws.{bool, false-true}
 
 -- i groups of value v, each with its top bit set, before a number n of further groups; s is the weight of the first of these
 unfoldable pub grown : ℕ → ℕ → ℕ → Number → Number
-grown v s i n = pick (n .ok) (number (v + s * n .value) (i + n .used)) noNumber
+grown v s i n = cond (n .ok) (number (v + s * n .value) (i + n .used)) noNumber
 
 -- ---- the group at a place of a trace
 module _ (t : List ℕ) (p : ℕ) where
@@ -36,9 +36,9 @@ module _ (t : List ℕ) (p : ℕ) where
   unfolding moreGroups grown
   more-on h b = rw (add-one, drop-cons t p 0 h, le-ltb (getD t p 0) 128 b) (one (moreGroups (drop (suc p) t)))
     where
-      one : (n : Number) → pick (n .ok) (number (getD t p 0 - 128 + 128 * n .value) (suc (n .used))) noNumber
-          ≡ pick (n .ok) (number (getD t p 0 - 128 + 128 * n .value) (1 + n .used)) noNumber
-      one n = ap (λ (k : ℕ). pick (n .ok) (number (getD t p 0 - 128 + 128 * n .value) k) noNumber) (omega arith)
+      one : (n : Number) → cond (n .ok) (number (getD t p 0 - 128 + 128 * n .value) (suc (n .used))) noNumber
+          ≡ cond (n .ok) (number (getD t p 0 - 128 + 128 * n .value) (1 + n .used)) noNumber
+      one n = ap (λ (k : ℕ). cond (n .ok) (number (getD t p 0 - 128 + 128 * n .value) k) noNumber) (omega arith)
 
   same : p < length t → 128 ≤ getD t p 0 → groups (drop p t) ≡ moreGroups (drop p t)
   unfolding groups moreGroups
@@ -58,8 +58,8 @@ module _ (t : List ℕ) (p : ℕ) where
 -- ---- "shortest form only": further groups, where they are a number at all, make 1 at least; m at least where the first of them is
 least-of : (m b : ℕ) (n : Number) → m ≤ 128 → m ≤ b → (n .ok ≡ true → 1 ≤ n .value) →
     (x y : Bool) → ltb b 128 ≡ x → eqb b 0 ≡ y →
-    pick x (pick y noNumber (number b 1)) (pick (n .ok) (number (b - 128 + 128 * n .value) (suc (n .used))) noNumber) .ok ≡ true →
-    m ≤ pick x (pick y noNumber (number b 1)) (pick (n .ok) (number (b - 128 + 128 * n .value) (suc (n .used))) noNumber) .value
+    cond x (cond y noNumber (number b 1)) (cond (n .ok) (number (b - 128 + 128 * n .value) (suc (n .used))) noNumber) .ok ≡ true →
+    m ≤ cond x (cond y noNumber (number b 1)) (cond (n .ok) (number (b - 128 + 128 * n .value) (suc (n .used))) noNumber) .value
 least-of m b n small h f true true e g k = false-true k
 least-of m b n small h f true false e g k = h
 least-of m b n small h f false y e g k =
@@ -86,10 +86,10 @@ grown-on : (v s i b : ℕ) (n : Number) → grown v s i (grown b 128 1 n) ≡ gr
 unfolding grown
 grown-on v s i b n = go (n .ok)
   where
-    go : (k : Bool) → pick (pick k (number (b + 128 * n .value) (1 + n .used)) noNumber .ok)
-        (number (v + s * pick k (number (b + 128 * n .value) (1 + n .used)) noNumber .value)
-        (i + pick k (number (b + 128 * n .value) (1 + n .used)) noNumber .used)) noNumber
-        ≡ pick k (number (v + b * s + s * 128 * n .value) (i + 1 + n .used)) noNumber
+    go : (k : Bool) → cond (cond k (number (b + 128 * n .value) (1 + n .used)) noNumber .ok)
+        (number (v + s * cond k (number (b + 128 * n .value) (1 + n .used)) noNumber .value)
+        (i + cond k (number (b + 128 * n .value) (1 + n .used)) noNumber .used)) noNumber
+        ≡ cond k (number (v + b * s + s * 128 * n .value) (i + 1 + n .used)) noNumber
     go true = ap (λ (x : ℕ). number x (i + (1 + n .used))) (rw (mul-add s b (128 * n .value), mul-comm s b, mul-assoc s 128 (n .value)) (omega arith))
         ∙ ap (number (v + b * s + s * 128 * n .value)) (omega arith)
     go false = refl
@@ -110,9 +110,9 @@ module _ (limit : ℕ) (bs : List ℕ) where
 
 -- ---- a number takes a byte at least, and lies in the trace
 within-of : (x y : Bool) (b v n : ℕ) (w : Number) → (w .ok ≡ true → w .used ≤ n) →
-    pick x (pick y noNumber (number b 1)) (pick (w .ok) (number v (suc (w .used))) noNumber) .ok ≡ true →
-    (1 ≤ pick x (pick y noNumber (number b 1)) (pick (w .ok) (number v (suc (w .used))) noNumber) .used)
-    × (pick x (pick y noNumber (number b 1)) (pick (w .ok) (number v (suc (w .used))) noNumber) .used ≤ suc n)
+    cond x (cond y noNumber (number b 1)) (cond (w .ok) (number v (suc (w .used))) noNumber) .ok ≡ true →
+    (1 ≤ cond x (cond y noNumber (number b 1)) (cond (w .ok) (number v (suc (w .used))) noNumber) .used)
+    × (cond x (cond y noNumber (number b 1)) (cond (w .ok) (number v (suc (w .used))) noNumber) .used ≤ suc n)
 within-of true true b v n w f e = false-true e
 within-of true false b v n w f e = (omega arith, omega arith)
 within-of false y b v n w f e =
@@ -135,10 +135,10 @@ pub number-within : (limit : ℕ) (t : List ℕ) (p : ℕ) (a : Number) → a �
 unfolding numberBelow
 number-within limit t p a e o = rw e (go (rw e at o))
   where
-    go : pick (both (groups (drop p t) .ok) (ltb (groups (drop p t) .value) limit)) (groups (drop p t)) noNumber .ok ≡ true →
-        (1 ≤ pick (both (groups (drop p t) .ok) (ltb (groups (drop p t) .value) limit)) (groups (drop p t)) noNumber .used)
-        × (p + pick (both (groups (drop p t) .ok) (ltb (groups (drop p t) .value) limit)) (groups (drop p t)) noNumber .used ≤ length t)
-    go = bool (both (groups (drop p t) .ok) (ltb (groups (drop p t) .value) limit))
+    go : cond (groups (drop p t) .ok && ltb (groups (drop p t) .value) limit) (groups (drop p t)) noNumber .ok ≡ true →
+        (1 ≤ cond (groups (drop p t) .ok && ltb (groups (drop p t) .value) limit) (groups (drop p t)) noNumber .used)
+        × (p + cond (groups (drop p t) .ok && ltb (groups (drop p t) .value) limit) (groups (drop p t)) noNumber .used ≤ length t)
+    go = bool (groups (drop p t) .ok && ltb (groups (drop p t) .value) limit)
         (λ q. rw q (λ o. let w = groups-within (drop p t) o in let l = length-drop p t in (omega arith, omega arith)))
         (λ q. rw q (λ o. false-true o))
 
@@ -147,8 +147,8 @@ pub number-small : (limit : ℕ) (t : List ℕ) (p : ℕ) (a : Number) → a ≡
 unfolding numberBelow
 number-small limit t p a e o = rw e (go (rw e at o))
   where
-    go : pick (both (groups (drop p t) .ok) (ltb (groups (drop p t) .value) limit)) (groups (drop p t)) noNumber .ok ≡ true →
-        pick (both (groups (drop p t) .ok) (ltb (groups (drop p t) .value) limit)) (groups (drop p t)) noNumber .value < limit
+    go : cond (groups (drop p t) .ok && ltb (groups (drop p t) .value) limit) (groups (drop p t)) noNumber .ok ≡ true →
+        cond (groups (drop p t) .ok && ltb (groups (drop p t) .value) limit) (groups (drop p t)) noNumber .value < limit
     go = bool (groups (drop p t) .ok)
         (λ q. bool (ltb (groups (drop p t) .value) limit) (λ l. rw (q, l) (λ _. ltb-true (groups (drop p t) .value) limit l)) (λ l. rw (q, l) (λ o. false-true o)))
         (λ q. rw q (λ o. false-true o))

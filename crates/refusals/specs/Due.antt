@@ -7,12 +7,10 @@ use native.Mathlib.Omega.{arith}
 use lib.ListN.{length}
 use lib.Dec.{ltb, leb, eqb}
 use borrow.Author.Tests.{lt-ltb, le-ltb, le-leb, lt-leb, eq-eqb, ne-eqb, eqb-true}
-use Rattle.model.specs.Basics.{both}
 use Rattle.model.specs.Memories.{legalL2, legalExternal, externalBase, isMode, cacheSize}
 use Rattle.model.specs.Records.{state, sramOf, wellFormed}
 use Rattle.model.specs.Refusals.{unless, lentL1d, lentL2, lentExternal, lentDue, viewLentDue, viewDue, sizeOk, placeOk, valueOk, accessDue, blockDue, modeDue}
 use Rattle.model.specs.declared.Record.{Record}
-use Rattle.sizes.specs.Join.{and-both, or-either}
 
 -- "4: address not a multiple of the size"
 abbrev pub aligned : ℕ → ℕ → Bool
@@ -21,19 +19,19 @@ aligned n a = eqb (a % n) 0
 -- ---- the lent lengths
 pub lent-l2 : (r : Record) (m : List ℕ) (b : Bool) → b ≡ legalL2 (length m) → (b && eqb (length m) (r .l2len)) ≡ lentL2 r m
 unfolding lentL2
-lent-l2 r m b e = rw e (and-both (legalL2 (length m)) (eqb (length m) (r .l2len)))
+lent-l2 r m b e = rw e refl
 
 pub lent-external : (r : Record) (m : List ℕ) (b : Bool) → b ≡ legalExternal (length m) → (b && eqb (length m) (r .extlen)) ≡ lentExternal r m
 unfolding lentExternal
-lent-external r m b e = rw e (and-both (legalExternal (length m)) (eqb (length m) (r .extlen)))
+lent-external r m b e = rw e refl
 
 module _ (r : Record) (d m e : List ℕ) (a b : Bool) (ea : a ≡ legalL2 (length m)) (eb : b ≡ legalExternal (length e)) where
   abbrev lentFlag : Bool
   lentFlag = eqb (length d) 16384 && ((a && eqb (length m) (r .l2len)) && (b && eqb (length e) (r .extlen)))
 
-  lent-flag : lentFlag ≡ both (lentL1d d) (both (lentL2 r m) (lentExternal r e))
+  lent-flag : lentFlag ≡ (lentL1d d && (lentL2 r m && lentExternal r e))
   unfolding lentL1d
-  lent-flag = rw (lent-l2 r m a ea, lent-external r e b eb) (simp and-both)
+  lent-flag = rw (lent-l2 r m a ea, lent-external r e b eb) refl
 
   pub lent-one : lentFlag ≡ false → 1 ≡ lentDue (state r d m e)
   unfolding lentDue
@@ -52,8 +50,8 @@ module _ (r : Record) (m e : List ℕ) (x : ℕ) (a b : Bool) (ea : a ≡ legalL
   abbrev viewFlag : Bool
   viewFlag = (a && eqb (length m) (r .l2len)) && (b && eqb (length e) (r .extlen))
 
-  view-flag : viewFlag ≡ both (lentL2 r m) (lentExternal r e)
-  view-flag = rw (lent-l2 r m a ea, lent-external r e b eb) (simp and-both)
+  view-flag : viewFlag ≡ (lentL2 r m && lentExternal r e)
+  view-flag = rw (lent-l2 r m a ea, lent-external r e b eb) refl
 
   pub view-one : viewFlag ≡ false → 1 ≡ viewDue r m e x
   unfolding viewDue viewLentDue
@@ -82,7 +80,7 @@ module _ (r : Record) (m e : List ℕ) (x : ℕ) (a b : Bool) (ea : a ≡ legalL
 -- ---- a read or a write
 pub size-joined : (n : ℕ) → (eqb n 1 || (eqb n 2 || (eqb n 4 || eqb n 8))) ≡ sizeOk n
 unfolding sizeOk
-size-joined n = simp or-either
+size-joined n = refl
 
 module _ (n a : ℕ) where
   pub aligned-is : (k : ℕ) → n ≡ k → eqb (a % k) 0 ≡ aligned n a
@@ -159,7 +157,7 @@ module _ (b c : ℕ) where
 module _ (l m : ℕ) (b : Bool) (c : ℕ) (eb : b ≡ isMode m) (ec : c ≡ cacheSize m) where
   by-mode : modeDue l m ≡ unless (b && leb c l) 8
   unfolding modeDue
-  by-mode = rw (eb, ec, and-both (isMode m) (leb (cacheSize m) l)) refl
+  by-mode = rw (eb, ec) refl
 
   pub mode-none : (b && leb c l) ≡ true → 0 ≡ modeDue l m
   mode-none e = sym (by-mode ∙ rw e refl)

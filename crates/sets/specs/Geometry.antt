@@ -6,9 +6,9 @@ use mathlib.Core.Path.{_≡_, refl}
 use native.Mathlib.Omega.{arith}
 use lib.Dec.{ltb, leb, eqb}
 use borrow.Author.Tests.{ltb-true, ltb-false, le-leb, lt-leb}
-use Rattle.model.specs.Basics.{bool}
 use Rattle.model.specs.Memories.{cacheSize}
 use Rattle.model.specs.Lines.{l2Sets}
+use Rattle.model.specs.Laws.{bool}
 
 pub four-ways {ℓ} : (P : ℕ → Type ℓ) → P 0 → P 1 → P 2 → P 3 → (w : ℕ) → w < 4 → P w
 four-ways P a b c d zero h = a

@@ -4,9 +4,10 @@ use mathlib.Core.Bool.{true, false}
 use mathlib.Core.List.{List}
 use mathlib.Core.Path.{_≡_, refl, sym}
 use lib.Dec.{ltb, eqb}
-use Rattle.model.specs.Basics.{bool, false-true}
 use Rattle.model.specs.Memories.{externalBase}
-use Rattle.model.specs.Lines.{l2Line, l2Find}
+use Rattle.model.specs.Lines.{l2Line}
+use Rattle.model.specs.Ways.{l2Find}
+use Rattle.model.specs.Laws.{bool, false-true}
 use Rattle.model.specs.declared.Line.{Line}
 use Rattle.model.specs.declared.L2Set.{L2Set}
 use Rattle.stages.specs.Stages.{sentAs, sendBytes, sendHome, homed, goesInside, sendInside, belowAs, sendBelow}

@@ -1,13 +1,13 @@
 -- The stages of an access on single sets and memories: what each function of this crate returns and leaves behind. They are cut as the code is;
 -- that together they are the sentences of paper 01 (model/specs/Access) is shown where the record comes in.
 use Prim.Native.Nat.{ℕ, _+_, _-_, _%_}
-use mathlib.Core.Bool.{Bool, true, false, not}
+use mathlib.Core.Bool.{Bool, true, false, not, cond, _||_}
 use mathlib.Core.List.{List}
 use lib.Dec.{ltb, eqb}
-use Rattle.model.specs.Basics.{pick, either}
 use Rattle.model.specs.Bytes.{part, stored, little, littleBytes}
 use Rattle.model.specs.Memories.{externalBase}
-use Rattle.model.specs.Lines.{l1dSetOf, l1dData, l1dLine, l2DataIn, l2Line, emptyLine, lineOf, l1dGet, l2Get, l1dPut, l2Put, l1dUse, l2Use, l1dFind, l2Find, l1dVictim, l2Victim}
+use Rattle.model.specs.Lines.{l1dSetOf, l1dData, l1dLine, l2DataIn, l2Line, emptyLine, lineOf, l1dGet, l2Get, l1dPut, l2Put, l1dUse, l2Use}
+use Rattle.model.specs.Ways.{l1dFind, l2Find, l1dVictim, l2Victim}
 use Rattle.model.specs.declared.Command.{Command}
 use Rattle.model.specs.declared.Line.{Line}
 use Rattle.model.specs.declared.L1dSet.{L1dSet}
@@ -44,7 +44,7 @@ directAs v e = record { value = v; ext = e }
 
 unfoldable pub direct : Command → List ℕ → Direct
 direct c e =
-    pick (isWrite c) (directAs 0 (stored e (c .second - externalBase) (written c)))
+    cond (isWrite c) (directAs 0 (stored e (c .second - externalBase) (written c)))
     (directAs (little (part e (c .second - externalBase) (c .first))) e)
 
 -- ---- a hit: the L1D set and the value, and L1D's bytes
@@ -57,7 +57,7 @@ hitAs o l = record { out = o; l1d = l }
 
 unfoldable pub hit : L1dSet → ℕ → ℕ → Command → List ℕ → Hit
 hit s i w c l =
-    pick (isWrite c)
+    cond (isWrite c)
     (hitAs (served (l1dUse (l1dPut s w (lineOf (l1dGet s w .address) true)) w) 0) (stored l (l1dData i w + c .second % 64) (written c)))
     (hitAs (served (l1dUse s w) (little (part l (l1dData i w + c .second % 64) (c .first)))) l)
 
@@ -75,9 +75,9 @@ ended s a = record { done = true; set = s; answer = a }
 
 unfoldable pub frontOut : L1dSet → ℕ → ℕ → Bool → Command → List ℕ → List ℕ → Fronted
 frontOut s i due cached c l e =
-    pick (eqb due 0)
-    (pick cached
-    (pick (ltb (l1dFind s (l1dLine (c .second))) 2)
+    cond (eqb due 0)
+    (cond cached
+    (cond (ltb (l1dFind s (l1dLine (c .second))) 2)
     (frontAs (ended (hit s i (l1dFind s (l1dLine (c .second))) c l .out .set) (answer 0 1 (hit s i (l1dFind s (l1dLine (c .second))) c l .out .value)))
     (hit s i (l1dFind s (l1dLine (c .second))) c l .l1d) e)
     (frontAs (record { done = false; set = s; answer = answer 0 0 0 }) l e))
@@ -87,11 +87,11 @@ frontOut s i due cached c l e =
 -- ---- what leaves L1D
 unfoldable pub leaving : L1dSet → Bool → Departure
 leaving s write =
-    pick write (record { empties = false; way = 0; line = emptyLine })
+    cond write (record { empties = false; way = 0; line = emptyLine })
     (record { empties = true; way = l1dVictim s; line = l1dGet s (l1dVictim s) })
 
 unfoldable pub emptied : L1dSet → Departure → L1dSet
-emptied s g = pick (g .empties) (l1dPut s (g .way) emptyLine) s
+emptied s g = cond (g .empties) (l1dPut s (g .way) emptyLine) s
 
 -- ---- a dirty line goes home: the L2 set of its address, L2's bytes and external memory
 pub record Sent : Type 0 where
@@ -105,23 +105,23 @@ sentAs u m e = record { set = u; l2 = m; ext = e }
 -- a line's bytes bs at address a
 unfoldable pub sendBytes : L2Set → ℕ → ℕ → ℕ → ℕ → List ℕ → List ℕ → List ℕ → Sent
 sendBytes u sram sets t a bs m e =
-    pick (ltb a externalBase) (sentAs u (stored m a bs) e)
-    (pick (eqb sets 0) (sentAs u m (stored e (a - externalBase) bs))
-    (pick (ltb (l2Find u (l2Line a)) 4)
+    cond (ltb a externalBase) (sentAs u (stored m a bs) e)
+    (cond (eqb sets 0) (sentAs u m (stored e (a - externalBase) bs))
+    (cond (ltb (l2Find u (l2Line a)) 4)
     (sentAs (l2Put u (l2Find u (l2Line a)) (lineOf (l2Get u (l2Find u (l2Line a)) .address) true))
     (stored m (l2DataIn sram sets t (l2Find u (l2Line a)) + a % 128) bs) e)
     (sentAs u m e)))
 
 unfoldable pub sendHome : L2Set → ℕ → ℕ → ℕ → ℕ → ℕ → Line → List ℕ → List ℕ → List ℕ → Sent
 sendHome u sram sets t i w x l m e =
-    pick (x .valid) (pick (x .dirty) (sendBytes u sram sets t (x .address) (part l (l1dData i w) 64) m e) (sentAs u m e)) (sentAs u m e)
+    cond (x .valid) (cond (x .dirty) (sendBytes u sram sets t (x .address) (part l (l1dData i w) 64) m e) (sentAs u m e)) (sentAs u m e)
 
 -- ---- the same by where it goes: into a line of the L2 cache, or below it, for which no set is needed
 unfoldable pub homed : ℕ → ℕ → Bool
-homed sets a = pick (ltb a externalBase) false (not (eqb sets 0))
+homed sets a = cond (ltb a externalBase) false (not (eqb sets 0))
 
 unfoldable pub goesInside : ℕ → Line → Bool
-goesInside sets x = pick (x .valid) (pick (x .dirty) (homed sets (x .address)) false) false
+goesInside sets x = cond (x .valid) (cond (x .dirty) (homed sets (x .address)) false) false
 
 pub record Inside : Type 0 where
   pub set : L2Set
@@ -133,7 +133,7 @@ insideAs u m = record { set = u; l2 = m }
 -- into its L2 line, of set u, which becomes dirty and is not used
 unfoldable pub sendInside : L2Set → ℕ → ℕ → ℕ → ℕ → ℕ → ℕ → List ℕ → List ℕ → Inside
 sendInside u sram sets t i w a l m =
-    pick (ltb (l2Find u (l2Line a)) 4)
+    cond (ltb (l2Find u (l2Line a)) 4)
     (insideAs (l2Put u (l2Find u (l2Line a)) (lineOf (l2Get u (l2Find u (l2Line a)) .address) true))
     (stored m (l2DataIn sram sets t (l2Find u (l2Line a)) + a % 128) (part l (l1dData i w) 64)))
     (insideAs u m)
@@ -148,10 +148,10 @@ belowAs m e = record { l2 = m; ext = e }
 -- to SRAM, or to external memory where there is no L2 cache
 unfoldable pub sendBelow : ℕ → ℕ → ℕ → Line → List ℕ → List ℕ → List ℕ → Below
 sendBelow sets i w x l m e =
-    pick (x .valid)
-    (pick (x .dirty)
-    (pick (ltb (x .address) externalBase) (belowAs (stored m (x .address) (part l (l1dData i w) 64)) e)
-    (pick (eqb sets 0) (belowAs m (stored e (x .address - externalBase) (part l (l1dData i w) 64))) (belowAs m e)))
+    cond (x .valid)
+    (cond (x .dirty)
+    (cond (ltb (x .address) externalBase) (belowAs (stored m (x .address) (part l (l1dData i w) 64)) e)
+    (cond (eqb sets 0) (belowAs m (stored e (x .address - externalBase) (part l (l1dData i w) 64))) (belowAs m e)))
     (belowAs m e))
     (belowAs m e)
 
@@ -162,8 +162,8 @@ choice h f w x = record { homed = h; found = f; way = w; old = x }
 
 unfoldable pub choose : L2Set → Bool → ℕ → Choice
 choose u h a =
-    pick h
-    (pick (ltb (l2Find u (l2Line a)) 4) (choice true true (l2Find u (l2Line a)) emptyLine) (choice true false (l2Victim u) (l2Get u (l2Victim u))))
+    cond h
+    (cond (ltb (l2Find u (l2Line a)) 4) (choice true true (l2Find u (l2Line a)) emptyLine) (choice true false (l2Victim u) (l2Get u (l2Victim u))))
     (choice false true 0 emptyLine)
 
 -- ---- a half of an L2 line leaves L1D
@@ -179,9 +179,9 @@ half s d = record { set = s; dirty = d }
 
 unfoldable pub takeHalf : L1dSet → Bool → ℕ → ℕ → List ℕ → List ℕ → Taken
 takeHalf s on b to l m =
-    pick on
-    (pick (ltb (l1dFind s (l1dLine b)) 2)
-    (pick (l1dGet s (l1dFind s (l1dLine b)) .dirty)
+    cond on
+    (cond (ltb (l1dFind s (l1dLine b)) 2)
+    (cond (l1dGet s (l1dFind s (l1dLine b)) .dirty)
     (takenAs (half (l1dPut s (l1dFind s (l1dLine b)) emptyLine) true) (stored m (to + b % 128) (part l (l1dData (l1dSetOf b) (l1dFind s (l1dLine b))) 64)))
     (takenAs (half (l1dPut s (l1dFind s (l1dLine b)) emptyLine) false) m))
     (takenAs (half s false) m))
@@ -189,14 +189,14 @@ takeHalf s on b to l m =
 
 -- a valid line goes out that is dirty, or took in a dirty half
 unfoldable pub goesOut : Line → Bool → Bool → Bool
-goesOut x lower upper = pick (x .valid) (either (x .dirty) (either lower upper)) false
+goesOut x lower upper = cond (x .valid) (x .dirty || (lower || upper)) false
 
 -- ---- an L2 line goes out
 unfoldable pub writeOut : Bool → ℕ → ℕ → List ℕ → List ℕ → List ℕ
-writeOut on a from m e = pick on (stored e (a - externalBase) (part m from 128)) e
+writeOut on a from m e = cond on (stored e (a - externalBase) (part m from 128)) e
 
 unfoldable pub marked : L2Set → ℕ → Bool → L2Set
-marked u v write = pick write (l2Put u v (lineOf (l2Get u v .address) true)) u
+marked u v write = cond write (l2Put u v (lineOf (l2Get u v .address) true)) u
 
 -- ---- L2 has the line: the L2 set, L2's bytes and external memory
 pub record Brought : Type 0 where
@@ -209,14 +209,14 @@ broughtAs u m e = record { set = u; l2 = m; ext = e }
 
 unfoldable pub bring : L2Set → Choice → Bool → Bool → ℕ → ℕ → List ℕ → List ℕ → Brought
 bring u ch dirty write a at m e =
-    pick (ch .found)
+    cond (ch .found)
     (broughtAs (marked (l2Use u (ch .way)) (ch .way) write) m e)
     (broughtAs (marked (l2Use (l2Put u (ch .way) (lineOf (l2Line a) false)) (ch .way)) (ch .way) write)
     (stored m at (part (writeOut dirty (ch .old .address) at m e) (l2Line a - externalBase) 128)) (writeOut dirty (ch .old .address) at m e))
 
 -- ---- where the bytes of an address lie behind L1D; `at` is the place of the L2 line where L2 is the home
 unfoldable pub homeOf : Bool → ℕ → ℕ → Home
-homeOf h at a = pick h (InL2 (at + a % 128)) (pick (ltb a externalBase) (InL2 a) (InExternal (a - externalBase)))
+homeOf h at a = cond h (InL2 (at + a % 128)) (cond (ltb a externalBase) (InL2 a) (InExternal (a - externalBase)))
 
 pub record Stored : Type 0 where
   pub l2 : List ℕ
@@ -245,7 +245,7 @@ finishedAs o l m e = record { out = o; l1d = l; l2 = m; ext = e }
 
 unfoldable pub finish : L1dSet → ℕ → ℕ → Bool → ℕ → Command → List ℕ → List ℕ → List ℕ → Finished
 finish s i w h at c l m e =
-    pick (isWrite c)
+    cond (isWrite c)
     (finishedAs (served s 0) l (storeHome (homeOf h at (c .second)) (c .first) (c .value) m e .l2) (storeHome (homeOf h at (c .second)) (c .first) (c .value) m e .ext))
     (finishedAs
     (served (l1dUse (l1dPut s w (lineOf (l1dLine (c .second)) false)) w)
@@ -254,7 +254,7 @@ finish s i w h at c l m e =
 
 -- where the home is not L2
 unfoldable pub serverBelow : ℕ → ℕ
-serverBelow a = pick (ltb a externalBase) 2 4
+serverBelow a = cond (ltb a externalBase) 2 4
 
 unfoldable pub serverOf : Choice → ℕ → ℕ
-serverOf ch a = pick (ch .homed) (pick (ch .found) 3 4) (pick (ltb a externalBase) 2 4)
+serverOf ch a = cond (ch .homed) (cond (ch .found) 3 4) (cond (ltb a externalBase) 2 4)

@@ -1,7 +1,7 @@
 -- What the loop makes of its commands: the run of paper 01 (`runFrom`), with the last answer beside it, over a source of commands that is a trace or
 -- one given command.
 use Prim.Native.Nat.{ℕ, zero, suc, _+_, _*_, _-_, _≤_, _<_}
-use mathlib.Core.Bool.{Bool, true, false}
+use mathlib.Core.Bool.{Bool, true, false, cond}
 use mathlib.Core.List.{List}
 use mathlib.Core.Path.{_≡_, refl, sym, ap, _∙_}
 use mathlib.Core.Logic.{_⊎_}
@@ -10,11 +10,11 @@ use native.Mathlib.Numerals.{add-one}
 use lib.ListN.{length, drop}
 use lib.Dec.{ltb, leb, eqb}
 use borrow.Author.Tests.{lt-ltb, le-ltb, le-leb, leb-true, eq-eqb, ne-eqb}
-use Rattle.model.specs.Basics.{pick, bool}
 use Rattle.model.specs.Memories.{externalBase}
 use Rattle.model.specs.Records.{State, state}
 use Rattle.model.specs.Trace.{Decoded, decoded, decode}
-use Rattle.model.specs.Calls.{Reply, step, Run, ran, putAnswer, runFrom}
+use Rattle.model.specs.Calls.{Reply, step, Run, ran, putAnswer, commandAt, putReply, runFrom}
+use Rattle.model.specs.Laws.{bool}
 use Rattle.model.specs.declared.Command.{Command}
 use Rattle.decode.specs.Told.{told}
 use Rattle.decode.specs.Codes.{DecodedAt}
@@ -24,10 +24,10 @@ use Rattle.turns.specs.declared.Ran.{Ran}
 
 -- ---- where commands come from
 abbrev pub sourceOf : Bool → Command → List ℕ → ℕ → Decoded
-sourceOf single c t i = pick single (decoded c 1) (decode (drop i t))
+sourceOf single c t i = cond single (decoded c 1) (decode (drop i t))
 
 unfoldable pub endOf : Bool → List ℕ → ℕ
-endOf single t = pick single 1 (length t)
+endOf single t = cond single 1 (length t)
 
 -- the command at a place; one that lies before the end takes a byte at least and ends before it
 pub record NextAt (single : Bool) (c : Command) (t : List ℕ) (at : ℕ) (r : Next) : Type 0 where
@@ -36,11 +36,11 @@ pub record NextAt (single : Bool) (c : Command) (t : List ℕ) (at : ℕ) (r : N
 
 -- why a run stops before a command: 11, then 12
 unfoldable pub stopOf : Bool → ℕ → ℕ → ℕ
-stopOf ok len k = pick ok (pick (leb (k * 10 + 10) len) 0 12) 11
+stopOf ok len k = cond ok (cond (leb (k * 10 + 10) len) 0 12) 11
 
 -- `cacheable` by the two MAR bits
 unfoldable pub cachedBy : Bool → Bool → ℕ → Bool
-cachedBy a b x = pick (ltb x externalBase) true (pick (ltb x 2164260864) a b)
+cachedBy a b x = cond (ltb x externalBase) true (cond (ltb x 2164260864) a b)
 
 -- ---- the run, with the last answer
 abbrev pub noAnswer : Answer
@@ -59,10 +59,9 @@ executed x a = record { run = x; last = a }
 unfoldable pub executes : (ℕ → Decoded) → ℕ → ℕ → ℕ → State → ℕ → List ℕ → Answer → Executed
 executes source end zero i z k o a = executed (ran z i k 0 o) a
 executes source end (suc turns) i z k o a =
-    pick (ltb i end)
-    (pick (eqb (stopOf (source i .ok) (length o) k) 0)
-    (executes source end turns (i + source i .used) (step (source i .found) z .next) (suc k)
-    (putAnswer o k (step (source i .found) z .number) (step (source i .found) z .server) (step (source i .found) z .value))
+    cond (ltb i end)
+    (cond (eqb (stopOf (source i .ok) (length o) k) 0)
+    (executes source end turns (i + source i .used) (step (source i .found) z .next) (suc k) (putReply o k (step (source i .found) z))
     (answerOf (step (source i .found) z)))
     (executed (ran z i k (stopOf (source i .ok) (length o) k) o) a))
     (executed (ran z i k 0 o) a)
@@ -72,17 +71,16 @@ abbrev pub executedAs : Ran → List ℕ → List ℕ → List ℕ → List ℕ 
 executedAs q l m e o = executed (ran (state (q .«record») l m e) (q .consumed) (q .count) (q .stop) o) (q .last)
 
 -- ---- it is the run of paper 01
-pub executes-run : (source : ℕ → Decoded) (end turns i : ℕ) (z : State) (k : ℕ) (o : List ℕ) (a : Answer) →
-    executes source end turns i z k o a .run ≡ runFrom source end turns i z k o
+pub executes-run : (t : List ℕ) (turns i : ℕ) (z : State) (k : ℕ) (o : List ℕ) (a : Answer) →
+    executes (commandAt t) (length t) turns i z k o a .run ≡ runFrom t turns i z k o
 unfolding executes runFrom stopOf
-executes-run source end zero i z k o a = refl
-executes-run source end (suc turns) i z k o a =
-    bool (ltb i end)
-    (λ b. bool (source i .ok)
+executes-run t zero i z k o a = refl
+executes-run t (suc turns) i z k o a =
+    let x = step (commandAt t i .found) z in
+    bool (ltb i (length t))
+    (λ b. bool (commandAt t i .ok)
     (λ c. bool (leb (k * 10 + 10) (length o))
-    (λ d. rw (b, c, d)
-    (executes-run source end turns (i + source i .used) (step (source i .found) z .next) (suc k)
-    (putAnswer o k (step (source i .found) z .number) (step (source i .found) z .server) (step (source i .found) z .value)) (answerOf (step (source i .found) z))))
+    (λ d. rw (b, c, d) (executes-run t turns (i + commandAt t i .used) (x .next) (suc k) (putReply o k x) (answerOf x)))
     (λ d. rw (b, c, d) refl))
     (λ c. rw (b, c) refl))
     (λ b. rw b refl)
@@ -90,7 +88,7 @@ executes-run source end (suc turns) i z k o a =
 -- a single command is that step, where its answer has room
 pub executes-one : (c : Command) (t : List ℕ) (z : State) (o : List ℕ) (a : Answer) → 10 ≤ length o →
     executes (sourceOf true c t) 1 1 0 z 0 o a
-    ≡ executed (ran (step c z .next) 1 1 0 (putAnswer o 0 (step c z .number) (step c z .server) (step c z .value))) (answerOf (step c z))
+    ≡ executed (ran (step c z .next) 1 1 0 (putReply o 0 (step c z))) (answerOf (step c z))
 unfolding executes stopOf
 executes-one c t z o a h = rw (le-leb 10 (length o) h) refl
 

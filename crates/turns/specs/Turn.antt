@@ -9,14 +9,16 @@ use native.Mathlib.Numerals.{add-one, add-two}
 use lib.ListN.{length, set, length-set}
 use lib.Dec.{ltb, eqb}
 use borrow.Author.Tests.{eq-eqb}
-use Rattle.model.specs.Basics.{bool, false-true}
-use Rattle.model.specs.Bytes.{stored, littleBytes, length-littleBytes}
+use Rattle.model.specs.Bytes.{stored, littleBytes}
 use Rattle.model.specs.Memories.{externalBase, sramLength}
-use Rattle.model.specs.Lines.{l1dSetOf, l2SetIn, l2DataIn, l2Sets, upperHalf, l1dVictim}
+use Rattle.model.specs.Lines.{l1dSetOf, l2SetIn, l2DataIn, l2Sets, upperHalf}
 use Rattle.model.specs.Records.{State, state, sramOf, l2SetsOf, l2SetOf, l2Data, marBit, l1dSetAt, l2SetAt, withL1dSet, withL2Set}
-use Rattle.model.specs.Access.{inL1d, l2WayFor, cacheable, homeIsL2, homeServer}
+use Rattle.model.specs.Ways.{l1dVictim, inL1d}
+use Rattle.model.specs.Access.{cacheable}
+use Rattle.model.specs.Homes.{l2WayFor, homeIsL2, homeServer}
 use Rattle.model.specs.Refusals.{sizeOk, accessDue}
 use Rattle.model.specs.Calls.{reply, commandDue, step, putAnswer}
+use Rattle.model.specs.Laws.{bool, false-true, length-littleBytes}
 use Rattle.model.specs.declared.L1dSet.{L1dSet}
 use Rattle.model.specs.declared.Record.{Record}
 use Rattle.model.specs.declared.Command.{Command}

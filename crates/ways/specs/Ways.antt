@@ -1,19 +1,18 @@
 -- The tests of one line and of the ways of one set, as the code joins them.
 use Prim.Native.Nat.{ℕ, _+_, _%_, _≤_, _<_}
-use mathlib.Core.Bool.{Bool, true, false, _&&_, _||_, not}
+use mathlib.Core.Bool.{Bool, true, false, not, _&&_, _||_, and-assoc, and-true, and-false, or-false}
 use mathlib.Core.List.{List, [], _∷_}
 use mathlib.Core.Path.{_≡_, refl, sym, ap, _∙_}
 use native.Mathlib.Omega.{arith}
 use lib.ListN.{length, getD}
 use lib.Dec.{ltb, leb, eqb}
 use borrow.Author.Tests.{lt-ltb, le-ltb, ne-eqb}
-use Rattle.model.specs.Basics.{pick, both, any}
+use Rattle.model.specs.Basics.{anyOf}
 use Rattle.model.specs.Memories.{externalBase}
 use Rattle.model.specs.Lines.{l1dSetOf, l2Line, holds, emptyLine}
 use Rattle.model.specs.Records.{emptyWay, noneTwice, permuted4}
 use Rattle.model.specs.declared.Line.{Line}
 use Rattle.model.specs.declared.Order4.{Order4}
-use Rattle.sizes.specs.Join.{and-both, or-pick}
 use Rattle.ways.specs.Tests.{marOf, l2Index, covered, l1dLineTest, l2LineTest}
 
 -- ---- a list of two and of four
@@ -31,34 +30,13 @@ four d (w ∷ x ∷ y ∷ []) e = absurd (omega arith)
 four d (w ∷ x ∷ y ∷ z ∷ []) e = refl
 four d (w ∷ x ∷ y ∷ z ∷ u ∷ us) e = absurd (omega arith)
 
--- ---- what is left of a test at the end of a list
-pub pick-end : (b : Bool) → pick b true false ≡ b
-pick-end true = refl
-pick-end false = refl
+pub any-two : (p : Line → Bool) (x y : Line) → anyOf p (x ∷ y ∷ []) ≡ (p x || p y)
+unfolding anyOf
+any-two p x y = rw (or-false (p y)) refl
 
-pub both-end : (b : Bool) → both b true ≡ b
-both-end true = refl
-both-end false = refl
-
-pub both-none : (b : Bool) → both b false ≡ false
-both-none true = refl
-both-none false = refl
-
-pub both-assoc : (a b c : Bool) → both (both a b) c ≡ both a (both b c)
-both-assoc true b c = refl
-both-assoc false b c = refl
-
-pub any-two : (p : Line → Bool) (x y : Line) → any p (x ∷ y ∷ []) ≡ pick (p x) true (p y)
-unfolding any
-any-two p x y = rw (pick-end (p y)) refl
-
-any-three : (p : Line → Bool) (x y z : Line) → any p (x ∷ y ∷ z ∷ []) ≡ pick (p x) true (pick (p y) true (p z))
-unfolding any
-any-three p x y z = rw (pick-end (p z)) refl
-
-pub any-four : (p : Line → Bool) (w x y z : Line) → any p (w ∷ x ∷ y ∷ z ∷ []) ≡ pick (p w) true (pick (p x) true (pick (p y) true (p z)))
-unfolding any
-any-four p w x y z = rw (pick-end (p z)) refl
+pub any-four : (p : Line → Bool) (w x y z : Line) → anyOf p (w ∷ x ∷ y ∷ z ∷ []) ≡ (p w || (p x || (p y || p z)))
+unfolding anyOf
+any-four p w x y z = rw (or-false (p z)) refl
 
 -- ---- an L2 set covers a line
 module _ (sets a : ℕ) (xs : List Line) where
@@ -77,8 +55,8 @@ module _ (sets a : ℕ) (xs : List Line) where
   unfolding covered
   covers-one n h s b0 b1 b2 b3 e0 e1 e2 e3 =
       rw (le-ltb a externalBase h, ne-eqb sets 0 s)
-      (simp (or-pick, e0, e1, e2, e3)
-      (sym (ap (any (λ y. holds y (l2Line a))) (four emptyLine xs n)
+      (rw (e0, e1, e2, e3)
+      (sym (ap (anyOf (λ y. holds y (l2Line a))) (four emptyLine xs n)
       ∙ any-four (λ y. holds y (l2Line a)) (getD xs 0 emptyLine) (getD xs 1 emptyLine) (getD xs 2 emptyLine) (getD xs 3 emptyLine))))
 
 -- ---- a line of L1D
@@ -86,17 +64,17 @@ module _ (sram end : ℕ) (m128 m129 : Bool) (s : ℕ) (inside : Bool) (x : Line
   pub l1d-line-low : x .valid ≡ true → x .address < externalBase →
       ((eqb (x .address % 64) 0 && eqb s (l1dSetOf (x .address))) && leb (x .address + 64) sram) ≡ l1dLineTest sram end m128 m129 s inside x
   unfolding l1dLineTest
-  l1d-line-low v h = rw (v, lt-ltb (x .address) externalBase h) (simp (and-both, both-assoc))
+  l1d-line-low v h = rw (v, lt-ltb (x .address) externalBase h) (simp and-assoc)
 
   pub l1d-line-high : x .valid ≡ true → externalBase ≤ x .address → (m : Bool) → m ≡ marOf m128 m129 (x .address) →
       ((eqb (x .address % 64) 0 && eqb s (l1dSetOf (x .address))) && (leb (x .address + 64) end && (m && inside)))
       ≡ l1dLineTest sram end m128 m129 s inside x
   unfolding l1dLineTest
-  l1d-line-high v h m e = rw (v, le-ltb (x .address) externalBase h, e) (simp (and-both, both-assoc))
+  l1d-line-high v h m e = rw (v, le-ltb (x .address) externalBase h, e) (simp and-assoc)
 
   pub l1d-line-invalid : x .valid ≡ false → (not (x .dirty) && eqb (x .address) 0) ≡ l1dLineTest sram end m128 m129 s inside x
   unfolding l1dLineTest emptyWay
-  l1d-line-invalid v = rw v (and-both (not (x .dirty)) (eqb (x .address) 0))
+  l1d-line-invalid v = rw v refl
 
 -- ---- a line of L2
 module _ (sets end : ℕ) (m128 m129 : Bool) (t : ℕ) (x : Line) where
@@ -104,25 +82,25 @@ module _ (sets end : ℕ) (m128 m129 : Bool) (t : ℕ) (x : Line) where
       ((eqb (x .address % 128) 0 && (eqb t i && ltb t sets)) && ((leb externalBase (x .address) && leb (x .address + 128) end) && m))
       ≡ l2LineTest sets end m128 m129 t x
   unfolding l2LineTest
-  l2-line-valid v i e m f = rw (v, e, f) (simp (and-both, both-assoc))
+  l2-line-valid v i e m f = rw (v, e, f) (simp and-assoc)
 
   pub l2-line-invalid : x .valid ≡ false → (not (x .dirty) && eqb (x .address) 0) ≡ l2LineTest sets end m128 m129 t x
   unfolding l2LineTest emptyWay
-  l2-line-invalid v = rw v (and-both (not (x .dirty)) (eqb (x .address) 0))
+  l2-line-invalid v = rw v refl
 
 -- ---- no line twice
-pub twice-two : (x y : Line) → noneTwice (x ∷ y ∷ []) ≡ not (both (x .valid) (holds y (x .address)))
-unfolding noneTwice any
-twice-two x y = simp (pick-end, both-none, both-end)
+pub twice-two : (x y : Line) → noneTwice (x ∷ y ∷ []) ≡ not (x .valid && holds y (x .address))
+unfolding noneTwice anyOf
+twice-two x y = simp (or-false, and-false, and-true)
 
 pub twice-four : (xs : List Line) → length xs ≡ 4 →
-    noneTwice xs ≡ both (not (both (getD xs 0 emptyLine .valid) (pick (holds (getD xs 1 emptyLine) (getD xs 0 emptyLine .address)) true
-    (pick (holds (getD xs 2 emptyLine) (getD xs 0 emptyLine .address)) true (holds (getD xs 3 emptyLine) (getD xs 0 emptyLine .address))))))
-    (both (not (both (getD xs 1 emptyLine .valid) (pick (holds (getD xs 2 emptyLine) (getD xs 1 emptyLine .address)) true
-    (holds (getD xs 3 emptyLine) (getD xs 1 emptyLine .address)))))
-    (not (both (getD xs 2 emptyLine .valid) (holds (getD xs 3 emptyLine) (getD xs 2 emptyLine .address)))))
-unfolding noneTwice any
-twice-four xs n = ap noneTwice (four emptyLine xs n) ∙ simp (pick-end, both-none, both-end)
+    noneTwice xs ≡ (not (getD xs 0 emptyLine .valid && (holds (getD xs 1 emptyLine) (getD xs 0 emptyLine .address) ||
+    (holds (getD xs 2 emptyLine) (getD xs 0 emptyLine .address) || holds (getD xs 3 emptyLine) (getD xs 0 emptyLine .address)))) &&
+    (not (getD xs 1 emptyLine .valid && (holds (getD xs 2 emptyLine) (getD xs 1 emptyLine .address) ||
+    holds (getD xs 3 emptyLine) (getD xs 1 emptyLine .address))) &&
+    not (getD xs 2 emptyLine .valid && holds (getD xs 3 emptyLine) (getD xs 2 emptyLine .address))))
+unfolding noneTwice anyOf
+twice-four xs n = ap noneTwice (four emptyLine xs n) ∙ simp (or-false, and-false, and-true)
 
 -- ---- the ways of a set
 pub twice-joined : (xs : List Line) → length xs ≡ 4 → (b01 b02 b03 b12 b13 b23 : Bool) →
@@ -133,7 +111,7 @@ pub twice-joined : (xs : List Line) → length xs ≡ 4 → (b01 b02 b03 b12 b13
     (getD xs 2 emptyLine .valid && b23)))
     ≡ noneTwice xs
 twice-joined xs n b01 b02 b03 b12 b13 b23 e01 e02 e03 e12 e13 e23 =
-    rw (twice-four xs n, e01, e02, e03, e12, e13, e23) (simp (and-both, or-pick))
+    rw (twice-four xs n, e01, e02, e03, e12, e13, e23) refl
 
 pub permuted-4-joined : (o : Order4) →
     ((ltb (o .first) 4 && (ltb (o .second) 4 && (ltb (o .third) 4 && ltb (o .fourth) 4)))
@@ -141,4 +119,4 @@ pub permuted-4-joined : (o : Order4) →
     && (not (eqb (o .second) (o .third)) && (not (eqb (o .second) (o .fourth)) && not (eqb (o .third) (o .fourth))))))
     ≡ permuted4 o
 unfolding permuted4
-permuted-4-joined o = simp (and-both, both-assoc)
+permuted-4-joined o = simp and-assoc

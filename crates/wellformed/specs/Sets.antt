@@ -1,6 +1,6 @@
 -- The model's tests of a record's sets are the tests by numbers, and how a loop over all sets reads them.
 use Prim.Native.Nat.{ℕ, _+_, _/_, _%_, _≤_, _<_}
-use mathlib.Core.Bool.{Bool, true, false, not, _&&_}
+use mathlib.Core.Bool.{Bool, true, false, not, _&&_, cond, and-true, and-false, and-assoc}
 use mathlib.Core.List.{List}
 use mathlib.Core.Path.{_≡_, refl, sym, ap, _∙_}
 use native.Mathlib.Omega.{arith}
@@ -9,48 +9,48 @@ use lib.ListN.{length, getD, drop, drop-of-length-le}
 use lib.Seq.{drop-cons}
 use lib.Dec.{ltb, leb, eqb}
 use borrow.Author.Tests.{eqb-true, lt-ltb, le-ltb}
-use Rattle.model.specs.Basics.{pick, both, all, bool, both-true, false-true}
+use Rattle.model.specs.Basics.{allIndexed}
 use Rattle.model.specs.Memories.{externalBase, cacheSize, legalL2, legalExternal, isMode}
 use Rattle.model.specs.Lines.{l2Sets, l2SetIn, holds, emptyLine, l1dGet, l2Get}
-use Rattle.model.specs.Records.{emptyWay, sramOf, l2SetsOf, noL1dSet, noL2Set, l1dSetAt, l2SetAt, marBit, insideL2Line, l1dPlace, l2Place, l1dLineOk, l2LineOk, noneTwice, freshUnlessUsed, permuted2, permuted4, l1dSetOk, l2SetOk, legalSizes, wellFormed}
+use Rattle.model.specs.Records.{emptyWay, sramOf, l2SetsOf, noL1dSet, noL2Set, l1dSetAt, l2SetAt, marBit, insideL2Line, ownL1dSet, ownL2Set, inSram, inCacheable, l1dRegion, l2Region, coveredByL2, l1dPlace, l2Place, l1dLineOk, l2LineOk, noneTwice, freshUnlessUsed, permuted2, permuted4, l1dSetOk, l2SetOk, legalSizes, wellFormed}
+use Rattle.model.specs.Laws.{bool, both-true, false-true}
 use Rattle.model.specs.declared.Line.{Line}
 use Rattle.model.specs.declared.Order4.{Order4}
 use Rattle.model.specs.declared.L1dSet.{L1dSet}
 use Rattle.model.specs.declared.L2Set.{L2Set}
 use Rattle.model.specs.declared.Record.{Record}
-use Rattle.sizes.specs.Join.{and-both}
 use Rattle.ways.specs.Tests.{l2Index, covered, l1dLineTest, l2LineTest}
-use Rattle.ways.specs.Ways.{two, four, both-end, both-none, twice-two, twice-four, both-assoc}
+use Rattle.ways.specs.Ways.{two, four, twice-two, twice-four}
 
 -- ---- the tests of a set, by numbers
 unfoldable pub l1dSetTest : ℕ → ℕ → Bool → Bool → ℕ → Bool → Bool → L1dSet → Bool
 l1dSetTest sram end m128 m129 s inside0 inside1 v =
-    both (both (l1dLineTest sram end m128 m129 s inside0 (l1dGet v 0)) (l1dLineTest sram end m128 m129 s inside1 (l1dGet v 1)))
-    (both (not (both (l1dGet v 0 .valid) (holds (l1dGet v 1) (l1dGet v 0 .address)))) (permuted2 (v .order)))
+    (l1dLineTest sram end m128 m129 s inside0 (l1dGet v 0) && l1dLineTest sram end m128 m129 s inside1 (l1dGet v 1)) &&
+    (not (l1dGet v 0 .valid && holds (l1dGet v 1) (l1dGet v 0 .address)) && permuted2 (v .order))
 
 unfoldable pub l2SetTest : ℕ → ℕ → Bool → Bool → ℕ → L2Set → Bool
 l2SetTest sets end m128 m129 t v =
-    both (both (l2LineTest sets end m128 m129 t (l2Get v 0)) (both (l2LineTest sets end m128 m129 t (l2Get v 1))
-    (both (l2LineTest sets end m128 m129 t (l2Get v 2)) (l2LineTest sets end m128 m129 t (l2Get v 3)))))
-    (both (noneTwice (v .lines)) (permuted4 (v .order)))
+    (l2LineTest sets end m128 m129 t (l2Get v 0) && (l2LineTest sets end m128 m129 t (l2Get v 1) &&
+    (l2LineTest sets end m128 m129 t (l2Get v 2) && l2LineTest sets end m128 m129 t (l2Get v 3)))) &&
+    (noneTwice (v .lines) && permuted4 (v .order))
 
 -- what a set not in use has to be: order 3,2,1,0, nothing valid
 unfoldable pub freshLine : Line → Bool
-freshLine x = both (not (x .valid)) (emptyWay x)
+freshLine x = not (x .valid) && emptyWay x
 
 abbrev freshOrder : Order4 → Bool
-freshOrder o = both (eqb (o .first) 3) (both (eqb (o .second) 2) (both (eqb (o .third) 1) (eqb (o .fourth) 0)))
+freshOrder o = eqb (o .first) 3 && (eqb (o .second) 2 && (eqb (o .third) 1 && eqb (o .fourth) 0))
 
 unfoldable pub freshSet : L2Set → Bool
 freshSet v =
-    both (freshLine (l2Get v 0)) (both (freshLine (l2Get v 1)) (both (freshLine (l2Get v 2)) (both (freshLine (l2Get v 3)) (freshOrder (v .order)))))
+    freshLine (l2Get v 0) && (freshLine (l2Get v 1) && (freshLine (l2Get v 2) && (freshLine (l2Get v 3) && freshOrder (v .order))))
 
 pub l1d-set-joined : (sram end : ℕ) (m128 m129 : Bool) (s : ℕ) (i j : Bool) (v : L1dSet) (p0 p1 h o : Bool) →
     p0 ≡ l1dLineTest sram end m128 m129 s i (l1dGet v 0) → p1 ≡ l1dLineTest sram end m128 m129 s j (l1dGet v 1) →
     h ≡ holds (l1dGet v 1) (l1dGet v 0 .address) → o ≡ permuted2 (v .order) →
     ((p0 && p1) && (not (l1dGet v 0 .valid && h) && o)) ≡ l1dSetTest sram end m128 m129 s i j v
 unfolding l1dSetTest
-l1d-set-joined sram end m128 m129 s i j v p0 p1 h o e0 e1 eh eo = rw (e0, e1, eh, eo) (simp and-both)
+l1d-set-joined sram end m128 m129 s i j v p0 p1 h o e0 e1 eh eo = rw (e0, e1, eh, eo) refl
 
 pub l2-set-joined : (sets end : ℕ) (m128 m129 : Bool) (t : ℕ) (v : L2Set) (p0 p1 p2 p3 n o : Bool) →
     p0 ≡ l2LineTest sets end m128 m129 t (l2Get v 0) → p1 ≡ l2LineTest sets end m128 m129 t (l2Get v 1) →
@@ -58,18 +58,18 @@ pub l2-set-joined : (sets end : ℕ) (m128 m129 : Bool) (t : ℕ) (v : L2Set) (p
     n ≡ noneTwice (v .lines) → o ≡ permuted4 (v .order) →
     ((p0 && (p1 && (p2 && p3))) && (n && o)) ≡ l2SetTest sets end m128 m129 t v
 unfolding l2SetTest
-l2-set-joined sets end m128 m129 t v p0 p1 p2 p3 n o e0 e1 e2 e3 en eo = rw (e0, e1, e2, e3, en, eo) (simp and-both)
+l2-set-joined sets end m128 m129 t v p0 p1 p2 p3 n o e0 e1 e2 e3 en eo = rw (e0, e1, e2, e3, en, eo) refl
 
 pub fresh-line-joined : (x : Line) → (not (x .valid) && (not (x .dirty) && eqb (x .address) 0)) ≡ freshLine x
 unfolding freshLine emptyWay
-fresh-line-joined x = simp and-both
+fresh-line-joined x = refl
 
 pub fresh-set-joined : (v : L2Set) (b0 b1 b2 b3 : Bool) →
     b0 ≡ freshLine (l2Get v 0) → b1 ≡ freshLine (l2Get v 1) → b2 ≡ freshLine (l2Get v 2) → b3 ≡ freshLine (l2Get v 3) →
     (((b0 && b1) && (b2 && b3)) && (eqb (v .order .first) 3 && (eqb (v .order .second) 2 && (eqb (v .order .third) 1 && eqb (v .order .fourth) 0))))
     ≡ freshSet v
 unfolding freshSet
-fresh-set-joined v b0 b1 b2 b3 e0 e1 e2 e3 = rw (e0, e1, e2, e3) (simp (and-both, both-assoc))
+fresh-set-joined v b0 b1 b2 b3 e0 e1 e2 e3 = rw (e0, e1, e2, e3) (simp and-assoc)
 
 -- ---- of a fresh set the rest of the test holds: no line is there twice, and 3,2,1,0 is a permutation
 fresh-invalid : (x : Line) → freshLine x ≡ true → x .valid ≡ false
@@ -90,26 +90,26 @@ fresh-permuted o e =
     rw (eqb-true (o .first) 3 (a .0), eqb-true (o .second) 2 (b .0), eqb-true (o .third) 1 (c .0), eqb-true (o .fourth) 0 (c .1)) refl
 
 fresh-rest : (a b c d n p o : Bool) → (a ≡ true → b ≡ true → c ≡ true → n ≡ true) → (o ≡ true → p ≡ true) →
-    both a (both b (both c (both d o))) ≡ both (both a (both b (both c d))) (both n (both p o))
+    (a && (b && (c && (d && o)))) ≡ ((a && (b && (c && d))) && (n && (p && o)))
 fresh-rest false b c d n p o f g = refl
 fresh-rest true false c d n p o f g = refl
 fresh-rest true true false d n p o f g = refl
 fresh-rest true true true false n p o f g = refl
-fresh-rest true true true true n p false f g = rw (both-none p, both-none n) refl
+fresh-rest true true true true n p false f g = rw (and-false p, and-false n) refl
 fresh-rest true true true true n p true f g = rw (f refl refl refl, g refl) refl
 
 -- ---- a loop that goes up over a list
 module _ {ℓ} {A : Type ℓ} (f : ℕ → A → Bool) (xs : List A) (i : ℕ) (d : A) where
-  pub all-next : i < length xs → f i (getD xs i d) ≡ true → all f i (drop i xs) ≡ all f (i + 1) (drop (i + 1) xs)
-  unfolding all
+  pub all-next : i < length xs → f i (getD xs i d) ≡ true → allIndexed f i (drop i xs) ≡ allIndexed f (i + 1) (drop (i + 1) xs)
+  unfolding allIndexed
   all-next h e = rw (add-one, drop-cons xs i d h, e) refl
 
-  pub all-stop : i < length xs → f i (getD xs i d) ≡ false → all f i (drop i xs) ≡ false
-  unfolding all
+  pub all-stop : i < length xs → f i (getD xs i d) ≡ false → allIndexed f i (drop i xs) ≡ false
+  unfolding allIndexed
   all-stop h e = rw (drop-cons xs i d h, e) refl
 
-  pub all-end : length xs ≤ i → all f i (drop i xs) ≡ true
-  unfolding all
+  pub all-end : length xs ≤ i → allIndexed f i (drop i xs) ≡ true
+  unfolding allIndexed
   all-end h = rw (drop-of-length-le xs h) refl
 
 -- ---- the number of sets is 0 or a power of two that `l2Index` knows
@@ -118,11 +118,11 @@ unfolding cacheSize l2Index
 index-is m a = go (eqb m 1) (eqb m 2) (eqb m 3) (eqb m 7)
   where
     size : Bool → Bool → Bool → Bool → ℕ
-    size x y z w = pick x 32768 (pick y 65536 (pick z 131072 (pick w 262144 0))) / 512
+    size x y z w = cond x 32768 (cond y 65536 (cond z 131072 (cond w 262144 0))) / 512
 
     index : ℕ → ℕ
-    index n = pick (eqb n 64) (a / 128 % 64) (pick (eqb n 128) (a / 128 % 128)
-        (pick (eqb n 256) (a / 128 % 256) (pick (eqb n 512) (a / 128 % 512) 0)))
+    index n = cond (eqb n 64) (a / 128 % 64) (cond (eqb n 128) (a / 128 % 128)
+        (cond (eqb n 256) (a / 128 % 256) (cond (eqb n 512) (a / 128 % 512) 0)))
 
     go : (x y z w : Bool) → eqb (size x y z w) 0 ≡ false → index (size x y z w) ≡ a / 128 % size x y z w
     go true y z w e = refl
@@ -144,39 +144,39 @@ module _ (r : Record) where
       (λ z. rw (e, z, index-is (r .mode) a z) refl)
 
   l1d-line : (s : ℕ) (x : Line) → l1dLineTest (sramOf r) (externalBase + r .extlen) (r .mar128) (r .mar129) s (home (x .address)) x ≡ l1dLineOk r s x
-  unfolding l1dLineTest l1dLineOk l1dPlace marBit
+  unfolding l1dLineTest l1dLineOk l1dPlace ownL1dSet l1dRegion inSram inCacheable coveredByL2 marBit
   l1d-line s x =
       bool (ltb (x .address) externalBase)
-      (λ e. rw e refl)
-      (λ e. rw (home-inside (x .address) e, e) refl)
+      (λ e. rw e (simp (and-assoc, and-true)))
+      (λ e. rw (home-inside (x .address) e, e) (simp and-assoc))
 
   l2-line : (t : ℕ) (x : Line) → l2LineTest (l2SetsOf r) (externalBase + r .extlen) (r .mar128) (r .mar129) t x ≡ l2LineOk r t x
-  unfolding l2LineTest l2LineOk l2Place marBit
+  unfolding l2LineTest l2LineOk l2Place ownL2Set l2Region inCacheable marBit
   l2-line t x =
       bool (eqb (l2SetsOf r) 0)
-      (λ z. let e = eqb-true (l2SetsOf r) 0 z in rw (le-ltb t (l2SetsOf r) (omega arith)) (simp both-none))
-      (λ z. rw (index-is (r .mode) (x .address) z) refl)
+      (λ z. let e = eqb-true (l2SetsOf r) 0 z in rw (le-ltb t (l2SetsOf r) (omega arith)) (simp and-false))
+      (λ z. rw (index-is (r .mode) (x .address) z) (simp and-assoc))
 
   pub l1d-set : (s : ℕ) (v : L1dSet) → length (v .lines) ≡ 2 →
       l1dSetTest (sramOf r) (externalBase + r .extlen) (r .mar128) (r .mar129) s (home (l1dGet v 0 .address)) (home (l1dGet v 1 .address))
       v ≡ l1dSetOk r s v
-  unfolding l1dSetTest l1dSetOk all
+  unfolding l1dSetTest l1dSetOk allIndexed
   l1d-set s v n =
       rw (l1d-line s (l1dGet v 0), l1d-line s (l1dGet v 1))
-      (sym (ap (λ (l : List Line). both (all (λ _ x. l1dLineOk r s x) 0 l) (both (noneTwice l) (permuted2 (v .order)))) (two emptyLine (v .lines) n)
-      ∙ rw (twice-two (l1dGet v 0) (l1dGet v 1), both-end (l1dLineOk r s (l1dGet v 1))) refl))
+      (sym (ap (λ (l : List Line). allIndexed (λ _ x. l1dLineOk r s x) 0 l && (noneTwice l && permuted2 (v .order))) (two emptyLine (v .lines) n)
+      ∙ rw (twice-two (l1dGet v 0) (l1dGet v 1), and-true (l1dLineOk r s (l1dGet v 1))) refl))
 
   -- the test of a set, its four lines written out
   l2-set : (t : ℕ) (v : L2Set) → length (v .lines) ≡ 4 →
       l2SetOk r t v
-      ≡ both (both (l2LineOk r t (l2Get v 0)) (both (l2LineOk r t (l2Get v 1)) (both (l2LineOk r t (l2Get v 2)) (l2LineOk r t (l2Get v 3)))))
-      (both (noneTwice (v .lines)) (both (permuted4 (v .order)) (freshUnlessUsed r t (v .order))))
-  unfolding l2SetOk all
+      ≡ ((l2LineOk r t (l2Get v 0) && (l2LineOk r t (l2Get v 1) && (l2LineOk r t (l2Get v 2) && l2LineOk r t (l2Get v 3)))) &&
+      (noneTwice (v .lines) && (permuted4 (v .order) && freshUnlessUsed r t (v .order))))
+  unfolding l2SetOk allIndexed
   l2-set t v n =
-      ap (λ (l : List Line). both (all (λ _ x. l2LineOk r t x) 0 l)
-      (both (noneTwice (v .lines)) (both (permuted4 (v .order)) (freshUnlessUsed r t (v .order)))))
+      ap (λ (l : List Line). allIndexed (λ _ x. l2LineOk r t x) 0 l &&
+      (noneTwice (v .lines) && (permuted4 (v .order) && freshUnlessUsed r t (v .order))))
       (four emptyLine (v .lines) n)
-      ∙ rw (both-end (l2LineOk r t (l2Get v 3))) refl
+      ∙ rw (and-true (l2LineOk r t (l2Get v 3))) refl
 
   -- a set in use: its order need not be the fresh one
   pub l2-used : (t : ℕ) (v : L2Set) → length (v .lines) ≡ 4 → t < l2SetsOf r →
@@ -190,15 +190,15 @@ module _ (r : Record) where
         l2-line t (l2Get v 2),
         l2-line t (l2Get v 3),
         lt-ltb t (l2SetsOf r) h,
-        both-end (permuted4 (v .order)),
+        and-true (permuted4 (v .order)),
       ) refl
 
   -- a set not in use: a valid line would have to lie in a set in use, so that each line is fresh
   idle-line : (t : ℕ) (x : Line) → l2SetsOf r ≤ t → l2LineOk r t x ≡ freshLine x
   unfolding l2LineOk l2Place freshLine
-  idle-line t x h = rw (le-ltb t (l2SetsOf r) h) (simp both-none (go (x .valid)))
+  idle-line t x h = rw (le-ltb t (l2SetsOf r) h) (simp and-false (go (x .valid)))
     where
-      go : (b : Bool) → pick b false (emptyWay x) ≡ both (not b) (emptyWay x)
+      go : (b : Bool) → cond b false (emptyWay x) ≡ (not b && emptyWay x)
       go true = refl
       go false = refl
 
@@ -235,7 +235,7 @@ module _ (r : Record) where
   pub sizes-legal : (l e m : Bool) (c : ℕ) → l ≡ legalL2 (r .l2len) → e ≡ legalExternal (r .extlen) → m ≡ isMode (r .mode) → c ≡ cacheSize (r .mode) →
       ((l && e) && (m && leb c (r .l2len))) ≡ legalSizes r
   unfolding legalSizes
-  sizes-legal l e m c p q u w = rw (p, q, u, w) (simp (and-both, both-assoc))
+  sizes-legal l e m c p q u w = rw (p, q, u, w) (simp and-assoc)
 
   pub well-sizes : legalSizes r ≡ false → false ≡ wellFormed r
   unfolding wellFormed
@@ -243,10 +243,10 @@ module _ (r : Record) where
 
   -- what is left of the test once the sizes are legal and the L1D sets below s were passed; and all of them, and the L2 sets below t
   abbrev pub leftAtL1d : ℕ → Bool
-  leftAtL1d s = both (all (l1dSetOk r) s (drop s (r .l1d))) (all (l2SetOk r) 0 (r .l2))
+  leftAtL1d s = allIndexed (l1dSetOk r) s (drop s (r .l1d)) && allIndexed (l2SetOk r) 0 (r .l2)
 
   abbrev pub leftAtL2 : ℕ → Bool
-  leftAtL2 t = all (l2SetOk r) t (drop t (r .l2))
+  leftAtL2 t = allIndexed (l2SetOk r) t (drop t (r .l2))
 
   pub left-all : legalSizes r ≡ true → leftAtL1d 0 ≡ wellFormed r
   unfolding wellFormed

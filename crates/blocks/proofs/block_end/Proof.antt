@@ -2,6 +2,7 @@
 use mathlib.Core.Path.{refl}
 use borrow.Author.Tests.{le-leb, lt-leb}
 use borrow.Author.Needs.{needs}
+use Rattle.model.specs.Modes.{smaller}
 use Rattle.model.specs.Commands.{blockEnd}
 use Rattle.blocks.proofs.block_end.Statement.{statement}
 use Rattle.blocks.proofs.block_end.Tie as tie
@@ -13,11 +14,11 @@ add-end : tie.Need-add-end
 add-end c = search needs
 
 returns : tie.Need-returns
-unfolding blockEnd
+unfolding blockEnd smaller
 returns c = rw (le-leb _ _ (c .if1 .taken)) refl
 
 returns-2 : tie.Need-returns-2
-unfolding blockEnd
+unfolding blockEnd smaller
 returns-2 c = rw (lt-leb _ _ (c .if1 .left)) refl
 
 pub block-end-spec : {M : Type 1} → statement M

@@ -13,8 +13,8 @@ fresh-ok-requires c κs = search needs
 fresh-record-requires : tie.Need-fresh-record-requires
 fresh-record-requires c κs = search needs
 
-refused-requires : tie.Need-refused-requires
-refused-requires c κs = search needs
+answered-requires : tie.Need-answered-requires
+answered-requires c κs = search needs
 
 same-length : tie.Need-same-length
 same-length c = search needs
@@ -32,7 +32,7 @@ returns c =
     let p-fresh-ok = p-if1 .before in
     let p-args = p-fresh-ok .before .before .before .before .before .before .before in
     let a = p-args .args in
-    rw (c .refused .ensures, p-fresh-record .fresh-record .ensures) (fresh-refused (a .l1d .now) (a .l2 .now) (a .ext .now) (sym (p-fresh-ok .fresh-ok .ensures) ∙ not-true (p-fresh-ok .fresh-ok .result) (p-if1 .if1 .taken)))
+    rw (c .answered .ensures, p-fresh-record .fresh-record .ensures) (fresh-refused (a .l1d .now) (a .l2 .now) (a .ext .now) (sym (p-fresh-ok .fresh-ok .ensures) ∙ not-true (p-fresh-ok .fresh-ok .result) (p-if1 .if1 .taken)))
 
 cast-l : tie.Need-cast-l
 cast-l c =
@@ -59,8 +59,8 @@ clear-from-requires-2 c κs = search needs
 fresh-record-requires-2 : tie.Need-fresh-record-requires-2
 fresh-record-requires-2 c κs = search needs
 
-refused-requires-2 : tie.Need-refused-requires-2
-refused-requires-2 c κs = search needs
+answered-requires-2 : tie.Need-answered-requires-2
+answered-requires-2 c κs = search needs
 
 same-length-4 : tie.Need-same-length-4
 same-length-4 c = search needs
@@ -80,7 +80,7 @@ returns-2 c =
     let p-fresh-ok = p-if1 .before in
     let p-args = p-fresh-ok .before .before .before .before .before .before .before in
     let a = p-args .args in
-    rw (c .refused2 .ensures) (fresh-done (a .l1d .now) (a .l2 .now) (a .ext .now) _ _ (p-fresh-record2 .fresh-record2 .result) (sym (p-fresh-ok .fresh-ok .ensures) ∙ not-false (p-fresh-ok .fresh-ok .result) (p-if1 .if1 .left)) (p-fresh-record2 .fresh-record2 .ensures) (p-clear-from .clear-from .ensures) (p-clear-from2 .clear-from2 .ensures))
+    rw (c .answered2 .ensures) (fresh-done (a .l1d .now) (a .l2 .now) (a .ext .now) _ _ (p-fresh-record2 .fresh-record2 .result) (sym (p-fresh-ok .fresh-ok .ensures) ∙ not-false (p-fresh-ok .fresh-ok .result) (p-if1 .if1 .left)) (p-fresh-record2 .fresh-record2 .ensures) (p-clear-from .clear-from .ensures) (p-clear-from2 .clear-from2 .ensures))
 
 pub fresh-spec : {M : Type 1} → statement M
 fresh-spec =
@@ -88,7 +88,7 @@ fresh-spec =
     (tie.spec
     fresh-ok-requires
     fresh-record-requires
-    refused-requires
+    answered-requires
     same-length
     same-length-2
     same-length-3
@@ -98,7 +98,7 @@ fresh-spec =
     clear-from-requires
     clear-from-requires-2
     fresh-record-requires-2
-    refused-requires-2
+    answered-requires-2
     same-length-4
     same-length-5
     same-length-6

@@ -11,8 +11,8 @@ use Rattle.calls.proofs.one_command.Tie as tie
 lent-due-requires : tie.Need-lent-due-requires
 lent-due-requires c κs = search needs
 
-refused-requires : tie.Need-refused-requires
-refused-requires c κs = search needs
+answered-requires : tie.Need-answered-requires
+answered-requires c κs = search needs
 
 same-length : tie.Need-same-length
 same-length c = search needs
@@ -29,7 +29,7 @@ returns c =
     let p-lent-due = p-if1 .before in
     let p-args = p-lent-due .before .before .before .before .before .before .before in
     let a = p-args .args in
-    rw (c .refused .ensures) (call-refused (state (a .r) (a .l1d .now) (a .l2 .now) (a .ext .now)) (p-lent-due .lent-due .result) (p-lent-due .lent-due .ensures) (a .c) (p-if1 .if1 .taken))
+    rw (c .answered .ensures) (call-refused (state (a .r) (a .l1d .now) (a .l2 .now) (a .ext .now)) (p-lent-due .lent-due .result) (p-lent-due .lent-due .ensures) (a .c) (p-if1 .if1 .taken))
 
 slice-aggregate-execute : tie.Need-slice-aggregate-execute
 slice-aggregate-execute c = search needs
@@ -63,7 +63,7 @@ one-command-spec =
     tie.close
     (tie.spec
     lent-due-requires
-    refused-requires
+    answered-requires
     same-length
     same-length-2
     same-length-3

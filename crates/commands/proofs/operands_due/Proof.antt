@@ -1,5 +1,6 @@
 -- `commands::operands_due` meets its contract: by the code, each is the number that the table has for it.
-use Rattle.commands.specs.Commands.{due-below-4, due-block, due-mode, due-mar, due-else}
+use Rattle.commands.specs.Commands.{due-below-4, due-block, due-mode, due-mar, due-all, due-unknown}
+use native.Mathlib.Omega.{arith}
 use mathlib.Core.Path.{_∙_}
 use borrow.Author.Needs.{needs}
 use Rattle.commands.proofs.operands_due.Statement.{statement}
@@ -40,10 +41,17 @@ returns-4 c =
 
 returns-5 : tie.Need-returns-5
 returns-5 c =
-    let p-if3 = c .before .before in
+    let p-args = c .before .before .before .before .before .before .before .before .before .before in
+    due-all (p-args .args .l2len) (p-args .args .c) (c .if5 .taken)
+
+returns-6 : tie.Need-returns-6
+returns-6 c =
+    let p-if4 = c .before .before in
+    let p-if3 = p-if4 .before .before in
     let p-if2 = p-if3 .before .before in
     let p-args = p-if2 .before .before .before .before in
-    due-else (p-args .args .l2len) (p-args .args .c) (p-if2 .if2 .left) (p-if3 .if3 .left) (c .if4 .left)
+    let n = p-if2 .if2 .left in let m = p-if3 .if3 .left in let k = p-if4 .if4 .left in let h = c .if5 .left in
+    due-unknown (p-args .args .l2len) (p-args .args .c) (omega arith)
 
 pub operands-due-spec : {M : Type 1} → statement M
 operands-due-spec =
@@ -56,4 +64,5 @@ operands-due-spec =
     returns-3
     operands-due-requires
     returns-4
-    returns-5)
+    returns-5
+    returns-6)

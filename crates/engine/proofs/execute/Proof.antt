@@ -3,11 +3,11 @@ use Rattle.turns.specs.Turn.{size-known, cached-is, due-is, Asked, Roomed, room
 use Rattle.turns.specs.Executed.{sourceOf, endOf, noAnswer, answerOf, executes, turn, stopped, at-end, Going, goes-on, First, Second}
 use Rattle.joins.specs.Miss.{room, ready}
 use Rattle.stages.specs.Stages.{frontAs, insideAs, belowAs, sendBelow, takenAs, broughtAs, finishedAs}
-use Rattle.model.specs.Calls.{Reply, reply, step, putAnswer}
-use Rattle.model.specs.Access.{homeIsL2, l2WayFor, homeServer}
-use Rattle.model.specs.Records.{state, l2SetsOf, l2SetOf, l2Data, sramOf, withL1dSet}
-use Rattle.model.specs.Lines.{l2Sets}
 use Rattle.model.specs.Memories.{sramLength}
+use Rattle.model.specs.Lines.{l2Sets}
+use Rattle.model.specs.Records.{state, l2SetsOf, l2SetOf, l2Data, sramOf, withL1dSet}
+use Rattle.model.specs.Homes.{homeIsL2, l2WayFor, homeServer}
+use Rattle.model.specs.Calls.{Reply, reply, step, putAnswer}
 use Rattle.model.specs.declared.Record.{Record}
 use lib.ListN.{length}
 use Prim.Native.Nat.{ℕ, _+_, _-_, _≤_, _<_}

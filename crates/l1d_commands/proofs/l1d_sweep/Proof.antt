@@ -4,9 +4,9 @@ use mathlib.Core.Path.{_≡_, refl, ap, _∙_}
 use native.Mathlib.Omega.{arith}
 use lib.ListN.{length, set}
 use borrow.Author.Needs.{needs}
+use Rattle.model.specs.Basics.{each}
 use Rattle.model.specs.Lines.{l1dPut}
 use Rattle.model.specs.Records.{state, withL1dSet, withL2Set}
-use Rattle.model.specs.Basics.{each}
 use Rattle.stages.specs.Stages.{sentAs}
 use Rattle.blocks.specs.Sweeping.{each-none, each-next, sets-now, sram-now}
 use Rattle.l1d_commands.specs.Turn.{l1d-off, l1d-on}

@@ -5,10 +5,10 @@ use mathlib.Core.Path.{_≡_, refl, _∙_}
 use native.Mathlib.Omega.{arith}
 use lib.ListN.{length}
 use borrow.Author.Needs.{needs}
-use Rattle.model.specs.Modes.{flushL2}
-use Rattle.model.specs.Access.{writeOutL2}
-use Rattle.model.specs.Records.{state, withL2Set}
 use Rattle.model.specs.Basics.{each}
+use Rattle.model.specs.Records.{state, withL2Set}
+use Rattle.model.specs.Homes.{writeOutL2}
+use Rattle.model.specs.Modes.{flushL2}
 use Rattle.blocks.specs.Sweeping.{each-none, each-next, sets-now, sram-now, data-now}
 use Rattle.l2_commands.specs.Turn.{flushed}
 use Rattle.l2_commands.proofs.flush_l2.Statement.{statement}

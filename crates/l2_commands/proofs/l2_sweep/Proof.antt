@@ -4,8 +4,8 @@ use mathlib.Core.Path.{_≡_, refl, _∙_}
 use native.Mathlib.Omega.{arith}
 use lib.ListN.{length, set}
 use borrow.Author.Needs.{needs}
-use Rattle.model.specs.Records.{state}
 use Rattle.model.specs.Basics.{each}
+use Rattle.model.specs.Records.{state}
 use Rattle.stages.specs.Stages.{takenAs}
 use Rattle.joins.specs.Sets.{withSets}
 use Rattle.blocks.specs.Sweeping.{each-none, each-next, sets-now, sram-now, data-now}

@@ -1,7 +1,7 @@
 -- `layout::l1d_out` meets its contract: after each turn the sets passed so far are converted, so that at the end all are. Assumes nothing.
 use Rattle.model.specs.Records.{noL1dSet}
 use Rattle.layout.specs.Loops.{Filling, filling-first, filling-next, filling-last, noCL1dSet}
-use Rattle.layout.specs.Layout.{l1dSetOut}
+use Rattle.layout.specs.Layout.{l1dSetToC}
 use native.Mathlib.Omega.{arith}
 use lib.ListN.{length}
 use mathlib.Core.Path.{_≡_}
@@ -11,7 +11,7 @@ use Rattle.layout.proofs.l1d_out.Statement.{statement}
 use Rattle.layout.proofs.l1d_out.Tie as tie
 
 abbrev Inv-loop : tie.InvT-loop
-Inv-loop xs ys₀ s₀ ys s = Filling l1dSetOut 128 xs ys₀ ys s
+Inv-loop xs ys₀ s₀ ys s = Filling l1dSetToC 128 xs ys₀ ys s
 
 abbrev μ-loop : tie.MeasureT-loop
 μ-loop xs ys₀ s₀ ys s = 128 - s
@@ -27,7 +27,7 @@ l1d-set-out-requires : tie.Need-l1d-set-out-requires Inv-loop μ-loop
 l1d-set-out-requires c κs = search needs
 
 loop-holds : tie.Need-loop-holds Inv-loop μ-loop
-loop-holds c = filling-first l1dSetOut 128 (c .before .before .args .t1) (c .l1d-set-out .result)
+loop-holds c = filling-first l1dSetToC 128 (c .before .before .args .t1) (c .l1d-set-out .result)
 
 mul-l1d-set-out : tie.Need-mul-l1d-set-out Inv-loop μ-loop
 mul-l1d-set-out c = search needs
@@ -55,7 +55,7 @@ loop-again c =
     let p-loop = c .before .before .before in
     let p-first = p-loop .before in
     let start = p-first .before .before in
-    filling-next l1dSetOut noL1dSet noCL1dSet 128 (start .args .t1) (long start) (p-first .l1d-set-out .result) (p-loop .loop .ys) (p-loop .loop .s)
+    filling-next l1dSetToC noL1dSet noCL1dSet 128 (start .args .t1) (long start) (p-first .l1d-set-out .result) (p-loop .loop .ys) (p-loop .loop .s)
     (p-loop .loop .inv) (c .l1d-set-out2 .result) (c .l1d-set-out2 .ensures) (omega arith)
 
 returns : tie.Need-returns Inv-loop μ-loop
@@ -63,7 +63,7 @@ returns c =
     let p-loop = c .before in
     let p-first = p-loop .before in
     let start = p-first .before .before in
-    filling-last l1dSetOut noL1dSet noCL1dSet 128 (start .args .t1) (long start) (p-first .l1d-set-out .result) (p-loop .loop .ys) (p-loop .loop .s)
+    filling-last l1dSetToC noL1dSet noCL1dSet 128 (start .args .t1) (long start) (p-first .l1d-set-out .result) (p-loop .loop .ys) (p-loop .loop .s)
     (p-loop .loop .inv) (omega arith)
 
 pub l1d-out-spec : {M : Type 1} → statement M

@@ -1,7 +1,7 @@
 -- `layout::l1d_set_bits` meets its contract: each line is tested, and the tests are joined. Assumes nothing.
 use mathlib.Core.Path.{_≡_}
 use lib.ListN.{length}
-use Rattle.model.specs.Basics.{unmapped}
+use Rattle.model.specs.Laws.{unmapped}
 use Rattle.layout.specs.Loops.{l1d-set-joined}
 use borrow.Author.Needs.{needs}
 use Rattle.layout.proofs.l1d_set_bits.Statement.{statement}

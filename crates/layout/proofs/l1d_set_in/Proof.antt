@@ -1,7 +1,7 @@
 -- `layout::l1d_set_in` meets its contract: each line is converted, and the order keeps its numbers. Assumes nothing.
 use mathlib.Core.Path.{_≡_}
 use lib.ListN.{length}
-use Rattle.model.specs.Basics.{unmapped}
+use Rattle.model.specs.Laws.{unmapped}
 use Rattle.layout.specs.Loops.{l1d-in-joined}
 use borrow.Author.Needs.{needs}
 use Rattle.layout.proofs.l1d_set_in.Statement.{statement}

@@ -1,7 +1,7 @@
 -- `layout::l2_out` meets its contract: after each turn the sets passed so far are converted, so that at the end all are. Assumes nothing.
 use Rattle.model.specs.Records.{noL2Set}
 use Rattle.layout.specs.Loops.{Filling, filling-first, filling-next, filling-last, noCL2Set}
-use Rattle.layout.specs.Layout.{l2SetOut}
+use Rattle.layout.specs.Layout.{l2SetToC}
 use native.Mathlib.Omega.{arith}
 use lib.ListN.{length}
 use mathlib.Core.Path.{_≡_}
@@ -11,7 +11,7 @@ use Rattle.layout.proofs.l2_out.Statement.{statement}
 use Rattle.layout.proofs.l2_out.Tie as tie
 
 abbrev Inv-loop : tie.InvT-loop
-Inv-loop xs ys₀ t₀ ys t = Filling l2SetOut 512 xs ys₀ ys t
+Inv-loop xs ys₀ t₀ ys t = Filling l2SetToC 512 xs ys₀ ys t
 
 abbrev μ-loop : tie.MeasureT-loop
 μ-loop xs ys₀ t₀ ys t = 512 - t
@@ -27,7 +27,7 @@ l2-set-out-requires : tie.Need-l2-set-out-requires Inv-loop μ-loop
 l2-set-out-requires c κs = search needs
 
 loop-holds : tie.Need-loop-holds Inv-loop μ-loop
-loop-holds c = filling-first l2SetOut 512 (c .before .before .args .t1) (c .l2-set-out .result)
+loop-holds c = filling-first l2SetToC 512 (c .before .before .args .t1) (c .l2-set-out .result)
 
 mul-l2-set-out : tie.Need-mul-l2-set-out Inv-loop μ-loop
 mul-l2-set-out c = search needs
@@ -55,7 +55,7 @@ loop-again c =
     let p-loop = c .before .before .before in
     let p-first = p-loop .before in
     let start = p-first .before .before in
-    filling-next l2SetOut noL2Set noCL2Set 512 (start .args .t1) (long start) (p-first .l2-set-out .result) (p-loop .loop .ys) (p-loop .loop .t)
+    filling-next l2SetToC noL2Set noCL2Set 512 (start .args .t1) (long start) (p-first .l2-set-out .result) (p-loop .loop .ys) (p-loop .loop .t)
     (p-loop .loop .inv) (c .l2-set-out2 .result) (c .l2-set-out2 .ensures) (omega arith)
 
 returns : tie.Need-returns Inv-loop μ-loop
@@ -63,7 +63,7 @@ returns c =
     let p-loop = c .before in
     let p-first = p-loop .before in
     let start = p-first .before .before in
-    filling-last l2SetOut noL2Set noCL2Set 512 (start .args .t1) (long start) (p-first .l2-set-out .result) (p-loop .loop .ys) (p-loop .loop .t)
+    filling-last l2SetToC noL2Set noCL2Set 512 (start .args .t1) (long start) (p-first .l2-set-out .result) (p-loop .loop .ys) (p-loop .loop .t)
     (p-loop .loop .inv) (omega arith)
 
 pub l2-out-spec : {M : Type 1} → statement M

@@ -1,11 +1,11 @@
 -- `layout::line_in` meets its contract: it is the definition, field by field. Assumes nothing.
 use mathlib.Core.Path.{refl}
-use Rattle.layout.specs.Layout.{lineIn}
+use Rattle.layout.specs.Layout.{lineFromC}
 use Rattle.layout.proofs.line_in.Statement.{statement}
 use Rattle.layout.proofs.line_in.Tie as tie
 
 returns : tie.Need-returns
-unfolding lineIn
+unfolding lineFromC
 returns c = refl
 
 pub line-in-spec : {M : Type 1} → statement M

@@ -1,12 +1,12 @@
 -- `mar::in_range` meets its contract: the tests, joined. Assumes nothing.
-use Rattle.sizes.specs.Join.{and-both}
-use Rattle.model.specs.Modes.{inRange}
+use mathlib.Core.Path.{refl}
+use Rattle.model.specs.Refusals.{inRange}
 use Rattle.mar.proofs.in_range.Statement.{statement}
 use Rattle.mar.proofs.in_range.Tie as tie
 
 returns : tie.Need-returns
 unfolding inRange
-returns c = simp and-both
+returns c = refl
 
 pub in-range-spec : {M : Type 1} → statement M
 in-range-spec = tie.close (tie.spec returns)

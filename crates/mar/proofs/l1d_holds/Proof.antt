@@ -1,9 +1,10 @@
 -- `mar::l1d_holds` meets its contract: the sets passed so far hold no such line. Assumes nothing.
 use Rattle.mar.specs.Range.{any-next, any-hit, any-end}
 use Rattle.model.specs.declared.L1dSet.{L1dSet}
+use Rattle.model.specs.Basics.{anyOf}
 use Rattle.model.specs.Records.{noL1dSet}
-use Rattle.model.specs.Modes.{inRange}
-use Rattle.model.specs.Basics.{any, unmapped}
+use Rattle.model.specs.Refusals.{inRange}
+use Rattle.model.specs.Laws.{unmapped}
 use lib.ListN.{length, drop}
 use native.Mathlib.Omega.{arith}
 use Prim.Native.Nat.{_≤_, _-_}
@@ -13,8 +14,8 @@ use Rattle.mar.proofs.l1d_holds.Statement.{statement}
 use Rattle.mar.proofs.l1d_holds.Tie as tie
 
 abbrev Inv-loop : tie.InvT-loop
-Inv-loop n r s₀ s = (s ≤ 128) × (any (λ (v : L1dSet). any (inRange n) (v .lines)) (drop s (r .l1d)) ≡ any
-    (λ (v : L1dSet). any (inRange n) (v .lines)) (r .l1d))
+Inv-loop n r s₀ s = (s ≤ 128) × (anyOf (λ (v : L1dSet). anyOf (inRange n) (v .lines)) (drop s (r .l1d)) ≡ anyOf
+    (λ (v : L1dSet). anyOf (inRange n) (v .lines)) (r .l1d))
 
 abbrev μ-loop : tie.MeasureT-loop
 μ-loop n r s₀ s = 128 - s
@@ -37,7 +38,7 @@ returns c =
     let n : length (start .args .t1 .l1d) ≡ 128 = search unmapped in
     let p-l1d-set-holds = c .before in
     let p-loop = p-l1d-set-holds .before .before .before in
-    sym (any-hit (λ (v : L1dSet). any (inRange (start .args .n)) (v .lines)) (start .args .t1 .l1d) (p-loop .loop .s) noL1dSet (omega arith)
+    sym (any-hit (λ (v : L1dSet). anyOf (inRange (start .args .n)) (v .lines)) (start .args .t1 .l1d) (p-loop .loop .s) noL1dSet (omega arith)
     (sym (p-l1d-set-holds .l1d-set-holds .ensures) ∙ c .if1 .taken)) ∙ p-loop .loop .inv .1
 
 add-s : tie.Need-add-s Inv-loop μ-loop
@@ -53,7 +54,7 @@ loop-again c =
     let p-l1d-set-holds = c .before in
     let p-loop = p-l1d-set-holds .before .before .before in (
       omega arith,
-      sym (any-next (λ (v : L1dSet). any (inRange (start .args .n)) (v .lines)) (start .args .t1 .l1d) (p-loop .loop .s) noL1dSet
+      sym (any-next (λ (v : L1dSet). anyOf (inRange (start .args .n)) (v .lines)) (start .args .t1 .l1d) (p-loop .loop .s) noL1dSet
           (omega arith) (sym (p-l1d-set-holds .l1d-set-holds .ensures) ∙ c .if1 .left)) ∙ p-loop .loop .inv .1,
     )
 
@@ -62,7 +63,7 @@ returns-2 c =
     let start = c .before .before in
     let n : length (start .args .t1 .l1d) ≡ 128 = search unmapped in
     let p-loop = c .before in
-    sym (any-end (λ (v : L1dSet). any (inRange (start .args .n)) (v .lines)) (start .args .t1 .l1d) (p-loop .loop .s) noL1dSet (omega arith))
+    sym (any-end (λ (v : L1dSet). anyOf (inRange (start .args .n)) (v .lines)) (start .args .t1 .l1d) (p-loop .loop .s) noL1dSet (omega arith))
     ∙ p-loop .loop .inv .1
 
 pub l1d-holds-spec : {M : Type 1} → statement M

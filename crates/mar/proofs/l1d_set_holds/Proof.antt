@@ -1,6 +1,6 @@
 -- `mar::l1d_set_holds` meets its contract: way by way. Assumes nothing.
 use Rattle.mar.specs.Range.{any-joined-2}
-use Rattle.model.specs.Basics.{unmapped}
+use Rattle.model.specs.Laws.{unmapped}
 use lib.ListN.{length}
 use mathlib.Core.Path.{_≡_}
 use borrow.Author.Needs.{needs}

@@ -1,9 +1,10 @@
 -- `mar::l2_holds` meets its contract: the sets passed so far hold no such line. Assumes nothing.
 use Rattle.mar.specs.Range.{any-next, any-hit, any-end}
 use Rattle.model.specs.declared.L2Set.{L2Set}
+use Rattle.model.specs.Basics.{anyOf}
 use Rattle.model.specs.Records.{noL2Set}
-use Rattle.model.specs.Modes.{inRange}
-use Rattle.model.specs.Basics.{any, unmapped}
+use Rattle.model.specs.Refusals.{inRange}
+use Rattle.model.specs.Laws.{unmapped}
 use lib.ListN.{length, drop}
 use native.Mathlib.Omega.{arith}
 use Prim.Native.Nat.{_≤_, _-_}
@@ -13,7 +14,7 @@ use Rattle.mar.proofs.l2_holds.Statement.{statement}
 use Rattle.mar.proofs.l2_holds.Tie as tie
 
 abbrev Inv-loop : tie.InvT-loop
-Inv-loop n r t₀ t = (t ≤ 512) × (any (λ (v : L2Set). any (inRange n) (v .lines)) (drop t (r .l2)) ≡ any (λ (v : L2Set). any (inRange n) (v .lines))
+Inv-loop n r t₀ t = (t ≤ 512) × (anyOf (λ (v : L2Set). anyOf (inRange n) (v .lines)) (drop t (r .l2)) ≡ anyOf (λ (v : L2Set). anyOf (inRange n) (v .lines))
     (r .l2))
 
 abbrev μ-loop : tie.MeasureT-loop
@@ -37,7 +38,7 @@ returns c =
     let n : length (start .args .t1 .l2) ≡ 512 = search unmapped in
     let p-l2-set-holds = c .before in
     let p-loop = p-l2-set-holds .before .before .before in
-    sym (any-hit (λ (v : L2Set). any (inRange (start .args .n)) (v .lines)) (start .args .t1 .l2) (p-loop .loop .t) noL2Set (omega arith)
+    sym (any-hit (λ (v : L2Set). anyOf (inRange (start .args .n)) (v .lines)) (start .args .t1 .l2) (p-loop .loop .t) noL2Set (omega arith)
     (sym (p-l2-set-holds .l2-set-holds .ensures) ∙ c .if1 .taken)) ∙ p-loop .loop .inv .1
 
 add-t : tie.Need-add-t Inv-loop μ-loop
@@ -53,7 +54,7 @@ loop-again c =
     let p-l2-set-holds = c .before in
     let p-loop = p-l2-set-holds .before .before .before in (
       omega arith,
-      sym (any-next (λ (v : L2Set). any (inRange (start .args .n)) (v .lines)) (start .args .t1 .l2) (p-loop .loop .t) noL2Set
+      sym (any-next (λ (v : L2Set). anyOf (inRange (start .args .n)) (v .lines)) (start .args .t1 .l2) (p-loop .loop .t) noL2Set
           (omega arith) (sym (p-l2-set-holds .l2-set-holds .ensures) ∙ c .if1 .left)) ∙ p-loop .loop .inv .1,
     )
 
@@ -62,7 +63,7 @@ returns-2 c =
     let start = c .before .before in
     let n : length (start .args .t1 .l2) ≡ 512 = search unmapped in
     let p-loop = c .before in
-    sym (any-end (λ (v : L2Set). any (inRange (start .args .n)) (v .lines)) (start .args .t1 .l2) (p-loop .loop .t) noL2Set (omega arith))
+    sym (any-end (λ (v : L2Set). anyOf (inRange (start .args .n)) (v .lines)) (start .args .t1 .l2) (p-loop .loop .t) noL2Set (omega arith))
     ∙ p-loop .loop .inv .1
 
 pub l2-holds-spec : {M : Type 1} → statement M

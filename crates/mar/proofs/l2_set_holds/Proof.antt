@@ -1,6 +1,6 @@
 -- `mar::l2_set_holds` meets its contract: way by way. Assumes nothing.
 use Rattle.mar.specs.Range.{any-joined-4}
-use Rattle.model.specs.Basics.{unmapped}
+use Rattle.model.specs.Laws.{unmapped}
 use lib.ListN.{length}
 use mathlib.Core.Path.{_≡_}
 use borrow.Author.Needs.{needs}

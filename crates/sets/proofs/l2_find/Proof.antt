@@ -1,5 +1,5 @@
 -- `sets::l2_find` meets its contract: each return is a case of the definition, by the tests on its way and what its callees ensure.
-use Rattle.model.specs.Lines.{l2Find, wayHolding}
+use Rattle.model.specs.Ways.{l2Find, wayHolding}
 use native.Mathlib.Omega.{arith}
 use mathlib.Core.Path.{refl, sym, _∙_}
 use borrow.Author.Needs.{needs}

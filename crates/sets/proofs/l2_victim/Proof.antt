@@ -1,5 +1,5 @@
 -- `sets::l2_victim` meets its contract: each return is a case of the definition, by the tests on its way and what its callees ensure.
-use Rattle.model.specs.Lines.{l2Victim, lowestInvalid}
+use Rattle.model.specs.Ways.{l2Victim, lowestInvalid}
 use borrow.Author.Tests.{not-true, not-false}
 use native.Mathlib.Omega.{arith}
 use mathlib.Core.Path.{refl, sym, _∙_}

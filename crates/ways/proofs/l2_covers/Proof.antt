@@ -1,6 +1,6 @@
 -- `ways::l2_covers` meets its contract: by the address, by the number of sets, then the four ways. Assumes nothing.
 use Rattle.ways.specs.Ways.{covers-low, covers-uncached, covers-one}
-use Rattle.model.specs.Basics.{unmapped}
+use Rattle.model.specs.Laws.{unmapped}
 use lib.ListN.{length}
 use mathlib.Core.Path.{_≡_}
 use borrow.Author.Needs.{needs}

@@ -1,6 +1,6 @@
 -- `ways::none_twice` meets its contract: each line against those behind it. Assumes nothing.
 use Rattle.ways.specs.Ways.{twice-joined}
-use Rattle.model.specs.Basics.{unmapped}
+use Rattle.model.specs.Laws.{unmapped}
 use lib.ListN.{length}
 use mathlib.Core.Path.{_≡_}
 use borrow.Author.Needs.{needs}

@@ -1,6 +1,6 @@
 -- `wellformed::fresh_set` meets its contract: the four lines and the order, in the order of the definition. Assumes nothing.
 use Rattle.wellformed.specs.Sets.{fresh-set-joined}
-use Rattle.model.specs.Basics.{unmapped}
+use Rattle.model.specs.Laws.{unmapped}
 use lib.ListN.{length}
 use mathlib.Core.Path.{_≡_}
 use borrow.Author.Needs.{needs}

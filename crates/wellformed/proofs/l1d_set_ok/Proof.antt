@@ -1,6 +1,6 @@
 -- `wellformed::l1d_set_ok` meets its contract: both ways, the pair, the order. Assumes nothing.
 use Rattle.wellformed.specs.Sets.{l1d-set-joined}
-use Rattle.model.specs.Basics.{unmapped}
+use Rattle.model.specs.Laws.{unmapped}
 use lib.ListN.{length}
 use mathlib.Core.Path.{_≡_}
 use borrow.Author.Needs.{needs}

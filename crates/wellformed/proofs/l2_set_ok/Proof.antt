@@ -1,6 +1,6 @@
 -- `wellformed::l2_set_ok` meets its contract: the four ways, the pairs, the order. Assumes nothing.
 use Rattle.wellformed.specs.Sets.{l2-set-joined}
-use Rattle.model.specs.Basics.{unmapped}
+use Rattle.model.specs.Laws.{unmapped}
 use lib.ListN.{length}
 use mathlib.Core.Path.{_≡_}
 use borrow.Author.Needs.{needs}

@@ -2,7 +2,7 @@
 -- formed. Assumes nothing.
 use Rattle.wellformed.specs.Sets.{sizes-legal, well-sizes, leftAtL1d, leftAtL2, left-all, l1d-next, l1d-stop, l1d-end, l2-next, l2-stop, l2-end, l1d-turn, l2-turn, l2-fresh-turn}
 use Rattle.model.specs.Records.{legalSizes, wellFormed, l2SetsOf, l1dSetOk, l2SetOk, l1dSetAt, l2SetAt}
-use Rattle.model.specs.Basics.{unmapped}
+use Rattle.model.specs.Laws.{unmapped}
 use lib.ListN.{length}
 use native.Mathlib.Omega.{arith}
 use Prim.Native.Nat.{ℕ, _≤_, _-_, _/_}

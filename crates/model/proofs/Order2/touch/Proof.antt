@@ -1,6 +1,7 @@
 -- `model::Order2::touch` meets its contract: each return is a case of `used2`. Assumes nothing.
 use borrow.Author.Tests.{eq-eqb, ne-eqb}
-use Rattle.model.specs.Lines.{used2, kept2}
+use Rattle.model.specs.Lines.{used2}
+use Rattle.model.specs.Laws.{kept2}
 use Rattle.model.proofs.Order2.touch.Statement.{statement}
 use Rattle.model.proofs.Order2.touch.Tie as tie
 

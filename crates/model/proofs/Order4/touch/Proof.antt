@@ -1,6 +1,7 @@
 -- `model::Order4::touch` meets its contract: each return is a case of `used4`. Assumes nothing.
 use borrow.Author.Tests.{eq-eqb, ne-eqb}
-use Rattle.model.specs.Lines.{used4, kept4}
+use Rattle.model.specs.Lines.{used4}
+use Rattle.model.specs.Laws.{kept4}
 use Rattle.model.proofs.Order4.touch.Statement.{statement}
 use Rattle.model.proofs.Order4.touch.Tie as tie
 

@@ -2,30 +2,27 @@
 -- after another (`RunIsCalls`), all twelve codes, damaged traces and too few answer bytes included. Then from an accepted fresh start: the answers of a run, or
 -- of runs over the pieces of a trace, are flat memory's for reads, writes and mode changes (`TraceDemand3`).
 use Prim.Native.Nat.{ℕ, zero, suc, _+_, _*_}
-use mathlib.Core.Bool.{true}
+use mathlib.Core.Bool.{true, cond}
 use mathlib.Core.Path.{_≡_}
 use mathlib.Core.List.{List, [], _∷_, _++_}
-use lib.ListN.{length, drop}
+use lib.ListN.{length}
 use lib.Dec.{ltb, leb}
-use Rattle.model.specs.Basics.{pick}
 use Rattle.model.specs.Bytes.{part, littleBytes}
-use Rattle.model.specs.Memories.{legalL2, legalExternal}
-use Rattle.model.specs.Records.{State, freshState}
-use Rattle.model.specs.Trace.{Decoded, decode}
+use Rattle.model.specs.Records.{State}
 use Rattle.model.specs.Flat.{Flat, freshFlat, flatStep}
-use Rattle.model.specs.Calls.{call, runCall}
+use Rattle.model.specs.Calls.{call, runCall, freshCall, commandAt}
+use Rattle.model.specs.Demand.{compared, listed}
 use Rattle.model.specs.declared.Command.{Command}
-use Rattle.model.proofs.Demand.{compared, listed}
 
 -- ---- the commands that a run carries out: those of the trace in their order, up to its end, to damage, or to where fewer than 10 answer bytes are left
-unfoldable pub carriedFrom : (ℕ → Decoded) → ℕ → ℕ → ℕ → ℕ → ℕ → List Command
-carriedFrom source end room zero i k = []
-carriedFrom source end room (suc turns) i k =
-    pick (ltb i end)
-    (pick (source i .ok) (pick (leb (k * 10 + 10) room) (source i .found ∷ carriedFrom source end room turns (i + source i .used) (suc k)) []) []) []
+unfoldable pub carriedFrom : List ℕ → ℕ → ℕ → ℕ → ℕ → List Command
+carriedFrom t room zero i k = []
+carriedFrom t room (suc turns) i k =
+    cond (ltb i (length t))
+    (cond (commandAt t i .ok) (cond (leb (k * 10 + 10) room) (commandAt t i .found ∷ carriedFrom t room turns (i + commandAt t i .used) (suc k)) []) []) []
 
 unfoldable pub carried : List ℕ → ℕ → List Command
-carried trace room = carriedFrom (λ i. decode (drop i trace)) (length trace) room (length trace) 0 0
+carried t room = carriedFrom t room (length t) 0 0
 
 -- ---- the state after commands called one after another; flat memory's likewise
 unfoldable pub after : List Command → State → State
@@ -74,5 +71,5 @@ pub data RunsAgree : List Piece → State → Flat → Type 0 where
 
 abbrev pub TraceDemand3 : Type 0
 TraceDemand3 =
-    (l : ℕ) (e : List ℕ) → legalL2 l ≡ true → legalExternal (length e) ≡ true →
-    (ps : List Piece) → listed (allCommands ps) ≡ true → RunsAgree ps (freshState l e) (freshFlat l e)
+    (d m e : List ℕ) → freshCall d m e .number ≡ 0 →
+    (ps : List Piece) → listed (allCommands ps) ≡ true → RunsAgree ps (freshCall d m e .next) (freshFlat (length m) e)

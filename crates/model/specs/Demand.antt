@@ -1,40 +1,39 @@
 -- Demand 3, what it says; `Agreement` proves it. Paper 01, "Flat memory": "Demand 3 is one statement about the whole list and not one for each call."
 -- Read it from the top: the commands that a list may hold, what is compared of a call, what a global writeback settles, both runs along the list, the demand.
 use Prim.Native.Nat.{ℕ, _≤_}
-use mathlib.Core.Bool.{Bool, true, false}
+use mathlib.Core.Bool.{Bool, true, false, cond, _&&_, _||_}
 use mathlib.Core.Path.{_≡_}
 use mathlib.Core.Logic.{_≢_}
 use mathlib.Core.List.{List, [], _∷_}
 use lib.ListN.{length}
 use lib.Dec.{leb, eqb}
-use Rattle.model.specs.Basics.{pick, both, either}
-use Rattle.model.specs.Memories.{externalBase, legalL2, legalExternal}
-use Rattle.model.specs.Records.{State, l1dLineAt, l2LineAt, freshState}
+use Rattle.model.specs.Memories.{externalBase}
+use Rattle.model.specs.Records.{State, l1dLineAt, l2LineAt}
 use Rattle.model.specs.Flat.{Flat, freshFlat, flatStep}
-use Rattle.model.specs.Calls.{Reply, call}
+use Rattle.model.specs.Calls.{Reply, call, freshCall}
 use Rattle.model.specs.declared.Command.{Command}
 
 -- ---- which commands a list may hold: reads (0), writes (1), the writeback commands (2 to 5 and 7), mode changes (10) and MAR changes (11),
 -- each with any numbers; refused ones too
 abbrev pub listedCode : ℕ → Bool
-listedCode k = either (leb k 5) (either (eqb k 7) (either (eqb k 10) (eqb k 11)))
+listedCode k = leb k 5 || (eqb k 7 || (eqb k 10 || eqb k 11))
 
 unfoldable pub listed : List Command → Bool
 listed [] = true
-listed (c ∷ cs) = both (listedCode (c .code)) (listed cs)
+listed (c ∷ cs) = listedCode (c .code) && listed cs
 
 -- ---- what is compared: the number and the value of reads, writes and mode changes. So both refuse the same ones, by the same number, and an accepted read
 -- gives the same value.
 abbrev pub compared : Command → Bool
-compared c = either (eqb (c .code) 0) (either (eqb (c .code) 1) (eqb (c .code) 10))
+compared c = eqb (c .code) 0 || (eqb (c .code) 1 || eqb (c .code) 10)
 
 -- ---- the global writeback commands, "2 and 3 being the global ones"
 abbrev pub global : Command → Bool
-global c = either (eqb (c .code) 2) (eqb (c .code) 3)
+global c = eqb (c .code) 2 || eqb (c .code) 3
 
 -- "The mode at a call is that of the last accepted mode change before it in the list, 0 if there was none.": the mode behind a call that was answered r
 unfoldable pub modeAfter : Command → Reply → ℕ → ℕ
-modeAfter c r mode = pick (both (eqb (c .code) 10) (eqb (r .number) 0)) (c .first) mode
+modeAfter c r mode = cond (eqb (c .code) 10 && eqb (r .number) 0) (c .first) mode
 
 -- ---- external memory is settled: the same in both, and no line of it is dirty in either cache (L2 holds lines of external memory only)
 pub record Settled (z : State) (f : Flat) : Type 0 where
@@ -54,8 +53,8 @@ pub data Agree : ℕ → List Command → State → Flat → Type 0 where
   next : {mode : ℕ} {c : Command} {cs : List Command} {z : State} {f : Flat} →
       AgreesAt mode c z f → Agree (modeAfter c (call c z) mode) cs (call c z .next) (flatStep c f .next) → Agree mode (c ∷ cs) z f
 
--- ---- demand 3: from an accepted fresh start, in mode 0, for every length of L2, every external memory and every list
+-- ---- demand 3: from an accepted fresh start, which leaves mode 0, whatever bytes were lent to it, for every list
 abbrev pub Demand3 : Type 0
 Demand3 =
-    (l : ℕ) (e : List ℕ) → legalL2 l ≡ true → legalExternal (length e) ≡ true →
-    (cs : List Command) → listed cs ≡ true → Agree 0 cs (freshState l e) (freshFlat l e)
+    (d m e : List ℕ) → freshCall d m e .number ≡ 0 →
+    (cs : List Command) → listed cs ≡ true → Agree 0 cs (freshCall d m e .next) (freshFlat (length m) e)

@@ -1,0 +1,204 @@
+-- Laws of the definitions, which callers cite in place of their text: choices and tests, parts of a memory and bytes stored in it, the order of
+-- use, commands in mode 0. No definition stands here.
+use Prim.Native.Nat.{ℕ, zero, suc, _<_, _≤_, _%_, _/_, _+_, _-_}
+use mathlib.Core.Bool.{Bool, true, false, cond, _&&_}
+use mathlib.Core.List.{List, [], map, _++_}
+use mathlib.Core.Path.{_≡_, refl, sym, ap, _∙_, subst}
+use native.Mathlib.Omega.{arith}
+use native.Mathlib.Nat.{add-sub-of-le}
+use lib.ListN.{length, getD, take, drop, length-append, length-take, length-drop, take-append-drop, List·getD-append, length-map}
+use lib.Seq.{getD-take, getD-drop, getD-append-add, length-take-le}
+use lib.Dec.{leb, eqb}
+use borrow.Author.Tests.{leb-true, le-leb, lt-leb, eqb-true, eqb-false}
+use Rattle.model.specs.Basics.{each}
+use Rattle.model.specs.Bytes.{splice, part, stored, littleBytes}
+use Rattle.model.specs.Lines.{Permutation2, Permutation4, used2, used4}
+use Rattle.model.specs.Records.{State, l2SetsOf}
+use Rattle.model.specs.Commands.{eachL2, unlessMode0}
+use Rattle.model.specs.declared.Order2.{Order2}
+use Rattle.model.specs.declared.Order4.{Order4}
+
+-- ---- choices and tests
+pub false-true {ℓ} : {A : Type ℓ} → false ≡ true → A
+false-true e = let z : _≡_ {A = ℕ} 0 1 = cc in absurd (omega arith)
+
+-- each of two tests that hold together holds
+pub both-true : (a b : Bool) → (a && b) ≡ true → (a ≡ true) × (b ≡ true)
+both-true true b e = (refl, e)
+both-true false b e = false-true e
+
+-- each test is one of the two
+pub bool {ℓ} : {A : Type ℓ} (b : Bool) → (b ≡ true → A) → (b ≡ false → A) → A
+bool true f g = f refl
+bool false f g = g refl
+
+-- what holds of each branch, under its test, holds of the choice
+pub cond-elim {ℓ κ} : {A : Type ℓ} (P : A → Type κ) (b : Bool) (x y : A) → (b ≡ true → P x) → (b ≡ false → P y) → P (cond b x y)
+cond-elim P true x y f g = f refl
+cond-elim P false x y f g = g refl
+
+pub cond-true {ℓ} : {A : Type ℓ} (b : Bool) (x y : A) → b ≡ true → x ≡ cond b x y
+cond-true b x y e = rw e refl
+
+pub cond-false {ℓ} : {A : Type ℓ} (b : Bool) (x y : A) → b ≡ false → y ≡ cond b x y
+cond-false b x y e = rw e refl
+
+-- a list is as long as what a map makes of it: what is known of an array of structs is known of its mapped list
+pub unmapped {ℓ κ} : {A : Type ℓ} {B : Type κ} (f : A → B) (xs : List A) (n : ℕ) → length (map f xs) ≡ n → length xs ≡ n
+unmapped f xs n h = sym (length-map xs f) ∙ h
+
+-- ---- laws of the guards
+pub part-inside : (m : List ℕ) (a n : ℕ) → a + n ≤ length m → part m a n ≡ take n (drop a m)
+unfolding part
+part-inside m a n h = rw (le-leb (a + n) (length m) h) refl
+
+pub stored-inside : (m : List ℕ) (a : ℕ) (bs : List ℕ) → a + length bs ≤ length m → stored m a bs ≡ splice m a bs
+unfolding stored
+stored-inside m a bs h = rw (le-leb (a + length bs) (length m) h) refl
+
+pub stored-outside : (m : List ℕ) (a : ℕ) (bs : List ℕ) → length m < a + length bs → stored m a bs ≡ m
+unfolding stored
+stored-outside m a bs h = rw (lt-leb (a + length bs) (length m) h) refl
+
+pub length-part : (m : List ℕ) (a n : ℕ) → a + n ≤ length m → length (part m a n) ≡ n
+length-part m a n h = rw (part-inside m a n h) (simp (length-take, length-drop) (omega arith))
+
+pub length-splice : (m bs : List ℕ) (a : ℕ) → a + length bs ≤ length m → length (splice m a bs) ≡ length m
+unfolding splice
+length-splice m bs a h = simp (length-append, length-take, length-drop) (omega arith)
+
+pub length-stored : (m bs : List ℕ) (a : ℕ) → length (stored m a bs) ≡ length m
+unfolding stored
+length-stored m bs a =
+    bool (leb (a + length bs) (length m))
+    (λ e. rw e (length-splice m bs a (leb-true (a + length bs) (length m) e)))
+    (λ e. rw e refl)
+
+pub length-littleBytes : (v n : ℕ) → length (littleBytes v n) ≡ n
+unfolding littleBytes
+length-littleBytes v zero = refl
+length-littleBytes v (suc n) = ap suc (length-littleBytes (v / 256) n)
+
+-- nothing stored changes nothing
+pub stored-none : (m : List ℕ) (a : ℕ) → stored m a [] ≡ m
+unfolding stored splice
+stored-none m a =
+    bool (leb (a + length {A = ℕ} []) (length m))
+    (λ e. let h = leb-true (a + length {A = ℕ} []) (length m) e in let z : a + length {A = ℕ} [] ≡ a = omega arith in rw (e, z) (take-append-drop a m))
+    (λ e. rw e refl)
+
+-- ---- what each byte is after bytes were put into a memory, and in a part of it
+getD-past : (xs ys : List ℕ) (i : ℕ) → length xs ≤ i → getD (xs ++ ys) i 0 ≡ getD ys (i - length xs) 0
+getD-past xs ys i h = ap (λ (k : ℕ). getD (xs ++ ys) k 0) (sym (add-sub-of-le h)) ∙ getD-append-add xs ys (i - length xs) 0
+
+module _ (m bs : List ℕ) (a i : ℕ) (fits : a + length bs ≤ length m) where
+  front : length (take a m) ≡ a
+  front = length-take-le a m (omega arith)
+
+  pub stored-before : i < a → getD (stored m a bs) i 0 ≡ getD m i 0
+  unfolding splice
+  stored-before h =
+      let f = front in
+      rw (stored-inside m a bs fits) (List·getD-append (take a m) (bs ++ drop (a + length bs) m) 0 i (omega arith) ∙ getD-take a m i 0 h)
+
+  pub stored-in : a ≤ i → i < a + length bs → getD (stored m a bs) i 0 ≡ getD bs (i - a) 0
+  unfolding splice
+  stored-in h k =
+      let f = front in
+      rw (stored-inside m a bs fits)
+      (getD-past (take a m) (bs ++ drop (a + length bs) m) i (omega arith)
+      ∙ rw front (List·getD-append bs (drop (a + length bs) m) 0 (i - a) (omega arith)))
+
+  pub stored-after : a + length bs ≤ i → getD (stored m a bs) i 0 ≡ getD m i 0
+  unfolding splice
+  stored-after h =
+      let f = front in
+      rw (stored-inside m a bs fits)
+      (getD-past (take a m) (bs ++ drop (a + length bs) m) i (omega arith)
+      ∙ rw front (getD-past bs (drop (a + length bs) m) (i - a) (omega arith))
+      ∙ getD-drop (a + length bs) m (i - a - length bs) 0
+      ∙ ap (λ (k : ℕ). getD m k 0) (omega arith))
+
+pub part-at : (m : List ℕ) (a n i : ℕ) → a + n ≤ length m → i < n → getD (part m a n) i 0 ≡ getD m (a + i) 0
+part-at m a n i f h = rw (part-inside m a n f) (getD-take n (drop a m) i 0 h ∙ getD-drop a m i 0)
+
+-- ---- laws of the order
+pub used2-permutation : (o : Order2) (w : ℕ) → w < 2 → Permutation2 o → Permutation2 (used2 o w)
+unfolding used2
+used2-permutation o w h p = go (eqb (o .first) w) refl
+  where
+    go : (b : Bool) → eqb (o .first) w ≡ b → Permutation2 (cond b o (record { first = w; second = o .first }))
+    go true e = p
+    go false e = let n = eqb-false (o .first) w e in omega arith
+
+pub used4-permutation : (o : Order4) (w : ℕ) → w < 4 → Permutation4 o → Permutation4 (used4 o w)
+unfolding used4
+used4-permutation o w h p = go (eqb (o .first) w) refl (eqb (o .second) w) refl (eqb (o .third) w) refl
+  where
+    go : (x : Bool) → eqb (o .first) w ≡ x → (y : Bool) → eqb (o .second) w ≡ y → (z : Bool) → eqb (o .third) w ≡ z →
+        Permutation4 (cond x o
+        (cond y (record { first = w; second = o .first; third = o .third; fourth = o .fourth })
+        (cond z (record { first = w; second = o .first; third = o .second; fourth = o .fourth })
+        (record { first = w; second = o .first; third = o .second; fourth = o .third }))))
+    go true e y f z g = p
+    go false e true f z g =
+        let n = eqb-false (o .first) w e in let m = eqb-true (o .second) w f in
+        record {
+          below1 = h;
+          below2 = p .below1;
+          below3 = p .below3;
+          below4 = p .below4;
+          apart12 = λ q. n (sym q);
+          apart13 = λ q. p .apart23 (m ∙ q);
+          apart14 = λ q. p .apart24 (m ∙ q);
+          apart23 = p .apart13;
+          apart24 = p .apart14;
+          apart34 = p .apart34;
+        }
+    go false e false f true g =
+        let n = eqb-false (o .first) w e in let m = eqb-false (o .second) w f in let k = eqb-true (o .third) w g in
+        record {
+          below1 = h;
+          below2 = p .below1;
+          below3 = p .below2;
+          below4 = p .below4;
+          apart12 = λ q. n (sym q);
+          apart13 = λ q. m (sym q);
+          apart14 = λ q. p .apart34 (k ∙ q);
+          apart23 = p .apart12;
+          apart24 = p .apart14;
+          apart34 = p .apart24;
+        }
+    go false e false f false g =
+        let n = eqb-false (o .first) w e in let m = eqb-false (o .second) w f in let k = eqb-false (o .third) w g in
+        record {
+          below1 = h;
+          below2 = p .below1;
+          below3 = p .below2;
+          below4 = p .below3;
+          apart12 = λ q. n (sym q);
+          apart13 = λ q. m (sym q);
+          apart14 = λ q. k (sym q);
+          apart23 = p .apart12;
+          apart24 = p .apart13;
+          apart34 = p .apart23;
+        }
+
+-- what `touch` ensures, from the equation alone
+pub kept2 : {o r : Order2} {w : ℕ} → r ≡ used2 o w → (r ≡ used2 o w) × (w < 2 → Permutation2 o → Permutation2 r)
+kept2 {o} {r} {w} e = (e, λ h p. subst Permutation2 (sym e) (used2-permutation o w h p))
+
+pub kept4 : {o r : Order4} {w : ℕ} → r ≡ used4 o w → (r ≡ used4 o w) × (w < 4 → Permutation4 o → Permutation4 r)
+kept4 {o} {r} {w} e = (e, λ h p. subst Permutation4 (sym e) (used4-permutation o w h p))
+
+-- the last way in order is a way of the set: the remainder in `l1dVictim` and `l2Victim` (Ways) changes nothing
+pub last2 : (o : Order2) → Permutation2 o → o .second % 2 ≡ o .second
+last2 o p = let h = p .below2 in omega arith
+
+pub last4 : (o : Order4) → Permutation4 o → o .fourth % 4 ≡ o .fourth
+last4 o p = let h = p .below4 in omega arith
+
+-- ---- L2 has no way to go through in mode 0
+pub no-ways : (f : ℕ → ℕ → State → State) (z : State) → unlessMode0 (eachL2 f) z ≡ eachL2 f z
+unfolding unlessMode0 eachL2 each
+no-ways f z = bool (eqb (l2SetsOf (z .rec)) 0) (λ e. let n = eqb-true (l2SetsOf (z .rec)) 0 e in rw (e, n) refl) (λ e. rw e refl)
