@@ -6,6 +6,13 @@ use borrow.Author.Needs.{needs}
 use Rattle.calls.proofs.run.Statement.{statement}
 use Rattle.calls.proofs.run.Tie as tie
 
+-- ---- the way back: from the checks to the arguments
+abbrev at-start : tie.After-lent-due → tie.Start
+at-start c =
+    let p-slices = c .before .before .before .before in
+    p-slices .before .before .before .before .before
+
+-- ---- the needs
 lent-due-requires : tie.Need-lent-due-requires
 lent-due-requires c κs = search needs
 
@@ -21,8 +28,7 @@ same-length-3 c = search needs
 returns : tie.Need-returns
 returns c =
     let p-lent-due = c .before in
-    let p-args = p-lent-due .before .before .before .before .before .before .before .before .before in
-    let a = p-args .args in
+    let a = at-start p-lent-due .args in
     run-refused (state (a .r) (a .l1d .now) (a .l2 .now) (a .ext .now)) (p-lent-due .lent-due .result) (p-lent-due .lent-due .ensures) (a .trace .now) (a .answers .now) (c .if1 .taken)
 
 execute-requires : tie.Need-execute-requires
@@ -42,12 +48,15 @@ same-length-7 c = search needs
 
 returns-2 : tie.Need-returns-2
 returns-2 c =
-    let p-execute = c .before .before .before .before .before .before .before .before .before in
+    let p-ext = c .before .before .before .before in
+    let p-execute = p-ext .before .before .before .before .before in
     let p-if1 = p-execute .before .before .before .before .before in
     let p-lent-due = p-if1 .before in
-    let p-args = p-lent-due .before .before .before .before .before .before .before .before .before in
-    let a = p-args .args in
-    run-done (state (a .r) (a .l1d .now) (a .l2 .now) (a .ext .now)) (p-lent-due .lent-due .result) (p-lent-due .lent-due .ensures) (record { code = 0; first = 0; second = 0; value = 0 }) (a .trace .now) (a .answers .now) (executedAs (p-execute .execute .result) (p-execute .execute .last .1 .1 .1 .1 .0) (p-execute .execute .last .1 .1 .1 .1 .1 .0) (p-execute .execute .last .1 .1 .1 .1 .1 .1 .0) (p-execute .execute .last .1 .1 .1 .1 .1 .1 .1 .0)) (p-if1 .if1 .left) (p-execute .execute .ensures)
+    let a = at-start p-lent-due .args in
+    run-done (state (a .r) (a .l1d .now) (a .l2 .now) (a .ext .now)) (p-lent-due .lent-due .result) (p-lent-due .lent-due .ensures)
+    (record { code = 0; first = 0; second = 0; value = 0 }) (a .trace .now) (a .answers .now)
+    (executedAs (p-execute .execute .result) (p-execute .execute .last .1 .1 .1 .1 .0) (p-execute .execute .last .1 .1 .1 .1 .1 .0)
+    (p-execute .execute .last .1 .1 .1 .1 .1 .1 .0) (p-execute .execute .last .1 .1 .1 .1 .1 .1 .1 .0)) (p-if1 .if1 .left) (p-execute .execute .ensures)
 
 pub run-spec : {M : Type 1} → statement M
 run-spec =

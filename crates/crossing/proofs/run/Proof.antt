@@ -5,6 +5,13 @@ use borrow.Author.Needs.{needs}
 use Rattle.crossing.proofs.run.Statement.{statement}
 use Rattle.crossing.proofs.run.Tie as tie
 
+-- ---- the way back: from the end to the run, whose four memories have been given back since
+abbrev at-run : tie.After-record-out → tie.After-run
+at-run c =
+    let p-ext = c .before .before .before .before .before in
+    p-ext .before .before .before .before .before
+
+-- ---- the needs
 bits-requires : tie.Need-bits-requires
 bits-requires c κs = search needs
 
@@ -18,20 +25,20 @@ record-out-requires : tie.Need-record-out-requires
 record-out-requires c κs = search needs
 
 same-length : tie.Need-same-length
-same-length c = c .before .before .before .before .before .before .before .before .before .before .run .kept .1 .1 .0
+same-length c = at-run c .run .kept .1 .1 .0
 
 same-length-2 : tie.Need-same-length-2
-same-length-2 c = c .before .before .before .before .before .before .before .before .before .before .run .kept .1 .1 .1 .0
+same-length-2 c = at-run c .run .kept .1 .1 .1 .0
 
 same-length-3 : tie.Need-same-length-3
-same-length-3 c = c .before .before .before .before .before .before .before .before .before .before .run .kept .1 .1 .1 .1 .0
+same-length-3 c = at-run c .run .kept .1 .1 .1 .1 .0
 
 same-length-4 : tie.Need-same-length-4
-same-length-4 c = c .before .before .before .before .before .before .before .before .before .before .run .kept .1 .1 .1 .1 .1 .0
+same-length-4 c = at-run c .run .kept .1 .1 .1 .1 .1 .0
 
 returns : tie.Need-returns
 returns c =
-    let p-run = c .before .before .before .before .before .before .before .before .before .before in
+    let p-run = at-run c in
     let p-record-in = p-run .before .before .before .before .before in
     let p-if1 = p-record-in .before in
     let p-bits = p-if1 .before in

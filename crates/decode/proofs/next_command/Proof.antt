@@ -235,7 +235,8 @@ returns-8 c =
 
 cast-t28 : tie.Need-cast-t28
 cast-t28 c =
-    let p-if4 = c .before .before .before .before .before .before .before .before .before .before in
+    let p-if6 = c .before .before .before .before .before .before in
+    let p-if4 = p-if6 .before .before .before .before in
     omega (arith, first-small p-if4)
 
 cast-t29 : tie.Need-cast-t29

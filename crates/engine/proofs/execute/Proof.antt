@@ -1,16 +1,22 @@
--- `engine::execute` meets its contract: what is left to do gives the whole. Each way through a turn is one step of the model (turns/specs/Turn), and a turn keeps the invariant (turns/specs/Executed `turn`).
+-- `engine::execute` meets its contract: what is left to do gives the whole. Each way through a turn is one step of the model (turns/specs/Turn), and a
+-- turn keeps the invariant (turns/specs/Executed `turn`). Where arms meet, a record says what both leave, and one proof for each arm gives it.
 use Rattle.turns.specs.Turn.{size-known, cached-is, due-is, Asked, Roomed, roomRecord, roomState, front-of, inside-of, below-of, unhomed-of, server-unhomed, place-unhomed, homed-of, server-homed, place-homed, miss-of, size-of}
-use Rattle.turns.specs.Executed.{sourceOf, endOf, noAnswer, answerOf, executes, turn, stopped, at-end, Going, goes-on, First, Second}
+use Rattle.turns.specs.Executed.{sourceOf, endOf, noAnswer, answerOf, Executed, executes, turn, stopped, at-end, Going, goes-on, First, Second}
 use Rattle.joins.specs.Miss.{room, ready}
 use Rattle.stages.specs.Stages.{frontAs, insideAs, belowAs, sendBelow, takenAs, broughtAs, finishedAs}
+use Rattle.stages.specs.declared.Answer.{Answer}
+use Rattle.decode.specs.declared.Decoded.{Decoded as Next}
 use Rattle.model.specs.Memories.{sramLength}
 use Rattle.model.specs.Lines.{l2Sets}
-use Rattle.model.specs.Records.{state, l2SetsOf, l2SetOf, l2Data, sramOf, withL1dSet}
+use Rattle.model.specs.Records.{State, state, l2SetsOf, l2SetOf, l2Data, sramOf, withL1dSet}
 use Rattle.model.specs.Homes.{homeIsL2, l2WayFor, homeServer}
+use Rattle.model.specs.Trace.{Decoded}
 use Rattle.model.specs.Calls.{Reply, reply, step, putAnswer}
 use Rattle.model.specs.declared.Record.{Record}
 use lib.ListN.{length}
-use Prim.Native.Nat.{ℕ, _+_, _-_, _≤_, _<_}
+use mir.Syntax.{w64}
+use mir.Val.{Fits}
+use Prim.Native.Nat.{ℕ, _+_, _*_, _-_, _≤_, _<_}
 use mathlib.Core.Bool.{true}
 use mathlib.Core.List.{List}
 use mathlib.Core.Logic.{⊎-elim}
@@ -20,259 +26,349 @@ use borrow.Author.Needs.{needs}
 use Rattle.engine.proofs.execute.Statement.{statement}
 use Rattle.engine.proofs.execute.Tie as tie
 
+-- ---- what the loop keeps: a command takes a byte at least; no length changes; the sets in use and S are those of the record; the rest of the run gives the whole
+record Kept (source : ℕ → Decoded) (whole : Executed) (l1d₀ l2₀ ext₀ answers₀ : List ℕ) (end : ℕ)
+    (l1d l2 ext answers : List ℕ) (r : Record) (at count : ℕ) (last : Answer) (sets sram : ℕ) : Type 0 where
+  counted : count ≤ at
+  l1dLong : length l1d ≡ length l1d₀
+  l2Long : length l2 ≡ length l2₀
+  extLong : length ext ≡ length ext₀
+  answersLong : length answers ≡ length answers₀
+  setsAre : sets ≡ l2SetsOf r
+  sramIs : sram ≡ sramOf r
+  setsSmall : sets ≤ 512
+  sramSmall : sram < 4294967296
+  rest : executes source end (end - count) at (state r l1d l2 ext) count answers last ≡ whole
+
 abbrev Inv-loop : tie.InvT-loop
 Inv-loop single given trace l1d₀ l2₀ ext₀ answers₀ r₀ at₀ count₀ last₀ sets₀ sram₀ end l1d l2 ext answers r at count last sets sram =
-    (count ≤ at) × (at ≤ end) × (length l1d ≡ length l1d₀) × (length l2 ≡ length l2₀) × (length ext ≡ length ext₀) × (length answers ≡ length answers₀)
-    × (sets ≡ l2SetsOf r) × (sram ≡ sramOf r) × (sets ≤ 512) × (sram < 4294967296)
-    × (executes (sourceOf single given trace) end (end - count) at (state r l1d l2 ext) count answers last
-    ≡ executes (sourceOf single given trace) end end 0 (state r₀ l1d₀ l2₀ ext₀) 0 answers₀ last₀)
+    Kept (sourceOf single given trace) (executes (sourceOf single given trace) end end 0 (state r₀ l1d₀ l2₀ ext₀) 0 answers₀ last₀)
+    l1d₀ l2₀ ext₀ answers₀ end l1d l2 ext answers r at count last sets sram
 
 abbrev μ-loop : tie.MeasureT-loop
 μ-loop single given trace l1d₀ l2₀ ext₀ answers₀ r₀ at₀ count₀ last₀ sets₀ sram₀ end l1d l2 ext answers r at count last sets sram =
     end - at
 
--- ---- what is known at the places that many needs go by
+-- ---- the way back: from a place of a turn to the place before it that needs go by. A place has the name of what was just done there
+-- `last` has no answer yet; the arguments
+abbrev at-none : tie.At-loop Inv-loop μ-loop → tie.After-no-answer Inv-loop μ-loop
+at-none c = c .before .before .before .before
+
+abbrev at-start : tie.At-loop Inv-loop μ-loop → tie.Start Inv-loop μ-loop
+at-start c = at-none c .before .before .before .before .before .before
+
+-- the head of the loop; the turn of a command that is carried out
+abbrev at-loop : tie.Else1 Inv-loop μ-loop → tie.At-loop Inv-loop μ-loop
+at-loop c = c .before .before .before .before
+
+abbrev at-turn : tie.After-set-of Inv-loop μ-loop → tie.Else1 Inv-loop μ-loop
+at-turn c = c .before .before .before .before .before .before .before
+
+-- a read or write: its set of L1D is known; the front is done
+abbrev at-set : tie.After-front Inv-loop μ-loop → tie.After-set-of Inv-loop μ-loop
+at-set c = c .before .before .before .before .before
+
+abbrev at-front : tie.After-leaving Inv-loop μ-loop → tie.After-front Inv-loop μ-loop
+at-front c = c .before .before .before .before .before .before
+
+-- a miss: the line that leaves L1D is known; the arms meet after it went into the L2 cache, if it did; it has gone below; the way is empty
+abbrev at-leaving : tie.Joined4 Inv-loop μ-loop → tie.After-leaving Inv-loop μ-loop
+at-leaving c = c .before .before .before
+
+abbrev at-left : tie.After-send-below Inv-loop μ-loop → tie.Joined4 Inv-loop μ-loop
+at-left c = c .before .before .before .before
+
+abbrev at-below : tie.After-emptied Inv-loop μ-loop → tie.After-send-below Inv-loop μ-loop
+at-below c = c .before .before .before .before .before
+
+-- the arms meet with L2 ready, where it is the line's home; the access is done
+abbrev at-room : tie.Joined5 Inv-loop μ-loop → tie.After-emptied Inv-loop μ-loop
+at-room c = c .before .before .before
+
+abbrev at-ready : tie.After-finish Inv-loop μ-loop → tie.Joined5 Inv-loop μ-loop
+at-ready c = c .before .before .before .before .before
+
+-- inside the arm where L2 is the home: L2's set and way for the line; the L1D sets of the two halves of the line that leaves L2
+abbrev at-low : tie.After-xs Inv-loop μ-loop → tie.After-set-of4 Inv-loop μ-loop
+at-low c = c .before .before .before .before .before .before .before
+
+abbrev at-high : tie.After-ys Inv-loop μ-loop → tie.After-set-of5 Inv-loop μ-loop
+at-high c = c .before .before .before .before .before .before .before
+
+abbrev at-choice : tie.After-ys Inv-loop μ-loop → tie.After-choose Inv-loop μ-loop
+at-choice c = at-low (at-high c .before .before) .before .before .before
+
+-- several steps at once
+abbrev front-of-room : tie.After-emptied Inv-loop μ-loop → tie.After-front Inv-loop μ-loop
+front-of-room c = at-front (at-leaving (at-left (at-below c)))
+
+abbrev loop-of-front : tie.After-front Inv-loop μ-loop → tie.At-loop Inv-loop μ-loop
+loop-of-front c = at-loop (at-turn (at-set c))
+
+-- the turn, from where its answer is put: after a command, after the front, after a miss
+abbrev turn-carried : tie.After-put-answer-arg Inv-loop μ-loop → tie.Else1 Inv-loop μ-loop
+turn-carried c =
+    let p-carry-out = c .before .before .before .before .before .before .before .before in
+    p-carry-out .before .before .before .before .before .before .before
+
+abbrev turn-fronted : tie.After-put-answer-arg2 Inv-loop μ-loop → tie.Else1 Inv-loop μ-loop
+turn-fronted c =
+    let p-front = c .before .before .before .before .before .before .before .before in
+    at-turn (at-set p-front)
+
+abbrev turn-missed : tie.After-put-answer-arg3 Inv-loop μ-loop → tie.Else1 Inv-loop μ-loop
+turn-missed c =
+    let p-finish = c .before .before .before .before .before .before .before .before in
+    at-turn (at-set (front-of-room (at-room (at-ready p-finish))))
+
+-- ---- what stands at these places
+-- where the run ends; the command at the head, its turn's command; what the loop works on; what the whole run gives
+abbrev endAt : tie.At-loop Inv-loop μ-loop → ℕ
+endAt c = c .before .end-of .result
+
+abbrev found : tie.Else1 Inv-loop μ-loop → Next
+found c = c .before .before .next .result
+
+abbrev here : tie.At-loop Inv-loop μ-loop → State
+here c = state (c .loop .r) (c .loop .l1d) (c .loop .l2) (c .loop .ext)
+
+abbrev source : tie.At-loop Inv-loop μ-loop → ℕ → Decoded
+source c =
+    let a = at-start c .args in
+    sourceOf (a .single) (a .given) (a .trace .now)
+
+abbrev whole : tie.At-loop Inv-loop μ-loop → Executed
+whole c =
+    let a = at-start c .args in
+    executes (source c) (endAt c) (endAt c) 0 (state (a .r0) (a .l1d .now) (a .l2 .now) (a .ext .now)) 0 (a .answers .now) (at-none c .no-answer .result)
+
+-- what a call leaves in a memory that it is lent, its parameter n, stands at `.last`, n times `.1`, `.0`; that it keeps its length, at the same place of `.kept`
+abbrev frontL1d : tie.After-front Inv-loop μ-loop → List ℕ
+frontL1d c = c .front .last .1 .1 .1 .1 .1 .0
+
+abbrev frontExt : tie.After-front Inv-loop μ-loop → List ℕ
+frontExt c = c .front .last .1 .1 .1 .1 .1 .1 .0
+
+abbrev belowL2 : tie.After-send-below Inv-loop μ-loop → List ℕ
+belowL2 c = c .send-below .last .1 .1 .1 .1 .1 .0
+
+abbrev belowExt : tie.After-send-below Inv-loop μ-loop → List ℕ
+belowExt c = c .send-below .last .1 .1 .1 .1 .1 .1 .0
+
+-- ---- what is known there
+-- the place of a set in the record's bytes
+l1d-fits : {i : ℕ} → i < 128 → Fits w64 (i * 20)
+l1d-fits n = omega arith
+
+l2-fits : {i : ℕ} → i < 512 → Fits w64 (i * 36)
+l2-fits n = omega arith
+
+-- the whole run, as the contract says it
+whole-is : (c : tie.At-loop Inv-loop μ-loop) →
+    let a = at-start c .args in let end = endOf (a .single) (a .trace .now) in
+    whole c ≡ executes (source c) end end 0 (state (a .r0) (a .l1d .now) (a .l2 .now) (a .ext .now)) 0 (a .answers .now) noAnswer
+whole-is c =
+    let a = at-start c .args in let e = c .before .end-of .ensures in let n = at-none c .no-answer .ensures in
+    λ j. executes (source c) (e j) (e j) 0 (state (a .r0) (a .l1d .now) (a .l2 .now) (a .ext .now)) 0 (a .answers .now) (n j)
+
+-- a command that is carried out ends before the end, and its answer has room; so no number wraps, and its turn brings the end nearer
 going : (c : tie.Else1 Inv-loop μ-loop) →
-    let p-next = c .before .before in
-    let p-loop = p-next .before .before in
-    let p-end-of = p-loop .before in
-    Going (p-end-of .end-of .result) (p-loop .loop .at) (p-loop .loop .count) (p-next .next .result) (p-loop .loop .answers)
+    let p-loop = at-loop c in
+    Going (endAt p-loop) (p-loop .loop .at) (p-loop .loop .count) (found c) (p-loop .loop .answers)
 going c =
     let p-stop-of = c .before in
     let p-next = p-stop-of .before in
-    let p-loop-test = p-next .before in
-    let p-loop = p-loop-test .before in
-    let p-end-of = p-loop .before in
-    let p-args = p-end-of .before .before .before .before .before .before .before .before .before in
-    let l = p-loop .loop in let a = p-args .args in
-    goes-on (a .single) (a .given) (a .trace .now) (p-end-of .end-of .result) (l .at) (l .count) (p-next .next .result) (l .answers) (p-stop-of .stop-of .result) (p-end-of .end-of .ensures) (p-next .next .ensures) (p-loop-test .loop-test .taken) (l .inv .0) (p-stop-of .stop-of .ensures) (c .if1 .left)
+    let p-loop = at-loop c in
+    let l = p-loop .loop in let a = at-start p-loop .args in
+    goes-on (a .single) (a .given) (a .trace .now) (endAt p-loop) (l .at) (l .count) (found c) (l .answers) (p-stop-of .stop-of .result) (p-loop .before .end-of .ensures) (p-next .next .ensures)
+    (p-next .before .loop-test .taken) (l .inv .counted) (p-stop-of .stop-of .ensures) (c .if1 .left)
+
+at-fits : (c : tie.Else1 Inv-loop μ-loop) → Fits w64 (at-loop c .loop .at + found c .used)
+at-fits c = let g = going c in let to = g .to in omega arith
+
+count-fits : (c : tie.Else1 Inv-loop μ-loop) → Fits w64 (at-loop c .loop .count + 1)
+count-fits c = let g = going c in let up = g .up in let to = g .to in omega arith
+
+nearer : (c : tie.Else1 Inv-loop μ-loop) →
+    let p-loop = at-loop c in
+    endAt p-loop - (p-loop .loop .at + found c .used) < endAt p-loop - p-loop .loop .at
+nearer c = let g = going c in let more = g .more in let to = g .to in omega arith
 
 -- a command carried out: the rest gives the whole
 onward : (c : tie.Else1 Inv-loop μ-loop) →
-    let p-next = c .before .before in
-    let p-loop = p-next .before .before in
-    let p-end-of = p-loop .before in
-    let p-no-answer = p-end-of .before .before .before in
-    let p-args = p-no-answer .before .before .before .before .before .before in
-    (x : Reply) → x ≡ step (p-next .next .result .command) (state (p-loop .loop .r) (p-loop .loop .l1d) (p-loop .loop .l2) (p-loop .loop .ext)) →
-    (o : List ℕ) → o ≡ putAnswer (p-loop .loop .answers) (p-loop .loop .count) (x .number) (x .server) (x .value) →
-    executes (sourceOf (p-args .args .single) (p-args .args .given) (p-args .args .trace .now)) (p-end-of .end-of .result) (p-end-of .end-of .result - (p-loop .loop .count + 1)) (p-loop .loop .at + p-next .next .result .used) (x .next) (p-loop .loop .count + 1) o (answerOf x)
-    ≡ executes (sourceOf (p-args .args .single) (p-args .args .given) (p-args .args .trace .now)) (p-end-of .end-of .result) (p-end-of .end-of .result) 0 (state (p-args .args .r0) (p-args .args .l1d .now) (p-args .args .l2 .now) (p-args .args .ext .now)) 0 (p-args .args .answers .now) (p-no-answer .no-answer .result)
+    let p-loop = at-loop c in let l = p-loop .loop in
+    (x : Reply) → x ≡ step (found c .command) (here p-loop) → (o : List ℕ) → o ≡ putAnswer (l .answers) (l .count) (x .number) (x .server) (x .value) →
+    executes (source p-loop) (endAt p-loop) (endAt p-loop - (l .count + 1)) (l .at + found c .used) (x .next) (l .count + 1) o (answerOf x) ≡ whole p-loop
 onward c x ex o eo =
     let p-next = c .before .before in
-    let p-loop-test = p-next .before in
-    let p-loop = p-loop-test .before in
-    let p-end-of = p-loop .before in
-    let p-no-answer = p-end-of .before .before .before in
-    let p-args = p-no-answer .before .before .before .before .before .before in
-    let l = p-loop .loop in let a = p-args .args in
-    turn (sourceOf (a .single) (a .given) (a .trace .now)) (p-end-of .end-of .result) (l .at) (l .count) (state (l .r) (l .l1d) (l .l2) (l .ext)) (l .answers) (l .last)
-    (executes (sourceOf (p-args .args .single) (p-args .args .given) (p-args .args .trace .now)) (p-end-of .end-of .result) (p-end-of .end-of .result) 0 (state (p-args .args .r0) (p-args .args .l1d .now) (p-args .args .l2 .now) (p-args .args .ext .now)) 0 (p-args .args .answers .now) (p-no-answer .no-answer .result)) (p-loop-test .loop-test .taken) (l .inv .0) (p-next .next .result) (p-next .next .ensures .same) (going c .none) x ex o eo (l .inv .10)
+    let p-loop = at-loop c in
+    let l = p-loop .loop in
+    turn (source p-loop) (endAt p-loop) (l .at) (l .count) (here p-loop) (l .answers) (l .last) (whole p-loop) (p-next .before .loop-test .taken) (l .inv .counted)
+    (found c) (p-next .next .ensures .same) (going c .none) x ex o eo (l .inv .rest)
 
 -- a read or write, once the front is done
-abbrev asked : (c : tie.After-slice-known9 Inv-loop μ-loop) →
-    Asked
+abbrev asked : tie.After-front Inv-loop μ-loop → Asked
 asked c =
-    let p-front = c .before .before .before .before in
-    let p-is-cached = p-front .before .before .before in
-    let p-set-of = p-is-cached .before .before in
-    let p-access-due = p-set-of .before in
+    let p-is-cached = c .before .before .before in
+    let p-set = at-set c in
+    let p-access-due = p-set .before in
     let p-checked = p-access-due .before in
     let p-is-write = p-checked .before in
     let p-if2 = p-is-write .before in
-    let p-next = p-if2 .before .before .before .before .before in
-    let p-loop = p-next .before .before in
-    let l = p-loop .loop in let cm = p-next .next .result .command in
+    let p-turn = at-turn p-set in
+    let l = at-loop p-turn .loop in let cm = found p-turn .command in
     record {
       r = l .r;
       l = l .l1d;
       m = l .l2;
       e = l .ext;
       c = cm;
-      i = p-set-of .set-of .result;
+      i = p-set .set-of .result;
       due = p-access-due .access-due .result;
       cached = p-is-cached .is-cached .result;
       write = p-is-write .is-write .result;
-      f = frontAs (p-front .front .result) (p-front .front .last .1 .1 .1 .1 .1 .0) (p-front .front .last .1 .1 .1 .1 .1 .1 .0);
+      f = frontAs (c .front .result) (frontL1d c) (frontExt c);
       sets = l .sets;
       sram = l .sram;
       two = p-if2 .if2 .left;
       ew = p-is-write .is-write .ensures;
-      es = l .inv .6;
-      er = l .inv .7;
-      ei = p-set-of .set-of .ensures .0;
-      ed = due-is (l .r) (l .l1d) (l .l2) (l .ext) cm (p-access-due .access-due .result) (l .sram) (p-checked .checked .result) (p-if2 .if2 .left) (l .inv .7) (p-checked .checked .ensures) (p-access-due .access-due .ensures);
+      es = l .inv .setsAre;
+      er = l .inv .sramIs;
+      ei = p-set .set-of .ensures .0;
+      ed = due-is (l .r) (l .l1d) (l .l2) (l .ext) cm (p-access-due .access-due .result) (l .sram) (p-checked .checked .result) (p-if2 .if2 .left)
+          (l .inv .sramIs) (p-checked .checked .ensures) (p-access-due .access-due .ensures);
       ec = p-is-cached .is-cached .ensures ∙ cached-is (l .r) (cm .second);
-      ef = p-front .front .ensures;
+      ef = c .front .ensures;
     }
 
--- ---- a read miss has made room: the line that left has gone into the L2 cache, or below it
-abbrev RoomMade : (c : tie.After-emptied Inv-loop μ-loop) → Type 0
-RoomMade c =
-    let p-send-below = c .before .before .before .before .before in
-    let p-if4 = p-send-below .before .before .before .before in
-    let p-front = p-if4 .before .before .before .before .before .before .before .before .before in
-    let p-set-of = p-front .before .before .before .before .before in
-    let p-is-write = p-set-of .before .before .before in
-    let p-next = p-is-write .before .before .before .before .before .before in
-    let p-loop = p-next .before .before in
-    state (withL1dSet (p-if4 .if4 .r) (p-set-of .set-of .result) (c .emptied .result)) (p-front .front .last .1 .1 .1 .1 .1 .0) (p-send-below .send-below .last .1 .1 .1 .1 .1 .0) (p-send-below .send-below .last .1 .1 .1 .1 .1 .1 .0)
-    ≡ room (p-is-write .is-write .result) (p-next .next .result .command .second) (state (p-loop .loop .r) (p-front .front .last .1 .1 .1 .1 .1 .0) (p-loop .loop .l2) (p-front .front .last .1 .1 .1 .1 .1 .1 .0))
+-- ---- a read miss has made room: the line that left has gone into the L2 cache, or below it. Neither changes the mode or a length
+record RoomMade (c : tie.After-emptied Inv-loop μ-loop) : Type 0 where
+  mode : at-left (at-below c) .if4 .r .mode ≡ asked (front-of-room c) .r .mode
+  l2len : at-left (at-below c) .if4 .r .l2len ≡ asked (front-of-room c) .r .l2len
+  l2Long : length (at-left (at-below c) .if4 .l2) ≡ length (asked (front-of-room c) .m)
+  made : let q = asked (front-of-room c) in
+      state (withL1dSet (at-left (at-below c) .if4 .r) (q .i) (c .emptied .result)) (q .f .l1d) (belowL2 (at-below c)) (belowExt (at-below c))
+      ≡ room (q .write) (q .c .second) (state (q .r) (q .f .l1d) (q .m) (q .f .ext))
 
-inside-arm : (c : tie.After-emptied Inv-loop μ-loop) → First (c .before .before .before .before .before .before .before .before .before .if4 .came) → RoomMade c
+inside-arm : (c : tie.After-emptied Inv-loop μ-loop) → First (at-left (at-below c) .if4 .came) → RoomMade c
 inside-arm c w =
-    let p-send-below = c .before .before .before .before .before in
-    let p-goes-inside = p-send-below .before .before .before .before .before in
-    let p-leaving = p-goes-inside .before .before in
-    let p-after-slice-known9 = p-leaving .before .before in
-    let p-front = p-after-slice-known9 .before .before .before .before in
-    let p-set-of = p-front .before .before .before .before .before in
-    let p-loop = p-set-of .before .before .before .before .before .before .before .before .before .before .before in
-    (λ j. state (withL1dSet (w .9 j) (p-set-of .set-of .result) (c .emptied .result)) (p-front .front .last .1 .1 .1 .1 .1 .0) (p-send-below .send-below .last .1 .1 .1 .1 .1 .0) (p-send-below .send-below .last .1 .1 .1 .1 .1 .1 .0))
-    ∙ inside-of (asked p-after-slice-known9) (p-leaving .leaving .result) (c .emptied .result) (belowAs (p-send-below .send-below .last .1 .1 .1 .1 .1 .0) (p-send-below .send-below .last .1 .1 .1 .1 .1 .1 .0)) (p-leaving .leaving .ensures .0) (c .emptied .ensures) (w .1 .result)
-    (insideAs (w .5 .result) (w .5 .last .1 .1 .1 .1 .1 .1 .1 .1 .0)) (sym (p-goes-inside .goes-inside .ensures) ∙ w .0 .taken) (w .1 .ensures .0) (w .5 .ensures)
-    (p-send-below .send-below .ensures ∙ (λ j. sendBelow (p-loop .loop .sets) (p-set-of .set-of .result) (p-leaving .leaving .result .way) (p-leaving .leaving .result .line) (p-front .front .last .1 .1 .1 .1 .1 .0) (w .8 j) (p-front .front .last .1 .1 .1 .1 .1 .1 .0)))
-
-below-arm : (c : tie.After-emptied Inv-loop μ-loop) → Second (c .before .before .before .before .before .before .before .before .before .if4 .came) → RoomMade c
-below-arm c w =
-    let p-send-below = c .before .before .before .before .before in
-    let p-goes-inside = p-send-below .before .before .before .before .before in
-    let p-leaving = p-goes-inside .before .before in
-    let p-after-slice-known9 = p-leaving .before .before in
-    let p-front = p-after-slice-known9 .before .before .before .before in
-    let p-set-of = p-front .before .before .before .before .before in
-    let p-loop = p-set-of .before .before .before .before .before .before .before .before .before .before .before in
-    (λ j. state (withL1dSet (w .2 j) (p-set-of .set-of .result) (c .emptied .result)) (p-front .front .last .1 .1 .1 .1 .1 .0) (p-send-below .send-below .last .1 .1 .1 .1 .1 .0) (p-send-below .send-below .last .1 .1 .1 .1 .1 .1 .0))
-    ∙ below-of (asked p-after-slice-known9) (p-leaving .leaving .result) (c .emptied .result) (belowAs (p-send-below .send-below .last .1 .1 .1 .1 .1 .0) (p-send-below .send-below .last .1 .1 .1 .1 .1 .1 .0)) (p-leaving .leaving .ensures .0) (c .emptied .ensures) (sym (p-goes-inside .goes-inside .ensures) ∙ w .0 .left)
-    (p-send-below .send-below .ensures ∙ (λ j. sendBelow (p-loop .loop .sets) (p-set-of .set-of .result) (p-leaving .leaving .result .way) (p-leaving .leaving .result .line) (p-front .front .last .1 .1 .1 .1 .1 .0) (w .1 j) (p-front .front .last .1 .1 .1 .1 .1 .1 .0)))
-
-left-mode : (c : tie.Joined4 Inv-loop μ-loop) →
-    let p-loop = c .before .before .before .before .before .before .before .before .before .before .before .before .before .before .before .before .before .before .before .before .before .before .before .before .before in
-    c .if4 .r .mode ≡ p-loop .loop .r .mode
-left-mode c =
-    ⊎-elim (λ w. ap (λ (x : Record). x .mode) (w .9)) (λ w. ap (λ (x : Record). x .mode) (w .2)) (c .if4 .came)
-
-left-len : (c : tie.Joined4 Inv-loop μ-loop) →
-    let p-loop = c .before .before .before .before .before .before .before .before .before .before .before .before .before .before .before .before .before .before .before .before .before .before .before .before .before in
-    c .if4 .r .l2len ≡ p-loop .loop .r .l2len
-left-len c =
-    ⊎-elim (λ w. ap (λ (x : Record). x .l2len) (w .9)) (λ w. ap (λ (x : Record). x .l2len) (w .2)) (c .if4 .came)
-
-left-l2 : (c : tie.Joined4 Inv-loop μ-loop) →
-    let p-loop = c .before .before .before .before .before .before .before .before .before .before .before .before .before .before .before .before .before .before .before .before .before .before .before .before .before in
-    length (c .if4 .l2) ≡ length (p-loop .loop .l2)
-left-l2 c =
-    ⊎-elim (λ w. ap length (w .8) ∙ w .5 .kept .1 .1 .1 .1 .1 .1 .1 .1 .0) (λ w. ap length (w .1)) (c .if4 .came)
-
-abbrev roomed : (c : tie.After-emptied Inv-loop μ-loop) →
-    let p-after-slice-known9 = c .before .before .before .before .before .before .before .before .before .before .before .before .before .before in
-    Roomed (asked p-after-slice-known9)
-roomed c =
-    let p-send-below = c .before .before .before .before .before in
-    let p-if4 = p-send-below .before .before .before .before in
-    let p-leaving = p-if4 .before .before .before in
-    let p-if3 = p-leaving .before in
+    let p-below = at-below c in
+    let p-goes-inside = at-left p-below .before in
+    let p-leaving = at-leaving (at-left p-below) in
+    let q = asked (front-of-room c) in let g = p-leaving .leaving .result in
+    -- the arm: its test, L2's set for the line, the call; and what it leaves
+    let test = w .0 in let set = w .1 in let sent = w .5 in let l2Is = w .8 in let rIs = w .9 in
     record {
-      dn = p-if3 .if3 .left;
+      mode = ap (λ (x : Record). x .mode) rIs;
+      l2len = ap (λ (x : Record). x .l2len) rIs;
+      l2Long = ap length l2Is ∙ sent .kept .1 .1 .1 .1 .1 .1 .1 .1 .0;
+      made = (λ j. state (withL1dSet (rIs j) (q .i) (c .emptied .result)) (q .f .l1d) (belowL2 p-below) (belowExt p-below))
+          ∙ inside-of q g (c .emptied .result) (belowAs (belowL2 p-below) (belowExt p-below)) (p-leaving .leaving .ensures .0) (c .emptied .ensures) (set .result)
+          (insideAs (sent .result) (sent .last .1 .1 .1 .1 .1 .1 .1 .1 .0)) (sym (p-goes-inside .goes-inside .ensures) ∙ test .taken) (set .ensures .0) (sent .ensures)
+          (p-below .send-below .ensures ∙ (λ j. sendBelow (q .sets) (q .i) (g .way) (g .line) (q .f .l1d) (l2Is j) (q .f .ext)));
+    }
+
+below-arm : (c : tie.After-emptied Inv-loop μ-loop) → Second (at-left (at-below c) .if4 .came) → RoomMade c
+below-arm c w =
+    let p-below = at-below c in
+    let p-goes-inside = at-left p-below .before in
+    let p-leaving = at-leaving (at-left p-below) in
+    let q = asked (front-of-room c) in let g = p-leaving .leaving .result in
+    -- the arm: its test, and that nothing was done
+    let test = w .0 in let l2Is = w .1 in let rIs = w .2 in
+    record {
+      mode = ap (λ (x : Record). x .mode) rIs;
+      l2len = ap (λ (x : Record). x .l2len) rIs;
+      l2Long = ap length l2Is;
+      made = (λ j. state (withL1dSet (rIs j) (q .i) (c .emptied .result)) (q .f .l1d) (belowL2 p-below) (belowExt p-below))
+          ∙ below-of q g (c .emptied .result) (belowAs (belowL2 p-below) (belowExt p-below)) (p-leaving .leaving .ensures .0) (c .emptied .ensures)
+          (sym (p-goes-inside .goes-inside .ensures) ∙ test .left)
+          (p-below .send-below .ensures ∙ (λ j. sendBelow (q .sets) (q .i) (g .way) (g .line) (q .f .l1d) (l2Is j) (q .f .ext)));
+    }
+
+room-made : (c : tie.After-emptied Inv-loop μ-loop) → RoomMade c
+room-made c = ⊎-elim (inside-arm c) (below-arm c) (at-left (at-below c) .if4 .came)
+
+abbrev roomed : (c : tie.After-emptied Inv-loop μ-loop) → Roomed (asked (front-of-room c))
+roomed c =
+    let p-below = at-below c in
+    let p-left = at-left p-below in
+    let p-leaving = at-leaving p-left in
+    record {
+      dn = p-leaving .before .if3 .left;
       g = p-leaving .leaving .result;
-      r₁ = p-if4 .if4 .r;
-      m₁ = p-send-below .send-below .last .1 .1 .1 .1 .1 .0;
-      e₁ = p-send-below .send-below .last .1 .1 .1 .1 .1 .1 .0;
+      r₁ = p-left .if4 .r;
+      m₁ = belowL2 p-below;
+      e₁ = belowExt p-below;
       emptiedSet = c .emptied .result;
       eg = p-leaving .leaving .ensures .0;
-      md = left-mode p-if4;
-      ln = left-len p-if4;
-      rm = ⊎-elim (inside-arm c) (below-arm c) (p-if4 .if4 .came);
+      md = room-made c .mode;
+      ln = room-made c .l2len;
+      rm = room-made c .made;
     }
 
--- ---- where the two arms meet: what each leaves is L2 made ready, in the mode and with the lengths that stood before
-abbrev ReadyMade : (c : tie.Joined5 Inv-loop μ-loop) → Type 0
-ReadyMade c =
-    let p-emptied = c .before .before .before in
-    let p-after-slice-known9 = p-emptied .before .before .before .before .before .before .before .before .before .before .before .before .before .before in
-    let p-front = p-after-slice-known9 .before .before .before .before in
-    let p-is-write = p-front .before .before .before .before .before .before .before .before in
-    let p-next = p-is-write .before .before .before .before .before .before in
-    state (c .if5 .r) (p-front .front .last .1 .1 .1 .1 .1 .0) (c .if5 .l2) (c .if5 .ext) ≡ ready (p-is-write .is-write .result) (p-next .next .result .command .second) (roomState (asked p-after-slice-known9) (roomed p-emptied))
+-- ---- L2 is ready, where it is the home, or it is not: the place and the server are those of the line's home, and neither changes the mode or a length
+record ReadyMade (c : tie.Joined5 Inv-loop μ-loop) : Type 0 where
+  mode : c .if5 .r .mode ≡ roomed (at-room c) .r₁ .mode
+  l2len : c .if5 .r .l2len ≡ roomed (at-room c) .r₁ .l2len
+  l2Long : length (c .if5 .l2) ≡ length (roomed (at-room c) .m₁)
+  extLong : length (c .if5 .ext) ≡ length (roomed (at-room c) .e₁)
+  made : let q = asked (front-of-room (at-room c)) in let n = roomed (at-room c) in
+      state (c .if5 .r) (q .f .l1d) (c .if5 .l2) (c .if5 .ext) ≡ ready (q .write) (q .c .second) (roomState q n)
+  placed : let q = asked (front-of-room (at-room c)) in let n = roomed (at-room c) in let a = q .c .second in
+      homeIsL2 (roomRecord q n) a ≡ true → c .if5 .place ≡ l2Data (roomRecord q n) (l2SetOf (roomRecord q n) a) (l2WayFor (roomState q n) a)
+  small : c .if5 .place < 8589934592
+  served : let q = asked (front-of-room (at-room c)) in let n = roomed (at-room c) in
+      c .if5 .server ≡ homeServer (q .c .second) (roomState q n)
 
 homed-arm : (c : tie.Joined5 Inv-loop μ-loop) → First (c .if5 .came) → ReadyMade c
 homed-arm c w =
     let p-homed = c .before .before in
-    let p-emptied = p-homed .before in
-    let p-after-slice-known9 = p-emptied .before .before .before .before .before .before .before .before .before .before .before .before .before .before in
-    let p-front = p-after-slice-known9 .before .before .before .before in
-    let h1 = takenAs (w .10 .result) (w .10 .last .1 .1 .1 .1 .1 .0) in
-    let h2 = takenAs (w .19 .result) (w .19 .last .1 .1 .1 .1 .1 .0) in
-    let b = broughtAs (w .26 .result) (w .26 .last .1 .1 .1 .1 .1 .1 .0) (w .26 .last .1 .1 .1 .1 .1 .1 .1 .0) in
-    (λ j. state (w .34 j) (p-front .front .last .1 .1 .1 .1 .1 .0) (w .32 j) (w .33 j))
-    ∙ homed-of (asked p-after-slice-known9) (roomed p-emptied) (p-homed .homed .result) (p-homed .homed .ensures) (w .0 .taken) (w .1 .result) (w .3 .result) (w .1 .ensures .0) (w .3 .ensures .0) (w .5 .result) (w .5 .ensures .0)
-    (w .6 .result) (w .15 .result) (w .14 .result) h1 h2 (w .23 .result) b (w .6 .ensures .0) (w .10 .ensures) (w .14 .ensures) (w .15 .ensures .0) (w .19 .ensures) (w .23 .ensures) (w .26 .ensures)
+    let q = asked (front-of-room (at-room c)) in let n = roomed (at-room c) in let h = p-homed .homed .result in let eh = p-homed .homed .ensures in
+    -- the arm: its test, L2's set, the way chosen, its place; the sets of the two halves and their leaving; out, brought, the server; and what it leaves
+    let test = w .0 in let set = w .1 in let chosen = w .3 in let place = w .5 in
+    let lowSet = w .6 in let low = w .10 in let upper = w .14 in let highSet = w .15 in let high = w .19 in
+    let out = w .23 in let brought = w .26 in let server = w .31 in
+    let l2Is = w .32 in let extIs = w .33 in let rIs = w .34 in let placeIs = w .35 in let serverIs = w .36 in
+    let lowAs = takenAs (low .result) (low .last .1 .1 .1 .1 .1 .0) in let highAs = takenAs (high .result) (high .last .1 .1 .1 .1 .1 .0) in
+    let inL2 = broughtAs (brought .result) (brought .last .1 .1 .1 .1 .1 .1 .0) (brought .last .1 .1 .1 .1 .1 .1 .1 .0) in
+    record {
+      mode = ap (λ (x : Record). x .mode) rIs;
+      l2len = ap (λ (x : Record). x .l2len) rIs;
+      l2Long = ap length l2Is ∙ brought .kept .1 .1 .1 .1 .1 .1 .0 ∙ high .kept .1 .1 .1 .1 .1 .0 ∙ low .kept .1 .1 .1 .1 .1 .0;
+      extLong = ap length extIs ∙ brought .kept .1 .1 .1 .1 .1 .1 .1 .0;
+      made = (λ j. state (rIs j) (q .f .l1d) (l2Is j) (extIs j))
+          ∙ homed-of q n h eh (test .taken) (set .result) (chosen .result) (set .ensures .0) (chosen .ensures .0) (place .result) (place .ensures .0)
+          (lowSet .result) (highSet .result) (upper .result) lowAs highAs (out .result) inL2
+          (lowSet .ensures .0) (low .ensures) (upper .ensures) (highSet .ensures .0) (high .ensures) (out .ensures) (brought .ensures);
+      placed = λ t. placeIs ∙ place-homed q n h eh (test .taken) (set .result) (chosen .result) (set .ensures .0) (chosen .ensures .0) (place .result) (place .ensures .0) t;
+      small = rw placeIs (place .ensures .1);
+      served = server-homed q n h eh (test .taken) (set .result) (chosen .result) (set .ensures .0) (chosen .ensures .0) (place .result) (place .ensures .0)
+          (c .if5 .server) (serverIs ∙ server .ensures);
+    }
 
 other-arm : (c : tie.Joined5 Inv-loop μ-loop) → Second (c .if5 .came) → ReadyMade c
 other-arm c w =
-    let p-homed = c .before .before in
-    let p-emptied = p-homed .before in
-    let p-after-slice-known9 = p-emptied .before .before .before .before .before .before .before .before .before .before .before .before .before .before in
-    let p-front = p-after-slice-known9 .before .before .before .before in
-    (λ j. state (w .3 j) (p-front .front .last .1 .1 .1 .1 .1 .0) (w .1 j) (w .2 j)) ∙ unhomed-of (asked p-after-slice-known9) (roomed p-emptied) (p-homed .homed .result) (p-homed .homed .ensures) (w .0 .left)
-
-met : (c : tie.Joined5 Inv-loop μ-loop) → ReadyMade c
-met c =
-    ⊎-elim (homed-arm c) (other-arm c) (c .if5 .came)
-
-met-mode : (c : tie.Joined5 Inv-loop μ-loop) →
-    let p-if4 = c .before .before .before .before .before .before .before .before .before .before .before .before in
-    c .if5 .r .mode ≡ p-if4 .if4 .r .mode
-met-mode c =
-    ⊎-elim (λ w. ap (λ (x : Record). x .mode) (w .34)) (λ w. ap (λ (x : Record). x .mode) (w .3)) (c .if5 .came)
-
-met-len : (c : tie.Joined5 Inv-loop μ-loop) →
-    let p-if4 = c .before .before .before .before .before .before .before .before .before .before .before .before in
-    c .if5 .r .l2len ≡ p-if4 .if4 .r .l2len
-met-len c =
-    ⊎-elim (λ w. ap (λ (x : Record). x .l2len) (w .34)) (λ w. ap (λ (x : Record). x .l2len) (w .3)) (c .if5 .came)
-
-met-l2 : (c : tie.Joined5 Inv-loop μ-loop) →
-    let p-send-below = c .before .before .before .before .before .before .before .before in
-    length (c .if5 .l2) ≡ length (p-send-below .send-below .last .1 .1 .1 .1 .1 .0)
-met-l2 c =
-    ⊎-elim (λ w. ap length (w .32) ∙ w .26 .kept .1 .1 .1 .1 .1 .1 .0 ∙ w .19 .kept .1 .1 .1 .1 .1 .0 ∙ w .10 .kept .1 .1 .1 .1 .1 .0) (λ w. ap length (w .1)) (c .if5 .came)
-
-met-ext : (c : tie.Joined5 Inv-loop μ-loop) →
-    let p-send-below = c .before .before .before .before .before .before .before .before in
-    length (c .if5 .ext) ≡ length (p-send-below .send-below .last .1 .1 .1 .1 .1 .1 .0)
-met-ext c =
-    ⊎-elim (λ w. ap length (w .33) ∙ w .26 .kept .1 .1 .1 .1 .1 .1 .1 .0) (λ w. ap length (w .2)) (c .if5 .came)
-
-met-place : (c : tie.Joined5 Inv-loop μ-loop) →
-    let p-emptied = c .before .before .before in
-    let p-after-slice-known9 = p-emptied .before .before .before .before .before .before .before .before .before .before .before .before .before .before in
-    let p-next = p-after-slice-known9 .before .before .before .before .before .before .before .before .before .before .before .before .before .before .before .before .before .before in
-    homeIsL2 (roomRecord (asked p-after-slice-known9) (roomed p-emptied)) (p-next .next .result .command .second) ≡ true →
-    c .if5 .place ≡ l2Data (roomRecord (asked p-after-slice-known9) (roomed p-emptied)) (l2SetOf (roomRecord (asked p-after-slice-known9) (roomed p-emptied)) (p-next .next .result .command .second)) (l2WayFor (roomState (asked p-after-slice-known9) (roomed p-emptied)) (p-next .next .result .command .second))
-met-place c =
-    let p-homed = c .before .before in
-    let p-emptied = p-homed .before in
-    let p-after-slice-known9 = p-emptied .before .before .before .before .before .before .before .before .before .before .before .before .before .before in
-    ⊎-elim (λ w t. w .35 ∙ place-homed (asked p-after-slice-known9) (roomed p-emptied) (p-homed .homed .result) (p-homed .homed .ensures) (w .0 .taken) (w .1 .result) (w .3 .result) (w .1 .ensures .0) (w .3 .ensures .0) (w .5 .result) (w .5 .ensures .0) t) (λ w. place-unhomed (asked p-after-slice-known9) (roomed p-emptied) (p-homed .homed .result) (p-homed .homed .ensures) (w .0 .left) (c .if5 .place)) (c .if5 .came)
-
-met-server : (c : tie.Joined5 Inv-loop μ-loop) →
-    let p-emptied = c .before .before .before in
-    let p-after-slice-known9 = p-emptied .before .before .before .before .before .before .before .before .before .before .before .before .before .before in
-    let p-next = p-after-slice-known9 .before .before .before .before .before .before .before .before .before .before .before .before .before .before .before .before .before .before in
-    c .if5 .server ≡ homeServer (p-next .next .result .command .second) (roomState (asked p-after-slice-known9) (roomed p-emptied))
-met-server c =
     let p-server-below = c .before in
     let p-homed = p-server-below .before in
-    let p-emptied = p-homed .before in
-    let p-after-slice-known9 = p-emptied .before .before .before .before .before .before .before .before .before .before .before .before .before .before in
-    ⊎-elim (λ w. server-homed (asked p-after-slice-known9) (roomed p-emptied) (p-homed .homed .result) (p-homed .homed .ensures) (w .0 .taken) (w .1 .result) (w .3 .result) (w .1 .ensures .0) (w .3 .ensures .0) (w .5 .result) (w .5 .ensures .0) (c .if5 .server) (w .36 ∙ w .31 .ensures)) (λ w. server-unhomed (asked p-after-slice-known9) (roomed p-emptied) (p-homed .homed .result) (p-homed .homed .ensures) (w .0 .left) (c .if5 .server) (w .5 ∙ p-server-below .server-below .ensures)) (c .if5 .came)
+    let q = asked (front-of-room (at-room c)) in let n = roomed (at-room c) in let h = p-homed .homed .result in let eh = p-homed .homed .ensures in
+    -- the arm: its test, and that nothing was done
+    let test = w .0 in let l2Is = w .1 in let extIs = w .2 in let rIs = w .3 in let placeIs = w .4 in let serverIs = w .5 in
+    record {
+      mode = ap (λ (x : Record). x .mode) rIs;
+      l2len = ap (λ (x : Record). x .l2len) rIs;
+      l2Long = ap length l2Is;
+      extLong = ap length extIs;
+      made = (λ j. state (rIs j) (q .f .l1d) (l2Is j) (extIs j)) ∙ unhomed-of q n h eh (test .left);
+      placed = place-unhomed q n h eh (test .left) (c .if5 .place);
+      small = rw placeIs (search needs);
+      served = server-unhomed q n h eh (test .left) (c .if5 .server) (serverIs ∙ p-server-below .server-below .ensures);
+    }
 
-met-small : (c : tie.Joined5 Inv-loop μ-loop) →
-    c .if5 .place < 8589934592
-met-small c =
-    ⊎-elim (λ w. let n = w .5 .ensures .1 in let e = w .35 in omega arith) (λ w. let e = w .4 in omega arith) (c .if5 .came)
+ready-made : (c : tie.Joined5 Inv-loop μ-loop) → ReadyMade c
+ready-made c = ⊎-elim (homed-arm c) (other-arm c) (c .if5 .came)
 
+-- ---- the needs, in the order of the code: before the loop, and at its head
 no-answer-requires : tie.Need-no-answer-requires Inv-loop μ-loop
 no-answer-requires c κs = search needs
 
@@ -289,7 +385,19 @@ loop-holds : tie.Need-loop-holds Inv-loop μ-loop
 loop-holds c =
     let p-sram = c .before in
     let p-sets = p-sram .before in
-    let e : c .end-of .result - 0 ≡ c .end-of .result = omega arith in (search needs, search needs, refl, refl, refl, refl, p-sets .sets .ensures .0, p-sram .sram .ensures .0, p-sets .sets .ensures .1, p-sram .sram .ensures .1, rw e refl)
+    let e : c .end-of .result - 0 ≡ c .end-of .result = omega arith in
+    record {
+      counted = search needs;
+      l1dLong = refl;
+      l2Long = refl;
+      extLong = refl;
+      answersLong = refl;
+      setsAre = p-sets .sets .ensures .0;
+      sramIs = p-sram .sram .ensures .0;
+      setsSmall = p-sets .sets .ensures .1;
+      sramSmall = p-sram .sram .ensures .1;
+      rest = rw e refl;
+    }
 
 next-requires : tie.Need-next-requires Inv-loop μ-loop
 next-requires c κs = search needs
@@ -298,24 +406,16 @@ stop-of-requires : tie.Need-stop-of-requires Inv-loop μ-loop
 stop-of-requires c κs = search needs
 
 same-length : tie.Need-same-length Inv-loop μ-loop
-same-length c =
-    let p-loop = c .before .before .before .before in
-    p-loop .loop .inv .2
+same-length c = c .before .before .before .before .loop .inv .l1dLong
 
 same-length-2 : tie.Need-same-length-2 Inv-loop μ-loop
-same-length-2 c =
-    let p-loop = c .before .before .before .before in
-    p-loop .loop .inv .3
+same-length-2 c = c .before .before .before .before .loop .inv .l2Long
 
 same-length-3 : tie.Need-same-length-3 Inv-loop μ-loop
-same-length-3 c =
-    let p-loop = c .before .before .before .before in
-    p-loop .loop .inv .4
+same-length-3 c = c .before .before .before .before .loop .inv .extLong
 
 same-length-4 : tie.Need-same-length-4 Inv-loop μ-loop
-same-length-4 c =
-    let p-loop = c .before .before .before .before in
-    p-loop .loop .inv .5
+same-length-4 c = c .before .before .before .before .loop .inv .answersLong
 
 returns : tie.Need-returns Inv-loop μ-loop
 returns c =
@@ -323,20 +423,13 @@ returns c =
     let p-next = p-stop-of .before in
     let p-loop-test = p-next .before in
     let p-loop = p-loop-test .before in
-    let p-end-of = p-loop .before in
-    let p-no-answer = p-end-of .before .before .before in
-    let p-args = p-no-answer .before .before .before .before .before .before in
-    let l = p-loop .loop in let a = p-args .args in let E = p-end-of .end-of .result in let ee = p-end-of .end-of .ensures in
-    let z = state (l .r) (l .l1d) (l .l2) (l .ext) in
-    let src = sourceOf (a .single) (a .given) (a .trace .now) in
-    let whole = executes src E E 0 (state (a .r0) (a .l1d .now) (a .l2 .now) (a .ext .now)) 0 (a .answers .now) (p-no-answer .no-answer .result) in
-    let all : whole ≡ executes src (endOf (a .single) (a .trace .now)) (endOf (a .single) (a .trace .now)) 0 (state (a .r0) (a .l1d .now) (a .l2 .now) (a .ext .now)) 0 (a .answers .now) noAnswer = rw (ee, p-no-answer .no-answer .ensures) refl in
-    stopped src E (l .at) (l .count) z (l .answers) (l .last) whole (p-loop-test .loop-test .taken) (l .inv .0) (p-next .next .result) (p-next .next .ensures .same) (p-stop-of .stop-of .result) (p-stop-of .stop-of .ensures) (c .if1 .taken) (l .inv .10) ∙ all
+    let l = p-loop .loop in
+    stopped (source p-loop) (endAt p-loop) (l .at) (l .count) (here p-loop) (l .answers) (l .last) (whole p-loop) (p-loop-test .loop-test .taken) (l .inv .counted)
+    (p-next .next .result) (p-next .next .ensures .same) (p-stop-of .stop-of .result) (p-stop-of .stop-of .ensures) (c .if1 .taken) (l .inv .rest) ∙ whole-is p-loop
 
+-- ---- a command on the whole record
 carry-out-requires : tie.Need-carry-out-requires Inv-loop μ-loop
-carry-out-requires c κs =
-    let p-if2 = c .before .before .before in
-    p-if2 .if2 .taken
+carry-out-requires c κs = c .before .before .before .if2 .taken
 
 sets-requires-2 : tie.Need-sets-requires-2 Inv-loop μ-loop
 sets-requires-2 c κs = search needs
@@ -345,26 +438,16 @@ sram-requires-2 : tie.Need-sram-requires-2 Inv-loop μ-loop
 sram-requires-2 c κs = search needs
 
 put-answer-requires : tie.Need-put-answer-requires Inv-loop μ-loop
-put-answer-requires c κs =
-    let p-if1 = c .before .before .before .before .before .before .before .before .before .before .before .before .before .before .before in
-    going p-if1 .room
+put-answer-requires c κs = going (turn-carried c) .room
 
 add-at : tie.Need-add-at Inv-loop μ-loop
-add-at c =
-    let p-if1 = c .before .before .before .before .before .before .before .before .before .before .before .before .before .before .before .before .before .before .before in
-    let p-loop = p-if1 .before .before .before .before in
-    let g = going p-if1 in let g0 = g .more in let g1 = g .to in let i0 = p-loop .loop .inv .0 in omega arith
+add-at c = at-fits (turn-carried (c .before .before .before .before))
 
 add-count : tie.Need-add-count Inv-loop μ-loop
-add-count c =
-    let p-if1 = c .before .before .before .before .before .before .before .before .before .before .before .before .before .before .before .before .before .before .before in
-    let g = going p-if1 in let g0 = g .up in let g1 = g .to in omega arith
+add-count c = count-fits (turn-carried (c .before .before .before .before))
 
 loop-less : tie.Need-loop-less Inv-loop μ-loop
-loop-less c =
-    let p-if1 = c .before .before .before .before .before .before .before .before .before .before .before .before .before .before .before .before .before .before .before in
-    let p-loop = p-if1 .before .before .before .before in
-    let g = going p-if1 in let g0 = g .more in let g1 = g .to in let i0 = p-loop .loop .inv .0 in omega arith
+loop-less c = nearer (turn-carried (c .before .before .before .before))
 
 loop-again : tie.Need-loop-again Inv-loop μ-loop
 loop-again c =
@@ -372,29 +455,28 @@ loop-again c =
     let p-sram2 = p-put-answer .before .before in
     let p-sets2 = p-sram2 .before in
     let p-carry-out = p-sets2 .before .before .before .before .before .before in
-    let p-if1 = p-carry-out .before .before .before .before .before .before .before in
-    let p-loop = p-if1 .before .before .before .before in
-    let l = p-loop .loop in let g = going p-if1 in let o = p-carry-out .carry-out .result in (
-      g .up,
-      g .to,
-      l .inv .2,
-      p-carry-out .carry-out .kept .1 .1 .1 .0 ∙ l .inv .3,
-      p-carry-out .carry-out .kept .1 .1 .1 .1 .0 ∙ l .inv .4,
-      p-put-answer .put-answer .kept .0 ∙ l .inv .5,
-      p-sets2 .sets2 .ensures .0,
-      p-sram2 .sram2 .ensures .0,
-      p-sets2 .sets2 .ensures .1,
-      p-sram2 .sram2 .ensures .1,
-      onward p-if1 (reply (o .number) 0 0 (state (o .«record») (l .l1d) (p-carry-out .carry-out .last .1 .1 .1 .0) (p-carry-out .carry-out .last .1 .1 .1 .1 .0))) (p-carry-out .carry-out .ensures) (p-put-answer .put-answer .last .0) (p-put-answer .put-answer .ensures),
-    )
+    let p-turn = turn-carried (p-put-answer .before) in
+    let l = at-loop p-turn .loop in let g = going p-turn in let o = p-carry-out .carry-out .result in
+    record {
+      counted = g .up;
+      l1dLong = l .inv .l1dLong;
+      l2Long = p-carry-out .carry-out .kept .1 .1 .1 .0 ∙ l .inv .l2Long;
+      extLong = p-carry-out .carry-out .kept .1 .1 .1 .1 .0 ∙ l .inv .extLong;
+      answersLong = p-put-answer .put-answer .kept .0 ∙ l .inv .answersLong;
+      setsAre = p-sets2 .sets2 .ensures .0;
+      sramIs = p-sram2 .sram2 .ensures .0;
+      setsSmall = p-sets2 .sets2 .ensures .1;
+      sramSmall = p-sram2 .sram2 .ensures .1;
+      rest = onward p-turn (reply (o .number) 0 0 (state (o .«record») (l .l1d) (p-carry-out .carry-out .last .1 .1 .1 .0) (p-carry-out .carry-out .last .1 .1 .1 .1 .0)))
+          (p-carry-out .carry-out .ensures) (p-put-answer .put-answer .last .0) (p-put-answer .put-answer .ensures);
+    }
 
+-- ---- a read or write: the front
 is-write-requires : tie.Need-is-write-requires Inv-loop μ-loop
 is-write-requires c κs = search needs
 
 cast-access-due : tie.Need-cast-access-due Inv-loop μ-loop
-cast-access-due c =
-    let p-loop = c .before .before .before .before .before .before .before .before in
-    let n = p-loop .loop .inv .9 in omega arith
+cast-access-due c = let n = at-loop (c .before .before .before .before) .loop .inv .sramSmall in omega arith
 
 checked-requires : tie.Need-checked-requires Inv-loop μ-loop
 checked-requires c κs = search needs
@@ -406,76 +488,61 @@ set-of-requires : tie.Need-set-of-requires Inv-loop μ-loop
 set-of-requires c κs = search needs
 
 mul-s : tie.Need-mul-s Inv-loop μ-loop
-mul-s c = let n = c .set-of .ensures .1 in omega arith
+mul-s c = l1d-fits (c .set-of .ensures .1)
 
 element-copy-out-s : tie.Need-element-copy-out-s Inv-loop μ-loop
-element-copy-out-s c = let n = c .set-of .ensures .1 in omega arith
+element-copy-out-s c = c .set-of .ensures .1
 
 is-cached-requires : tie.Need-is-cached-requires Inv-loop μ-loop
 is-cached-requires c κs = search needs
 
 front-requires : tie.Need-front-requires Inv-loop μ-loop
 front-requires c κs =
-    let p-set-of = c .before .before .before .before in
-    let p-access-due = p-set-of .before in
-    (p-set-of .set-of .ensures .1, λ k. size-known _ _ _ _ _ (sym (p-access-due .access-due .ensures) ∙ k))
+    let p-set = c .before .before .before .before in
+    let p-access-due = p-set .before in
+    (p-set .set-of .ensures .1, λ k. size-known _ _ _ _ _ (sym (p-access-due .access-due .ensures) ∙ k))
 
 mul-fs : tie.Need-mul-fs Inv-loop μ-loop
-mul-fs c =
-    let p-set-of = c .before .before .before .before .before .before .before .before .before .before .before in
-    let n = p-set-of .set-of .ensures .1 in omega arith
+mul-fs c = l1d-fits (at-set (c .before .before .before .before .before .before) .set-of .ensures .1)
 
 element-set-from-fs : tie.Need-element-set-from-fs Inv-loop μ-loop
-element-set-from-fs c =
-    let p-set-of = c .before .before .before .before .before .before .before .before .before .before .before in
-    let n = p-set-of .set-of .ensures .1 in omega arith
+element-set-from-fs c = at-set (c .before .before .before .before .before .before) .set-of .ensures .1
 
 put-answer-requires-2 : tie.Need-put-answer-requires-2 Inv-loop μ-loop
-put-answer-requires-2 c κs =
-    let p-if1 = c .before .before .before .before .before .before .before .before .before .before .before .before .before .before .before .before .before .before .before .before in
-    going p-if1 .room
+put-answer-requires-2 c κs = going (turn-fronted c) .room
 
 add-at-2 : tie.Need-add-at-2 Inv-loop μ-loop
-add-at-2 c =
-    let p-if1 = c .before .before .before .before .before .before .before .before .before .before .before .before .before .before .before .before .before .before .before .before .before .before .before .before in
-    let p-loop = p-if1 .before .before .before .before in
-    let g = going p-if1 in let g0 = g .more in let g1 = g .to in let i0 = p-loop .loop .inv .0 in omega arith
+add-at-2 c = at-fits (turn-fronted (c .before .before .before .before))
 
 add-count-2 : tie.Need-add-count-2 Inv-loop μ-loop
-add-count-2 c =
-    let p-if1 = c .before .before .before .before .before .before .before .before .before .before .before .before .before .before .before .before .before .before .before .before .before .before .before .before in
-    let g = going p-if1 in let g0 = g .up in let g1 = g .to in omega arith
+add-count-2 c = count-fits (turn-fronted (c .before .before .before .before))
 
 loop-less-2 : tie.Need-loop-less-2 Inv-loop μ-loop
-loop-less-2 c =
-    let p-if1 = c .before .before .before .before .before .before .before .before .before .before .before .before .before .before .before .before .before .before .before .before .before .before .before .before in
-    let p-loop = p-if1 .before .before .before .before in
-    let g = going p-if1 in let g0 = g .more in let g1 = g .to in let i0 = p-loop .loop .inv .0 in omega arith
+loop-less-2 c = nearer (turn-fronted (c .before .before .before .before))
 
 loop-again-2 : tie.Need-loop-again-2 Inv-loop μ-loop
 loop-again-2 c =
     let p-put-answer2 = c .before .before .before in
     let p-if3 = p-put-answer2 .before .before .before .before in
-    let p-after-slice-known9 = p-if3 .before in
-    let p-front = p-after-slice-known9 .before .before .before .before in
-    let p-set-of = p-front .before .before .before .before .before in
-    let p-if1 = p-set-of .before .before .before .before .before .before .before in
-    let p-loop = p-if1 .before .before .before .before in
-    let l = p-loop .loop in let g = going p-if1 in let f = p-front .front .result in (
-      g .up,
-      g .to,
-      p-front .front .kept .1 .1 .1 .1 .1 .0 ∙ l .inv .2,
-      l .inv .3,
-      p-front .front .kept .1 .1 .1 .1 .1 .1 .0 ∙ l .inv .4,
-      p-put-answer2 .put-answer2 .kept .0 ∙ l .inv .5,
-      l .inv .6,
-      l .inv .7,
-      l .inv .8,
-      l .inv .9,
-      onward p-if1 (reply (f .answer .number) (f .answer .server) (f .answer .value) (state (withL1dSet (l .r) (p-set-of .set-of .result) (f .set)) (p-front .front .last .1 .1 .1 .1 .1 .0) (l .l2) (p-front .front .last .1 .1 .1 .1 .1 .1 .0)))
-          (front-of (asked p-after-slice-known9) (p-if3 .if3 .taken)) (p-put-answer2 .put-answer2 .last .0) (p-put-answer2 .put-answer2 .ensures),
-    )
+    let p-front = p-if3 .before .before .before .before .before in
+    let p-turn = turn-fronted (p-put-answer2 .before) in
+    let l = at-loop p-turn .loop in let g = going p-turn in let f = p-front .front .result in
+    record {
+      counted = g .up;
+      l1dLong = p-front .front .kept .1 .1 .1 .1 .1 .0 ∙ l .inv .l1dLong;
+      l2Long = l .inv .l2Long;
+      extLong = p-front .front .kept .1 .1 .1 .1 .1 .1 .0 ∙ l .inv .extLong;
+      answersLong = p-put-answer2 .put-answer2 .kept .0 ∙ l .inv .answersLong;
+      setsAre = l .inv .setsAre;
+      sramIs = l .inv .sramIs;
+      setsSmall = l .inv .setsSmall;
+      sramSmall = l .inv .sramSmall;
+      rest = onward p-turn (reply (f .answer .number) (f .answer .server) (f .answer .value)
+          (state (withL1dSet (l .r) (at-set p-front .set-of .result) (f .set)) (frontL1d p-front) (l .l2) (frontExt p-front)))
+          (front-of (asked p-front) (p-if3 .if3 .taken)) (p-put-answer2 .put-answer2 .last .0) (p-put-answer2 .put-answer2 .ensures);
+    }
 
+-- ---- a miss: room in L1D
 leaving-requires : tie.Need-leaving-requires Inv-loop μ-loop
 leaving-requires c κs = search needs
 
@@ -483,55 +550,43 @@ goes-inside-requires : tie.Need-goes-inside-requires Inv-loop μ-loop
 goes-inside-requires c κs = search needs
 
 set-of-requires-2 : tie.Need-set-of-requires-2 Inv-loop μ-loop
-set-of-requires-2 c κs =
-    let p-loop = c .before .before .before .before .before .before .before .before .before .before .before .before .before .before .before .before .before .before .before .before .before .before .before .before .before in
-    p-loop .loop .inv .8
+set-of-requires-2 c κs = loop-of-front (at-front (c .before .before .before)) .loop .inv .setsSmall
 
 mul-hv : tie.Need-mul-hv Inv-loop μ-loop
-mul-hv c = let n = c .set-of2 .ensures .1 in omega arith
+mul-hv c = l2-fits (c .set-of2 .ensures .1)
 
 element-copy-out-hv : tie.Need-element-copy-out-hv Inv-loop μ-loop
-element-copy-out-hv c = let n = c .set-of2 .ensures .1 in omega arith
+element-copy-out-hv c = c .set-of2 .ensures .1
 
 send-inside-requires : tie.Need-send-inside-requires Inv-loop μ-loop
 send-inside-requires c κs =
     let p-set-of2 = c .before .before .before in
     let p-leaving = p-set-of2 .before .before .before .before in
-    let p-set-of = p-leaving .before .before .before .before .before .before .before .before .before .before .before in
-    let p-loop = p-set-of .before .before .before .before .before .before .before .before .before .before .before in
-    (p-set-of .set-of .ensures .1, (p-leaving .leaving .ensures .1, (p-loop .loop .inv .9, (p-loop .loop .inv .8, p-set-of2 .set-of2 .ensures .1))))
+    let p-front = at-front p-leaving in
+    let inv = loop-of-front p-front .loop .inv in
+    (at-set p-front .set-of .ensures .1, (p-leaving .leaving .ensures .1, (inv .sramSmall, (inv .setsSmall, p-set-of2 .set-of2 .ensures .1))))
 
 mul-hu : tie.Need-mul-hu Inv-loop μ-loop
-mul-hu c =
-    let p-set-of2 = c .before .before .before .before .before .before in
-    let n = p-set-of2 .set-of2 .ensures .1 in omega arith
+mul-hu c = l2-fits (c .before .before .before .before .before .before .set-of2 .ensures .1)
 
 element-set-from-hu : tie.Need-element-set-from-hu Inv-loop μ-loop
-element-set-from-hu c =
-    let p-set-of2 = c .before .before .before .before .before .before in
-    let n = p-set-of2 .set-of2 .ensures .1 in omega arith
+element-set-from-hu c = c .before .before .before .before .before .before .set-of2 .ensures .1
 
 send-below-requires : tie.Need-send-below-requires Inv-loop μ-loop
 send-below-requires c κs =
-    let p-leaving = c .before .before .before .before .before .before in
-    let p-set-of = p-leaving .before .before .before .before .before .before .before .before .before .before .before in
-    (p-set-of .set-of .ensures .1, p-leaving .leaving .ensures .1)
+    let p-leaving = at-leaving (c .before .before .before) in
+    (at-set (at-front p-leaving) .set-of .ensures .1, p-leaving .leaving .ensures .1)
 
 emptied-requires : tie.Need-emptied-requires Inv-loop μ-loop
-emptied-requires c κs =
-    let p-leaving = c .before .before .before .before .before .before .before .before .before .before .before in
-    p-leaving .leaving .ensures .1
+emptied-requires c κs = at-leaving (at-left (c .before .before .before .before)) .leaving .ensures .1
 
 mul-se : tie.Need-mul-se Inv-loop μ-loop
-mul-se c =
-    let p-set-of = c .before .before .before .before .before .before .before .before .before .before .before .before .before .before .before .before .before .before .before .before .before .before .before in
-    let n = p-set-of .set-of .ensures .1 in omega arith
+mul-se c = l1d-fits (at-set (front-of-room c) .set-of .ensures .1)
 
 element-set-from-se : tie.Need-element-set-from-se Inv-loop μ-loop
-element-set-from-se c =
-    let p-set-of = c .before .before .before .before .before .before .before .before .before .before .before .before .before .before .before .before .before .before .before .before .before .before .before in
-    let n = p-set-of .set-of .ensures .1 in omega arith
+element-set-from-se c = at-set (front-of-room c) .set-of .ensures .1
 
+-- ---- a miss: L2 made ready, where it is the home
 homed-requires : tie.Need-homed-requires Inv-loop μ-loop
 homed-requires c κs = search needs
 
@@ -539,15 +594,13 @@ server-below-requires : tie.Need-server-below-requires Inv-loop μ-loop
 server-below-requires c κs = search needs
 
 set-of-requires-3 : tie.Need-set-of-requires-3 Inv-loop μ-loop
-set-of-requires-3 c κs =
-    let p-loop = c .before .before .before .before .before .before .before .before .before .before .before .before .before .before .before .before .before .before .before .before .before .before .before .before .before .before .before .before .before .before .before .before .before .before .before .before .before in
-    p-loop .loop .inv .8
+set-of-requires-3 c κs = loop-of-front (front-of-room (c .before .before .before)) .loop .inv .setsSmall
 
 mul-u : tie.Need-mul-u Inv-loop μ-loop
-mul-u c = let n = c .set-of3 .ensures .1 in omega arith
+mul-u c = l2-fits (c .set-of3 .ensures .1)
 
 element-copy-out-u : tie.Need-element-copy-out-u Inv-loop μ-loop
-element-copy-out-u c = let n = c .set-of3 .ensures .1 in omega arith
+element-copy-out-u c = c .set-of3 .ensures .1
 
 choose-requires : tie.Need-choose-requires Inv-loop μ-loop
 choose-requires c κs = search needs
@@ -556,32 +609,27 @@ data-at-requires : tie.Need-data-at-requires Inv-loop μ-loop
 data-at-requires c κs =
     let p-choose = c .before in
     let p-set-of3 = p-choose .before .before in
-    let p-loop = p-set-of3 .before .before .before .before .before .before .before .before .before .before .before .before .before .before .before .before .before .before .before .before .before .before .before .before .before .before .before .before .before .before .before .before .before .before .before .before .before .before in
-    (p-loop .loop .inv .9, (p-loop .loop .inv .8, (p-set-of3 .set-of3 .ensures .1, p-choose .choose .ensures .1)))
+    let p-room = p-set-of3 .before .before .before .before in
+    let inv = loop-of-front (front-of-room p-room) .loop .inv in
+    (inv .sramSmall, (inv .setsSmall, (p-set-of3 .set-of3 .ensures .1, p-choose .choose .ensures .1)))
 
 set-of-requires-4 : tie.Need-set-of-requires-4 Inv-loop μ-loop
 set-of-requires-4 c κs = search needs
 
 mul-g : tie.Need-mul-g Inv-loop μ-loop
-mul-g c = let n = c .set-of4 .ensures .1 in omega arith
+mul-g c = l1d-fits (c .set-of4 .ensures .1)
 
 element-copy-out-g : tie.Need-element-copy-out-g Inv-loop μ-loop
-element-copy-out-g c = let n = c .set-of4 .ensures .1 in omega arith
+element-copy-out-g c = c .set-of4 .ensures .1
 
 take-half-requires : tie.Need-take-half-requires Inv-loop μ-loop
-take-half-requires c κs =
-    let p-data-at = c .before .before .before .before in
-    p-data-at .data-at .ensures .1
+take-half-requires c κs = c .before .before .before .before .data-at .ensures .1
 
 mul-xs : tie.Need-mul-xs Inv-loop μ-loop
-mul-xs c =
-    let p-set-of4 = c .before .before .before .before .before .before .before in
-    let n = p-set-of4 .set-of4 .ensures .1 in omega arith
+mul-xs c = l1d-fits (at-low c .set-of4 .ensures .1)
 
 element-set-from-xs : tie.Need-element-set-from-xs Inv-loop μ-loop
-element-set-from-xs c =
-    let p-set-of4 = c .before .before .before .before .before .before .before in
-    let n = p-set-of4 .set-of4 .ensures .1 in omega arith
+element-set-from-xs c = at-low c .set-of4 .ensures .1
 
 upper-half-requires : tie.Need-upper-half-requires Inv-loop μ-loop
 upper-half-requires c κs = search needs
@@ -590,162 +638,116 @@ set-of-requires-5 : tie.Need-set-of-requires-5 Inv-loop μ-loop
 set-of-requires-5 c κs = search needs
 
 mul-g2 : tie.Need-mul-g2 Inv-loop μ-loop
-mul-g2 c = let n = c .set-of5 .ensures .1 in omega arith
+mul-g2 c = l1d-fits (c .set-of5 .ensures .1)
 
 element-copy-out-g2 : tie.Need-element-copy-out-g2 Inv-loop μ-loop
-element-copy-out-g2 c = let n = c .set-of5 .ensures .1 in omega arith
+element-copy-out-g2 c = c .set-of5 .ensures .1
 
 take-half-requires-2 : tie.Need-take-half-requires-2 Inv-loop μ-loop
-take-half-requires-2 c κs =
-    let p-data-at = c .before .before .before .before .before .before .before .before .before .before .before .before .before in
-    p-data-at .data-at .ensures .1
+take-half-requires-2 c κs = at-low (c .before .before .before .before .before) .before .data-at .ensures .1
 
 mul-ys : tie.Need-mul-ys Inv-loop μ-loop
-mul-ys c =
-    let p-set-of5 = c .before .before .before .before .before .before .before in
-    let n = p-set-of5 .set-of5 .ensures .1 in omega arith
+mul-ys c = l1d-fits (at-high c .set-of5 .ensures .1)
 
 element-set-from-ys : tie.Need-element-set-from-ys Inv-loop μ-loop
-element-set-from-ys c =
-    let p-set-of5 = c .before .before .before .before .before .before .before in
-    let n = p-set-of5 .set-of5 .ensures .1 in omega arith
+element-set-from-ys c = at-high c .set-of5 .ensures .1
 
 goes-out-requires : tie.Need-goes-out-requires Inv-loop μ-loop
 goes-out-requires c κs = search needs
 
 bring-requires : tie.Need-bring-requires Inv-loop μ-loop
-bring-requires c κs =
-    let p-choose = c .before .before .before .before .before .before .before .before .before .before .before .before .before .before .before .before .before .before .before .before .before .before in
-    p-choose .choose .ensures .1
+bring-requires c κs = at-choice (c .before .before .before) .choose .ensures .1
 
 mul-b : tie.Need-mul-b Inv-loop μ-loop
-mul-b c =
-    let p-set-of3 = c .before .before .before .before .before .before .before .before .before .before .before .before .before .before .before .before .before .before .before .before .before .before .before .before .before .before .before .before .before in
-    let n = p-set-of3 .set-of3 .ensures .1 in omega arith
+mul-b c = l2-fits (at-choice (c .before .before .before .before .before .before .before .before) .before .before .set-of3 .ensures .1)
 
 element-set-from-b : tie.Need-element-set-from-b Inv-loop μ-loop
-element-set-from-b c =
-    let p-set-of3 = c .before .before .before .before .before .before .before .before .before .before .before .before .before .before .before .before .before .before .before .before .before .before .before .before .before .before .before .before .before in
-    let n = p-set-of3 .set-of3 .ensures .1 in omega arith
+element-set-from-b c = at-choice (c .before .before .before .before .before .before .before .before) .before .before .set-of3 .ensures .1
 
 server-of-requires : tie.Need-server-of-requires Inv-loop μ-loop
 server-of-requires c κs = search needs
 
+-- ---- a miss: the access itself
 mul-v : tie.Need-mul-v Inv-loop μ-loop
-mul-v c =
-    let p-set-of = c .before .before .before .before .before .before .before .before .before .before .before .before .before .before .before .before .before .before .before .before .before .before .before .before .before .before in
-    let n = p-set-of .set-of .ensures .1 in omega arith
+mul-v c = l1d-fits (at-set (front-of-room (at-room c)) .set-of .ensures .1)
 
 element-copy-out-v : tie.Need-element-copy-out-v Inv-loop μ-loop
-element-copy-out-v c =
-    let p-set-of = c .before .before .before .before .before .before .before .before .before .before .before .before .before .before .before .before .before .before .before .before .before .before .before .before .before .before in
-    let n = p-set-of .set-of .ensures .1 in omega arith
+element-copy-out-v c = at-set (front-of-room (at-room c)) .set-of .ensures .1
 
 finish-requires : tie.Need-finish-requires Inv-loop μ-loop
 finish-requires c κs =
-    let p-if5 = c .before .before .before .before in
-    let p-emptied = p-if5 .before .before .before in
-    let p-leaving = p-emptied .before .before .before .before .before .before .before .before .before .before .before .before in
-    let p-after-slice-known9 = p-leaving .before .before in
-    let p-set-of = p-after-slice-known9 .before .before .before .before .before .before .before .before .before in
-    (p-set-of .set-of .ensures .1, (p-leaving .leaving .ensures .1, (met-small p-if5, size-of (asked p-after-slice-known9) (roomed p-emptied))))
+    let p-ready = c .before .before .before .before in
+    let p-room = at-room p-ready in
+    let p-leaving = at-leaving (at-left (at-below p-room)) in
+    let p-front = front-of-room p-room in
+    (at-set p-front .set-of .ensures .1, (p-leaving .leaving .ensures .1, (ready-made p-ready .small, size-of (asked p-front) (roomed p-room))))
 
 mul-ns : tie.Need-mul-ns Inv-loop μ-loop
-mul-ns c =
-    let p-set-of = c .before .before .before .before .before .before .before .before .before .before .before .before .before .before .before .before .before .before .before .before .before .before .before .before .before .before .before .before .before .before .before .before .before .before .before .before .before .before in
-    let n = p-set-of .set-of .ensures .1 in omega arith
+mul-ns c = l1d-fits (at-set (front-of-room (at-room (at-ready (c .before .before .before .before .before .before .before)))) .set-of .ensures .1)
 
 element-set-from-ns : tie.Need-element-set-from-ns Inv-loop μ-loop
-element-set-from-ns c =
-    let p-set-of = c .before .before .before .before .before .before .before .before .before .before .before .before .before .before .before .before .before .before .before .before .before .before .before .before .before .before .before .before .before .before .before .before .before .before .before .before .before .before in
-    let n = p-set-of .set-of .ensures .1 in omega arith
+element-set-from-ns c = at-set (front-of-room (at-room (at-ready (c .before .before .before .before .before .before .before)))) .set-of .ensures .1
 
 put-answer-requires-3 : tie.Need-put-answer-requires-3 Inv-loop μ-loop
-put-answer-requires-3 c κs =
-    let p-if1 = c .before .before .before .before .before .before .before .before .before .before .before .before .before .before .before .before .before .before .before .before .before .before .before .before .before .before .before .before .before .before .before .before .before .before .before .before .before .before .before .before .before .before .before .before .before .before in
-    going p-if1 .room
+put-answer-requires-3 c κs = going (turn-missed c) .room
 
 add-at-3 : tie.Need-add-at-3 Inv-loop μ-loop
-add-at-3 c =
-    let p-if1 = c .before .before .before .before .before .before .before .before .before .before .before .before .before .before .before .before .before .before .before .before .before .before .before .before .before .before .before .before .before .before .before .before .before .before .before .before .before .before .before .before .before .before .before .before .before .before .before .before .before .before in
-    let p-loop = p-if1 .before .before .before .before in
-    let g = going p-if1 in let g0 = g .more in let g1 = g .to in let i0 = p-loop .loop .inv .0 in omega arith
+add-at-3 c = at-fits (turn-missed (c .before .before .before .before))
 
 add-count-3 : tie.Need-add-count-3 Inv-loop μ-loop
-add-count-3 c =
-    let p-if1 = c .before .before .before .before .before .before .before .before .before .before .before .before .before .before .before .before .before .before .before .before .before .before .before .before .before .before .before .before .before .before .before .before .before .before .before .before .before .before .before .before .before .before .before .before .before .before .before .before .before .before in
-    let g = going p-if1 in let g0 = g .up in let g1 = g .to in omega arith
+add-count-3 c = count-fits (turn-missed (c .before .before .before .before))
 
 loop-less-3 : tie.Need-loop-less-3 Inv-loop μ-loop
-loop-less-3 c =
-    let p-if1 = c .before .before .before .before .before .before .before .before .before .before .before .before .before .before .before .before .before .before .before .before .before .before .before .before .before .before .before .before .before .before .before .before .before .before .before .before .before .before .before .before .before .before .before .before .before .before .before .before .before .before in
-    let p-loop = p-if1 .before .before .before .before in
-    let g = going p-if1 in let g0 = g .more in let g1 = g .to in let i0 = p-loop .loop .inv .0 in omega arith
+loop-less-3 c = nearer (turn-missed (c .before .before .before .before))
 
 loop-again-3 : tie.Need-loop-again-3 Inv-loop μ-loop
 loop-again-3 c =
     let p-put-answer3 = c .before .before .before in
-    let p-finish = p-put-answer3 .before .before .before .before .before .before .before .before .before in
-    let p-if5 = p-finish .before .before .before .before .before in
-    let p-homed = p-if5 .before .before in
-    let p-emptied = p-homed .before in
-    let p-send-below = p-emptied .before .before .before .before .before in
-    let p-if4 = p-send-below .before .before .before .before in
-    let p-after-slice-known9 = p-if4 .before .before .before .before .before in
-    let p-front = p-after-slice-known9 .before .before .before .before in
-    let p-set-of = p-front .before .before .before .before .before in
-    let p-if1 = p-set-of .before .before .before .before .before .before .before in
-    let p-loop = p-if1 .before .before .before .before in
-    let l = p-loop .loop in let g = going p-if1 in let q = p-if5 .if5 in let v = p-finish .finish .result in
-    let mode = met-mode p-if5 ∙ left-mode p-if4 in let len = met-len p-if5 ∙ left-len p-if4 in
-    let x = finishedAs v (p-finish .finish .last .1 .1 .1 .1 .1 .1 .0) (p-finish .finish .last .1 .1 .1 .1 .1 .1 .1 .0) (p-finish .finish .last .1 .1 .1 .1 .1 .1 .1 .1 .0) in (
-      g .up,
-      g .to,
-      p-finish .finish .kept .1 .1 .1 .1 .1 .1 .0 ∙ p-front .front .kept .1 .1 .1 .1 .1 .0 ∙ l .inv .2,
-      p-finish .finish .kept .1 .1 .1 .1 .1 .1 .1 .0 ∙ met-l2 p-if5 ∙ p-send-below .send-below .kept .1 .1 .1 .1 .1 .0 ∙ left-l2 p-if4 ∙ l .inv .3,
-      p-finish .finish .kept .1 .1 .1 .1 .1 .1 .1 .1 .0 ∙ met-ext p-if5 ∙ p-send-below .send-below .kept .1 .1 .1 .1 .1 .1 .0 ∙ p-front .front .kept .1 .1 .1 .1 .1 .1 .0 ∙ l .inv .4,
-      p-put-answer3 .put-answer3 .kept .0 ∙ l .inv .5,
-      l .inv .6 ∙ ap l2Sets (sym mode),
-      l .inv .7 ∙ (λ j. sramLength (sym len j) (sym mode j)),
-      l .inv .8,
-      l .inv .9,
-      onward p-if1 (reply 0 (q .server) (v .value) (state (withL1dSet (q .r) (p-set-of .set-of .result) (v .set)) (x .l1d) (x .l2) (x .ext)))
-          (miss-of (asked p-after-slice-known9) (roomed p-emptied) (p-homed .homed .result) (p-homed .homed .ensures) (q .r) (q .l2) (q .ext) (met-mode p-if5) (met-len p-if5) (met p-if5) (q .place) (q .server) (met-place p-if5) (met-server p-if5) x (p-finish .finish .ensures))
-          (p-put-answer3 .put-answer3 .last .0) (p-put-answer3 .put-answer3 .ensures),
-    )
+    let p-ns = p-put-answer3 .before .before in
+    let p-finish = p-ns .before .before .before .before .before .before .before in
+    let p-ready = at-ready p-finish in
+    let p-homed = p-ready .before .before in
+    let p-room = at-room p-ready in
+    let p-below = at-below p-room in
+    let p-front = front-of-room p-room in
+    let p-turn = turn-missed (p-put-answer3 .before) in
+    let l = at-loop p-turn .loop in let g = going p-turn in let m = room-made p-room in let y = ready-made p-ready in let j = p-ready .if5 in let v = p-finish .finish .result in
+    let mode = y .mode ∙ m .mode in let l2len = y .l2len ∙ m .l2len in
+    let x = finishedAs v (p-finish .finish .last .1 .1 .1 .1 .1 .1 .0) (p-finish .finish .last .1 .1 .1 .1 .1 .1 .1 .0) (p-finish .finish .last .1 .1 .1 .1 .1 .1 .1 .1 .0) in
+    record {
+      counted = g .up;
+      l1dLong = p-finish .finish .kept .1 .1 .1 .1 .1 .1 .0 ∙ p-front .front .kept .1 .1 .1 .1 .1 .0 ∙ l .inv .l1dLong;
+      l2Long = p-finish .finish .kept .1 .1 .1 .1 .1 .1 .1 .0 ∙ y .l2Long ∙ p-below .send-below .kept .1 .1 .1 .1 .1 .0 ∙ m .l2Long ∙ l .inv .l2Long;
+      extLong = p-finish .finish .kept .1 .1 .1 .1 .1 .1 .1 .1 .0 ∙ y .extLong ∙ p-below .send-below .kept .1 .1 .1 .1 .1 .1 .0 ∙ p-front .front .kept .1 .1 .1 .1 .1 .1 .0 ∙ l .inv .extLong;
+      answersLong = p-put-answer3 .put-answer3 .kept .0 ∙ l .inv .answersLong;
+      setsAre = l .inv .setsAre ∙ ap l2Sets (sym mode);
+      sramIs = l .inv .sramIs ∙ (λ i. sramLength (sym l2len i) (sym mode i));
+      setsSmall = l .inv .setsSmall;
+      sramSmall = l .inv .sramSmall;
+      rest = onward p-turn (reply 0 (j .server) (v .value) (state (withL1dSet (j .r) (at-set p-front .set-of .result) (v .set)) (x .l1d) (x .l2) (x .ext)))
+          (miss-of (asked p-front) (roomed p-room) (p-homed .homed .result) (p-homed .homed .ensures) (j .r) (j .l2) (j .ext)
+          (y .mode) (y .l2len) (y .made) (j .place) (j .server) (y .placed) (y .served) x (p-finish .finish .ensures))
+          (p-put-answer3 .put-answer3 .last .0) (p-put-answer3 .put-answer3 .ensures);
+    }
 
+-- ---- the end is reached
 same-length-5 : tie.Need-same-length-5 Inv-loop μ-loop
-same-length-5 c =
-    let p-loop = c .before in
-    p-loop .loop .inv .2
+same-length-5 c = c .before .loop .inv .l1dLong
 
 same-length-6 : tie.Need-same-length-6 Inv-loop μ-loop
-same-length-6 c =
-    let p-loop = c .before in
-    p-loop .loop .inv .3
+same-length-6 c = c .before .loop .inv .l2Long
 
 same-length-7 : tie.Need-same-length-7 Inv-loop μ-loop
-same-length-7 c =
-    let p-loop = c .before in
-    p-loop .loop .inv .4
+same-length-7 c = c .before .loop .inv .extLong
 
 same-length-8 : tie.Need-same-length-8 Inv-loop μ-loop
-same-length-8 c =
-    let p-loop = c .before in
-    p-loop .loop .inv .5
+same-length-8 c = c .before .loop .inv .answersLong
 
 returns-2 : tie.Need-returns-2 Inv-loop μ-loop
 returns-2 c =
     let p-loop = c .before in
-    let p-end-of = p-loop .before in
-    let p-no-answer = p-end-of .before .before .before in
-    let p-args = p-no-answer .before .before .before .before .before .before in
-    let l = p-loop .loop in let a = p-args .args in let E = p-end-of .end-of .result in let ee = p-end-of .end-of .ensures in
-    let z = state (l .r) (l .l1d) (l .l2) (l .ext) in
-    let src = sourceOf (a .single) (a .given) (a .trace .now) in
-    let whole = executes src E E 0 (state (a .r0) (a .l1d .now) (a .l2 .now) (a .ext .now)) 0 (a .answers .now) (p-no-answer .no-answer .result) in
-    let all : whole ≡ executes src (endOf (a .single) (a .trace .now)) (endOf (a .single) (a .trace .now)) 0 (state (a .r0) (a .l1d .now) (a .l2 .now) (a .ext .now)) 0 (a .answers .now) noAnswer = rw (ee, p-no-answer .no-answer .ensures) refl in
-    at-end src E (l .at) (l .count) z (l .answers) (l .last) whole (E - l .count) (c .loop-test .left) (l .inv .10) ∙ all
+    let l = p-loop .loop in
+    at-end (source p-loop) (endAt p-loop) (l .at) (l .count) (here p-loop) (l .answers) (l .last) (whole p-loop) (endAt p-loop - l .count) (c .loop-test .left) (l .inv .rest) ∙ whole-is p-loop
 
 pub execute-spec : {M : Type 1} → statement M
 execute-spec =

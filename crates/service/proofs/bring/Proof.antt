@@ -5,6 +5,13 @@ use borrow.Author.Needs.{needs}
 use Rattle.service.proofs.bring.Statement.{statement}
 use Rattle.service.proofs.bring.Tie as tie
 
+-- ---- the way back: from where the line that was fetched is used to where the old one has gone out
+abbrev at-write-out : tie.After-l2-use2 → tie.After-write-out
+at-write-out c =
+    let p-move128 = c .before .before .before .before .before in
+    p-move128 .before .before .before .before .before .before .before
+
+-- ---- the needs
 l2-use-requires : tie.Need-l2-use-requires
 l2-use-requires c κs = search needs
 
@@ -37,17 +44,13 @@ l2-use-requires-2 : tie.Need-l2-use-requires-2
 l2-use-requires-2 c κs = search needs
 
 marked-requires-2 : tie.Need-marked-requires-2
-marked-requires-2 c κs =
-    let p-pre = c .before .before .before .before .before .before .before .before .before .before .before .before .before .before .before .before .before .before in
-    p-pre .pre
+marked-requires-2 c κs = at-write-out c .before .before .before .before .before .before .pre
 
 same-length : tie.Need-same-length
 same-length c = search needs
 
 same-length-2 : tie.Need-same-length-2
-same-length-2 c =
-    let p-write-out = c .before .before .before .before .before .before .before .before .before .before .before .before .before in
-    p-write-out .write-out .kept .1 .1 .1 .1 .0
+same-length-2 c = at-write-out (c .before) .write-out .kept .1 .1 .1 .1 .0
 
 returns-2 : tie.Need-returns-2
 unfolding bring

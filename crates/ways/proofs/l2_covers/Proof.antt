@@ -47,13 +47,13 @@ line-holds-requires-4 c κs = search needs
 
 returns-3 : tie.Need-returns-3
 returns-3 c =
-    let start = c .before .before .before .before .before .before .before .before .before .before in
+    let p-if2 = c .before .before .before .before .before .before .before .before in
+    let p-if1 = p-if2 .before in
+    let start = p-if1 .before in
     let n : length (start .args .t1 .lines) ≡ 4 = search unmapped in
     let p-line-holds3 = c .before .before in
     let p-line-holds2 = p-line-holds3 .before .before in
     let p-line-holds = p-line-holds2 .before .before in
-    let p-if2 = p-line-holds .before .before in
-    let p-if1 = p-if2 .before in
     covers-one (start .args .sets) (start .args .a) (start .args .t1 .lines) n (p-if1 .if1 .left) (p-if2 .if2 .left)
     (p-line-holds .line-holds .result) (p-line-holds2 .line-holds2 .result) (p-line-holds3 .line-holds3 .result) (c .line-holds4 .result)
     (p-line-holds .line-holds .ensures) (p-line-holds2 .line-holds2 .ensures) (p-line-holds3 .line-holds3 .ensures) (c .line-holds4 .ensures)

@@ -39,14 +39,14 @@ line-holds-requires-6 c κs = search needs
 
 returns : tie.Need-returns
 returns c =
-    let start = c .before .before .before .before .before .before .before .before .before .before .before .before .before in
+    let p-line-holds = c .before .before .before .before .before .before .before .before in
+    let start = p-line-holds .before .before .before .before .before in
     let n : length (start .args .t1 .lines) ≡ 4 = search unmapped in
     let p-line-holds6 = c .before in
     let p-line-holds5 = p-line-holds6 .before .before in
     let p-line-holds4 = p-line-holds5 .before in
     let p-line-holds3 = p-line-holds4 .before .before in
     let p-line-holds2 = p-line-holds3 .before in
-    let p-line-holds = p-line-holds2 .before in
     twice-joined (start .args .t1 .lines) n
     (p-line-holds .line-holds .result) (p-line-holds2 .line-holds2 .result) (p-line-holds3 .line-holds3 .result) (p-line-holds4 .line-holds4 .result)
     (p-line-holds5 .line-holds5 .result) (p-line-holds6 .line-holds6 .result)
