@@ -49,29 +49,29 @@ abbrev μ-loop : tie.MeasureT-loop
 μ-loop single given trace l1d₀ l2₀ ext₀ answers₀ r₀ at₀ count₀ last₀ sets₀ sram₀ end l1d l2 ext answers r at count last sets sram =
     end - at
 
--- ---- the way back: from a place of a turn to the place before it that needs go by. A place has the name of what was just done there
--- `last` has no answer yet; the arguments
+-- ---- the way back: from a place of a turn to the places before it. `at-X` is the place X, from the next one that needs go by:
+-- start: the arguments; none: no answer yet; loop: the head of the loop; turn: a command is carried out
+-- set: the L1D set of a read or write is known; front: the front is done; leaving: a miss, and the line that leaves L1D is known
+-- left: arms meet, the line has gone into the L2 cache if it goes there; below: it has gone below if it goes there; room: its way of L1D is empty
+-- ready: arms meet, L2 is ready if it is the home; in that arm, low and high: the L1D sets of the halves of the line that leaves L2, choice: its way is chosen
 abbrev at-none : tie.At-loop Inv-loop μ-loop → tie.After-no-answer Inv-loop μ-loop
 at-none c = c .before .before .before .before
 
 abbrev at-start : tie.At-loop Inv-loop μ-loop → tie.Start Inv-loop μ-loop
 at-start c = at-none c .before .before .before .before .before .before
 
--- the head of the loop; the turn of a command that is carried out
 abbrev at-loop : tie.Else1 Inv-loop μ-loop → tie.At-loop Inv-loop μ-loop
 at-loop c = c .before .before .before .before
 
 abbrev at-turn : tie.After-set-of Inv-loop μ-loop → tie.Else1 Inv-loop μ-loop
 at-turn c = c .before .before .before .before .before .before .before
 
--- a read or write: its set of L1D is known; the front is done
 abbrev at-set : tie.After-front Inv-loop μ-loop → tie.After-set-of Inv-loop μ-loop
 at-set c = c .before .before .before .before .before
 
 abbrev at-front : tie.After-leaving Inv-loop μ-loop → tie.After-front Inv-loop μ-loop
 at-front c = c .before .before .before .before .before .before
 
--- a miss: the line that leaves L1D is known; the arms meet after it went into the L2 cache, if it did; it has gone below; the way is empty
 abbrev at-leaving : tie.Joined4 Inv-loop μ-loop → tie.After-leaving Inv-loop μ-loop
 at-leaving c = c .before .before .before
 
@@ -81,14 +81,12 @@ at-left c = c .before .before .before .before
 abbrev at-below : tie.After-emptied Inv-loop μ-loop → tie.After-send-below Inv-loop μ-loop
 at-below c = c .before .before .before .before .before
 
--- the arms meet with L2 ready, where it is the line's home; the access is done
 abbrev at-room : tie.Joined5 Inv-loop μ-loop → tie.After-emptied Inv-loop μ-loop
 at-room c = c .before .before .before
 
 abbrev at-ready : tie.After-finish Inv-loop μ-loop → tie.Joined5 Inv-loop μ-loop
 at-ready c = c .before .before .before .before .before
 
--- inside the arm where L2 is the home: L2's set and way for the line; the L1D sets of the two halves of the line that leaves L2
 abbrev at-low : tie.After-xs Inv-loop μ-loop → tie.After-set-of4 Inv-loop μ-loop
 at-low c = c .before .before .before .before .before .before .before
 
@@ -122,7 +120,7 @@ turn-missed c =
     at-turn (at-set (front-of-room (at-room (at-ready p-finish))))
 
 -- ---- what stands at these places
--- where the run ends; the command at the head, its turn's command; what the loop works on; what the whole run gives
+-- where the run ends; the command of a turn; the state at the head; where commands come from; what the whole run gives
 abbrev endAt : tie.At-loop Inv-loop μ-loop → ℕ
 endAt c = c .before .end-of .result
 
@@ -142,7 +140,7 @@ whole c =
     let a = at-start c .args in
     executes (source c) (endAt c) (endAt c) 0 (state (a .r0) (a .l1d .now) (a .l2 .now) (a .ext .now)) 0 (a .answers .now) (at-none c .no-answer .result)
 
--- what a call leaves in a memory that it is lent, its parameter n, stands at `.last`, n times `.1`, `.0`; that it keeps its length, at the same place of `.kept`
+-- what a call leaves in a memory that it is lent as its parameter n (from 0) is `.last`, n times `.1`, `.0`; that the length is kept, the same of `.kept`
 abbrev frontL1d : tie.After-front Inv-loop μ-loop → List ℕ
 frontL1d c = c .front .last .1 .1 .1 .1 .1 .0
 
@@ -156,7 +154,7 @@ abbrev belowExt : tie.After-send-below Inv-loop μ-loop → List ℕ
 belowExt c = c .send-below .last .1 .1 .1 .1 .1 .1 .0
 
 -- ---- what is known there
--- the place of a set in the record's bytes
+-- the place of a set in its array does not wrap
 l1d-fits : {i : ℕ} → i < 128 → Fits w64 (i * 20)
 l1d-fits n = omega arith
 
