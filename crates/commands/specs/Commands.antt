@@ -11,7 +11,8 @@ use borrow.Author.Tests.{eqb-true, eqb-false, eq-eqb, ne-eqb, leb-true, le-leb, 
 use Rattle.model.specs.Bytes.{zeroFrom}
 use Rattle.model.specs.Memories.{cacheSize, isMode, sramLength}
 use Rattle.model.specs.Records.{State, state, sramOf, freshL1dSet, freshL2Set}
-use Rattle.model.specs.Modes.{smaller, flushL2, newMode, changeMode, changeMar}
+use Rattle.model.specs.Modes.{smaller, flushL2, newMode, changeMar}
+use Rattle.model.proofs.Flushes.{change-swept}
 use Rattle.model.specs.Refusals.{holdsRange, first, unless, blockDue, modeDue}
 use Rattle.model.specs.Calls.{reply, commandDue, commandState, accepted, step}
 use Rattle.model.specs.Laws.{bool}
@@ -79,8 +80,8 @@ module _ (c : Command) (z : State) where
 
   -- L1D's sweep, and what follows it
   pub changed-mode : c .code ≡ 10 → (p : State) → p ≡ l1dSweep (c .code) (c .first) (c .second) z → afterL1d (c .first) p ≡ commandState c z
-  unfolding commandState changeMode afterL1d
-  changed-mode e p ep = rw (ep, e, l1d-10 (c .first) (c .second) z) refl
+  unfolding commandState afterL1d
+  changed-mode e p ep = rw (ep, e, l1d-10 (c .first) (c .second) z) (sym (change-swept (c .first) z))
 
   pub changed-mar : c .code ≡ 11 → changeMar (c .first) (c .second) z ≡ commandState c z
   unfolding commandState

@@ -8,7 +8,7 @@ use Rattle.model.specs.Lines.{l1dSetOf, l1dLine, emptyLine}
 use Rattle.model.specs.Records.{State}
 use Rattle.model.specs.Ways.{l1dFind, emptyL1d}
 use Rattle.model.specs.Access.{evictL1d}
-use Rattle.model.specs.Modes.{flushL1d}
+use Rattle.model.proofs.Flushes.{sweptL1d}
 use Rattle.model.specs.Commands.{linesTouched, eachTouched, atL1d, l1dWritebackInvalidateBlock, l1dInvalidateBlock, l1dInvalidateAll}
 use Rattle.model.specs.declared.Line.{Line}
 use Rattle.model.specs.declared.L1dSet.{L1dSet}
@@ -61,6 +61,6 @@ module _ (b c : ℕ) (z : State) where
   unfolding l1dSweep l1dTurns l1dTurn l1dAct l1dInvalidateAll
   l1d-9 = refl
 
-  pub l1d-10 : l1dSweep 10 b c z ≡ flushL1d z
-  unfolding l1dSweep l1dTurns l1dTurn l1dAct flushL1d
+  pub l1d-10 : l1dSweep 10 b c z ≡ sweptL1d z
+  unfolding l1dSweep l1dTurns l1dTurn l1dAct
   l1d-10 = refl

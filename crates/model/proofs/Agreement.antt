@@ -3,7 +3,7 @@
 -- are not seen. After a global writeback in a mode with an L2 cache every place of external memory is right, so the two lists are equal.
 use Prim.Native.Nat.{ℕ, _+_, _*_, _-_, _≤_, _<_}
 use mathlib.Core.Bool.{true, false, _&&_}
-use mathlib.Core.Path.{_≡_, refl, sym, ap, _∙_}
+use mathlib.Core.Path.{_≡_, refl, sym, ap, _∙_, subst}
 use mathlib.Core.Logic.{_≢_}
 use mathlib.Core.List.{List, [], _∷_}
 use native.Mathlib.Omega.{arith}
@@ -15,7 +15,7 @@ use Rattle.model.specs.Bytes.{little, littleBytes, zeroFrom}
 use Rattle.model.specs.Memories.{l1dLength, externalBase, legalL2, legalExternal, cacheSize, isMode, sramLength}
 use Rattle.model.specs.Records.{State, state, sramOf, l2SetsOf, l2LineAt, freshRecord, freshState}
 use Rattle.model.specs.Access.{readAccess, writeAccess}
-use Rattle.model.specs.Modes.{smaller, flushL1d, flushL2, newMode, changeMode}
+use Rattle.model.specs.Modes.{smaller, flushL2, newMode, changeMode}
 use Rattle.model.specs.Commands.{l2WritebackAll, l2WritebackInvalidateAll}
 use Rattle.model.specs.Flat.{Flat, flat, freshFlat, flatPart, flatPut, flatMode, FlatReply, flatReply, flatRead, flatWrite, flatChange, flatStep}
 use Rattle.model.specs.Refusals.{accessDue, modeDue}
@@ -34,6 +34,7 @@ use Rattle.model.proofs.Changes.{zero-length, zero-below, zero-above, s
 use Rattle.model.proofs.Due.{access-tells, accepted-read, accepted-write, mode-tells, mode-sets}
 use Rattle.model.proofs.Steps.{codes, Quiet, quiet-step, quiet-2, quiet-3, quiet-4, quiet-5, quiet-7, quiet-11}
 use Rattle.model.proofs.Tested.{legalL2-tells, legalExternal-tells, call-step}
+use Rattle.model.proofs.Flushes.{sweptL1d, change-swept}
 
 -- ---- chip and flat memory match: every byte that counts is flat memory's, and the sizes are the same
 abbrev flatByte : Flat → ℕ → ℕ
@@ -170,9 +171,10 @@ module _ (z : State) (f : Flat) (m : Matches z f) (a b v : ℕ) where
       rw e (bool (eqb d 0)
       (λ t. let c = mode-tells (z .rec .l2len) a (eqb-true d 0 t) in
       let o = flush-good z (Is f) (m .good) in
-      let z₁ = flushL2 (flushL1d z) in
+      let z₁ = flushL2 (sweptL1d z) in
       let m₁ = matches-quiet z f m z₁ (quiet-step z (Is f) z₁ (o .step)) in
-      let s : Matches (newMode a z₁) (flatMode a f) = mode-matches z₁ f m₁ a (c .0) (rw (o .step .kept .l2len) (c .1)) (o .l1dNone) (o .l2Clean) in
+      let s₁ : Matches (newMode a z₁) (flatMode a f) = mode-matches z₁ f m₁ a (c .0) (rw (o .step .kept .l2len) (c .1)) (o .l1dNone) (o .l2Clean) in
+      let s : Matches (changeMode a z) (flatMode a f) = subst (λ (x : State). Matches x (flatMode a f)) (sym (change-swept a z)) s₁ in
       rw t (record { number = λ _. refl; value = λ _. refl; matches = s; mode = refl }))
       (λ t. rw t (record { number = λ _. refl; value = λ _. refl; matches = m; mode = rw t refl })))
 

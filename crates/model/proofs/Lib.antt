@@ -5,6 +5,7 @@ pub mod Drops
 pub mod Due
 pub mod Evict
 pub mod Fetch
+pub mod Flushes
 pub mod Good
 pub mod Invariant
 pub mod Level

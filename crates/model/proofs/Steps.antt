@@ -8,7 +8,7 @@ use native.Mathlib.Omega.{arith}
 use lib.Dec.{leb, eqb}
 use borrow.Author.Tests.{eqb-true, ne-eqb, lt-leb}
 use Rattle.model.specs.Records.{State, sramOf}
-use Rattle.model.specs.Modes.{flushL1d, flushL2, changeMode, changeMar}
+use Rattle.model.specs.Modes.{flushL2, newMode, changeMode, changeMar}
 use Rattle.model.specs.Commands.{l2WritebackAll, l2WritebackInvalidateAll, l2WritebackBlock, l2WritebackInvalidateBlock, l2InvalidateBlock, l1dWritebackInvalidateBlock, l1dInvalidateBlock}
 use Rattle.model.specs.Refusals.{accessDue, blockDue, modeDue, marDue}
 use Rattle.model.specs.Trace.{command}
@@ -22,6 +22,7 @@ use Rattle.model.proofs.Sweeps.{l2WritebackAll-good, l2WritebackInvalid
 use Rattle.model.proofs.Changes.{newMode-good, changeMar-good}
 use Rattle.model.proofs.Due.{accepted-read, accepted-write, mode-tells, mar-tells}
 use Rattle.model.proofs.Drops.{l1dInvalidateAll-well, l1dInvalidateBlock-well, l2InvalidateBlock-well}
+use Rattle.model.proofs.Flushes.{sweptL1d, change-swept}
 
 -- ---- a code is one of the twelve, each written out, or a later number
 pub codes {ℓ} : (P : ℕ → Type ℓ) → P 0 → P 1 → P 2 → P 3 → P 4 → P 5 → P 6 → P 7 → P 8 → P 9 → P 10 → P 11 → ((k : ℕ) → 12 ≤ k → P k) → (k : ℕ) → P k
@@ -119,13 +120,15 @@ module _ (z : State) (h : Well z) (a b v : ℕ) where
   well-9 = l1dInvalidateAll-well z h .good
 
   well-10 : Well (step (command 10 a b v) z .next)
-  unfolding step commandDue accepted commandState changeMode
+  unfolding step commandDue accepted commandState
   well-10 =
       well-unless (modeDue (z .rec .l2len) a) (carriedOut (changeMode a z))
       (λ d. let o = flush-good z Anything h in
       let m = mode-tells (z .rec .l2len) a d in
-      newMode-good (flushL2 (flushL1d z)) Anything Anything (o .step .good) a (m .0) (rw (o .step .kept .l2len) (m .1)) (o .l1dNone) (o .l2Clean)
-      (λ _ _ _ _ _. refl) (λ _ _ _. refl) (λ _ _ _ _. refl))
+      let g : Well (newMode a (flushL2 (sweptL1d z))) =
+      newMode-good (flushL2 (sweptL1d z)) Anything Anything (o .step .good) a (m .0) (rw (o .step .kept .l2len) (m .1)) (o .l1dNone) (o .l2Clean)
+      (λ _ _ _ _ _. refl) (λ _ _ _. refl) (λ _ _ _ _. refl) in
+      rw (change-swept a z) g)
 
 -- an unknown code is refused with 11
 pub other-code : (k a b v : ℕ) (z : State) → 12 ≤ k → step (command k a b v) z ≡ refused 11 z

@@ -18,7 +18,7 @@ use Rattle.model.specs.Records.{State, l2SetsOf, l2SetOf, l1dLineAt, l2L
 use Rattle.model.specs.Ways.{l1dWay, l2Way, inL1d, inL2}
 use Rattle.model.specs.Access.{evictL1d}
 use Rattle.model.specs.Homes.{writeOutL2, writebackL2, evictL2}
-use Rattle.model.specs.Modes.{flushL1d, flushL2}
+use Rattle.model.specs.Modes.{flushL2}
 use Rattle.model.specs.Commands.{linesTouched, eachTouched, eachL2, atL2, atL1d, unlessMode0, l2WritebackAll, l2WritebackInvalidateAll, l2WritebackBlock, l2WritebackInvalidateBlock, l1dWritebackInvalidateBlock}
 use Rattle.model.specs.Laws.{bool, false-true, cond-elim, no-ways}
 use Rattle.model.specs.declared.Line.{Line}
@@ -30,6 +30,7 @@ use Rattle.model.proofs.Good.{l1dLevel, l2Level, Good, kept-refl, kept-
 use Rattle.model.proofs.Evict.{evictL1d-good}
 use Rattle.model.proofs.Writeback.{WrittenOut, writeOutL2-good, Done, Swept, writebackL2-good, evictL2-good}
 use Rattle.model.proofs.ReadWrite.{Step}
+use Rattle.model.proofs.Flushes.{sweptL1d}
 
 -- ---- a loop over 0 .. n - 1: what holds at first, and is carried from k to k + 1, holds at n
 pub each-by {ℓ} : {A : Type ℓ} (P : ℕ → A → Type 0) (f : ℕ → A → A) (n : ℕ) (z : A) → P 0 z → ((k : ℕ) → k < n → (x : A) → P k x → P (suc k) (f k x)) →
@@ -191,9 +192,8 @@ pub record L1dEmptied (z : State) (F : Allowed) (x : State) : Type 0 where
   pub step : Step z F x
   pub l1dNone : (s w : ℕ) → Valid (l1dLevel x) s w → ⊥
 
-pub flushL1d-good : (z : State) (F : Allowed) → Good z F → L1dEmptied z F (flushL1d z)
-unfolding flushL1d
-flushL1d-good z F q =
+pub sweptL1d-good : (z : State) (F : Allowed) → Good z F → L1dEmptied z F (sweptL1d z)
+sweptL1d-good z F q =
     let x = each (λ k. evictL1d (k / 2) (k % 2)) 256 z in
     let u : L1dEmptyTo z F 256 x =
     each-by (λ k y. L1dEmptyTo z F k y) (λ k. evictL1d (k / 2) (k % 2)) 256 z
@@ -249,8 +249,8 @@ flushL2-good z F q none =
       l2Clean = λ t v i. let b = l2-bounds x F (u .step .good) t v i in let b₀ = b .0 in let b₁ = b .1 in u .clean t v b₁ (omega arith) i;
     }
 
-pub flush-good : (z : State) (F : Allowed) → Good z F → AllOut z F (flushL2 (flushL1d z))
+pub flush-good : (z : State) (F : Allowed) → Good z F → AllOut z F (flushL2 (sweptL1d z))
 flush-good z F q =
-    let a = flushL1d-good z F q in
-    let b = flushL2-good (flushL1d z) F (a .step .good) (a .l1dNone) in
-    record { step = step-trans z (flushL1d z) (flushL2 (flushL1d z)) F (a .step) (b .step); l1dNone = b .l1dNone; l2Clean = b .l2Clean }
+    let a = sweptL1d-good z F q in
+    let b = flushL2-good (sweptL1d z) F (a .step .good) (a .l1dNone) in
+    record { step = step-trans z (sweptL1d z) (flushL2 (sweptL1d z)) F (a .step) (b .step); l1dNone = b .l1dNone; l2Clean = b .l2Clean }

@@ -7,16 +7,15 @@ use Rattle.model.specs.Basics.{each}
 use Rattle.model.specs.Bytes.{zeroFrom}
 use Rattle.model.specs.Memories.{sramLength}
 use Rattle.model.specs.Records.{State, state, sramOf, l2SetsOf, freshL1dSet, freshL2Set}
-use Rattle.model.specs.Access.{evictL1d}
+use Rattle.model.specs.Access.{writebackL1d}
 use Rattle.model.specs.Homes.{writeOutL2}
 
 unfoldable pub smaller : ℕ → ℕ → ℕ
 smaller a b = cond (leb a b) a b
 
--- "An accepted mode change, even to the same mode, writes back all dirty lines of L1D, then of L2,": set by set and way by way.
--- (An L1D line that went home is empty at once; the change empties them all.)
+-- "An accepted mode change, even to the same mode, writes back all dirty lines of L1D, then of L2,": set by set and way by way
 unfoldable pub flushL1d : State → State
-flushL1d z = each (λ k. evictL1d (k / 2) (k % 2)) 256 z
+flushL1d z = each (λ k. writebackL1d (k / 2) (k % 2)) 256 z
 
 unfoldable pub flushL2 : State → State
 flushL2 z = each (λ k. writeOutL2 (k / 4) (k % 4)) (l2SetsOf (z .rec) * 4) z

@@ -1,0 +1,124 @@
+-- A mode change writes back all dirty lines of L1D and L2 and then makes every line invalid (`changeMode`). The code's sweep empties each L1D line as soon as it went home
+-- (`sweptL1d`). Shown: after the change both are the same state (`change-swept`). What differs on the way, the lines of L1D, nothing looks at but the write-back
+-- of the line itself, and that one is still there; in the end the change replaces them all.
+use Prim.Native.Nat.{ℕ, zero, suc, _*_, _/_, _%_, _≤_}
+use mathlib.Core.Bool.{cond}
+use mathlib.Core.List.{List}
+use mathlib.Core.Path.{_≡_, refl, sym, ap, _∙_}
+use native.Mathlib.Omega.{arith}
+use lib.Dec.{ltb, eqb}
+use borrow.Author.Tests.{eqb-true, eqb-false}
+use Rattle.model.specs.Basics.{each}
+use Rattle.model.specs.Bytes.{part}
+use Rattle.model.specs.Memories.{externalBase}
+use Rattle.model.specs.Lines.{l1dData, emptyLine}
+use Rattle.model.specs.Records.{State, state, l2SetsOf, l1dLineAt, l2LineAt, withL1dLine, withL2Line}
+use Rattle.model.specs.Ways.{inL2, l2Way, emptyL1d}
+use Rattle.model.specs.Access.{writebackL1d, evictL1d}
+use Rattle.model.specs.Homes.{homeIsL2, putMemory, putL2, putHome, writeOutL2}
+use Rattle.model.specs.Modes.{flushL1d, flushL2, newMode, changeMode}
+use Rattle.model.specs.Laws.{bool}
+use Rattle.model.specs.declared.Line.{Line}
+use Rattle.model.specs.declared.L1dSet.{L1dSet}
+use Rattle.model.proofs.Tables.{l1dKind, lineIn, withLine, line-other-set, line-other-way}
+
+abbrev pub sweptL1d : State → State
+sweptL1d z = each (λ k. evictL1d (k / 2) (k % 2)) 256 z
+
+-- ---- a state with other lines of L1D: what looks at none of them does the same to it
+abbrev relined : List L1dSet → State → State
+relined xs z =
+    state
+    (record {
+      l2len = z .rec .l2len;
+      extlen = z .rec .extlen;
+      mode = z .rec .mode;
+      mar128 = z .rec .mar128;
+      mar129 = z .rec .mar129;
+      l1d = xs;
+      l2 = z .rec .l2;
+    })
+    (z .l1d) (z .l2) (z .ext)
+
+-- the write-back of a line looks at that line only
+abbrev written : Line → ℕ → ℕ → State → State
+written x s w z = cond (x .valid) (cond (x .dirty) (putHome (x .address) (part (z .l1d) (l1dData s w) 64) z) z) z
+
+module _ (xs : List L1dSet) where
+  put-relined : (a : ℕ) (bs : List ℕ) (z : State) → putHome a bs (relined xs z) ≡ relined xs (putHome a bs z)
+  unfolding putHome homeIsL2 inL2 l2Way putL2 putMemory withL2Line
+  put-relined a bs z =
+      bool (ltb a externalBase) (λ l. rw l refl)
+      (λ l. bool (eqb (l2SetsOf (z .rec)) 0) (λ n. rw (l, n) refl)
+      (λ n. bool (inL2 z a) (λ i. rw (l, n, i) refl) (λ i. rw (l, n, i) refl)))
+
+  out-relined : (t v : ℕ) (z : State) → writeOutL2 t v (relined xs z) ≡ relined xs (writeOutL2 t v z)
+  unfolding writeOutL2 withL2Line
+  out-relined t v z =
+      bool (l2LineAt (z .rec) t v .valid)
+      (λ y. bool (l2LineAt (z .rec) t v .dirty) (λ d. rw (y, d) refl) (λ d. rw (y, d) refl))
+      (λ y. rw y refl)
+
+  each-relined : (n : ℕ) (z : State) →
+      each (λ k. writeOutL2 (k / 4) (k % 4)) n (relined xs z) ≡ relined xs (each (λ k. writeOutL2 (k / 4) (k % 4)) n z)
+  unfolding each
+  each-relined zero z = refl
+  each-relined (suc n) z =
+      ap (writeOutL2 (n / 4) (n % 4)) (each-relined n z) ∙ out-relined (n / 4) (n % 4) (each (λ k. writeOutL2 (k / 4) (k % 4)) n z)
+
+  change-relined : (m : ℕ) (z : State) → newMode m (flushL2 (relined xs z)) ≡ newMode m (flushL2 z)
+  unfolding flushL2 newMode
+  change-relined m z = ap (newMode m) (each-relined (l2SetsOf (z .rec) * 4) z)
+
+  written-relined : (x : Line) (s w : ℕ) (z : State) → written x s w (relined xs z) ≡ relined xs (written x s w z)
+  written-relined x s w z =
+      bool (x .valid)
+      (λ v. bool (x .dirty) (λ d. rw (v, d) (put-relined (x .address) (part (z .l1d) (l1dData s w) 64) z)) (λ d. rw (v, d) refl))
+      (λ v. rw v refl)
+
+  back-relined : (s w : ℕ) (z : State) → lineIn l1dKind xs s w ≡ l1dLineAt (z .rec) s w → writebackL1d s w (relined xs z) ≡ relined xs (writebackL1d s w z)
+  unfolding writebackL1d
+  back-relined s w z e = ap (λ (x : Line). written x s w (relined xs z)) e ∙ written-relined (l1dLineAt (z .rec) s w) s w z
+
+-- a write-back leaves the lines of L1D as they are
+back-lines : (s w : ℕ) (z : State) → writebackL1d s w z .rec .l1d ≡ z .rec .l1d
+back-lines s w z = ap (λ (x : State). x .rec .l1d) (back-relined (z .rec .l1d) s w z refl)
+
+-- ---- the lines of L1D with the first k ways emptied: the others are as they were
+abbrev emptied : ℕ → List L1dSet → List L1dSet
+emptied k xs = each (λ i ys. withLine l1dKind ys (i / 2) (i % 2) emptyLine) k xs
+
+later : (xs : List L1dSet) (k j : ℕ) → k ≤ j → lineIn l1dKind (emptied k xs) (j / 2) (j % 2) ≡ lineIn l1dKind xs (j / 2) (j % 2)
+unfolding each
+later xs zero j h = refl
+later xs (suc k) j h =
+    bool (eqb (j / 2) (k / 2))
+    (λ e. let s = eqb-true (j / 2) (k / 2) e in
+    line-other-way l1dKind (emptied k xs) (k / 2) (k % 2) emptyLine (j / 2) (j % 2) (λ q. absurd (omega arith)))
+    (λ e. line-other-set l1dKind (emptied k xs) (k / 2) (k % 2) emptyLine (j / 2) (j % 2) (eqb-false (j / 2) (k / 2) e))
+    ∙ later xs k j (omega arith)
+
+-- ---- the sweep is the write-backs, with the ways that were gone through emptied
+abbrev backs : ℕ → State → State
+backs k z = each (λ i. writebackL1d (i / 2) (i % 2)) k z
+
+backs-lines : (k : ℕ) (z : State) → backs k z .rec .l1d ≡ z .rec .l1d
+unfolding each
+backs-lines zero z = refl
+backs-lines (suc k) z = back-lines (k / 2) (k % 2) (backs k z) ∙ backs-lines k z
+
+swept-back : (k : ℕ) (z : State) → each (λ i. evictL1d (i / 2) (i % 2)) k z ≡ relined (emptied k (z .rec .l1d)) (backs k z)
+unfolding each evictL1d emptyL1d withL1dLine
+swept-back zero z = refl
+swept-back (suc k) z =
+    let xs = emptied k (z .rec .l1d) in
+    let same : lineIn l1dKind xs (k / 2) (k % 2) ≡ l1dLineAt (backs k z .rec) (k / 2) (k % 2) =
+    later (z .rec .l1d) k k (omega arith) ∙ ap (λ (ys : List L1dSet). lineIn l1dKind ys (k / 2) (k % 2)) (sym (backs-lines k z)) in
+    ap (evictL1d (k / 2) (k % 2)) (swept-back k z)
+    ∙ ap (emptyL1d (k / 2) (k % 2)) (back-relined xs (k / 2) (k % 2) (backs k z) same)
+
+-- ---- so the change is the same
+pub change-swept : (m : ℕ) (z : State) → changeMode m z ≡ newMode m (flushL2 (sweptL1d z))
+unfolding changeMode flushL1d
+change-swept m z =
+    sym (ap (λ (x : State). newMode m (flushL2 x)) (swept-back 256 z) ∙ change-relined (emptied 256 (z .rec .l1d)) m (backs 256 z))
