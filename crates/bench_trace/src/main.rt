@@ -31,9 +31,21 @@ fn show_all(answers: &[u8], count: usize) {
     }
 }
 
+// Whether standard input can be read at all: `read_full` takes an input that fails for an empty one.
+fn readable() -> bool {
+    let mut more = [0u8; 1];
+    0 <= libc::read(0, &mut more)
+}
+
 fn main() {
     let mut input = io::buffer();
     let n = io::read_full(0, &mut input);
+    if n == 0 {
+        if !readable() {
+            io::write_all(2, b"bench-trace: standard input cannot be read\n");
+            return;
+        }
+    }
     let mut l1d = [0u8; 16384];
     let mut l2 = io::large_buffer();
     let mut ext = io::large_buffer();
@@ -46,5 +58,7 @@ fn main() {
     io::print_decimal(1, wide(q.stop));
     io::write_all(1, b" ");
     io::print_decimal(1, q.consumed as u64);
-    io::write_all(1, b"\n");
+    if !io::write_all(1, b"\n") {
+        io::write_all(2, b"bench-trace: standard output cannot be written\n");
+    }
 }
