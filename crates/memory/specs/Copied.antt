@@ -44,7 +44,15 @@ put-back m s a h =
     rw (take-all (length m - a) (drop a m) rest, drop-of-length-le (drop a m) rest, append-nil, take-all (length s) s all, drop-drop)
 
 -- ---- a line of n bytes moved from l at b into m at a: the three ways through the code
+-- past both tests, the line lies in both memories
+pub record Inside (m l : List ℕ) (a b n : ℕ) : Type 0 where
+  pub from : b + n ≤ length l
+  pub to : a + n ≤ length m
+
 module _ (m l : List ℕ) (a b n : ℕ) where
+  pub both-inside : leb (b + n) (length l) ≡ true → leb (a + n) (length m) ≡ true → Inside m l a b n
+  both-inside e f = record { from = leb-true (b + n) (length l) e; to = leb-true (a + n) (length m) f }
+
   pub move-short : leb (b + n) (length l) ≡ false → m ≡ stored m a (part l b n)
   unfolding part
   move-short e = rw e (sym (stored-none m a))
@@ -56,11 +64,11 @@ module _ (m l : List ℕ) (a b n : ℕ) where
       sym (stored-outside m a (part l b n) (omega arith))
 
   -- m[a..] takes the n bytes that were loaded from l[b..]
-  pub move-in : leb (b + n) (length l) ≡ true → leb (a + n) (length m) ≡ true → (t : List ℕ) → t ≡ take n (take (length l - b) (drop b l)) →
+  pub move-in : Inside m l a b n → (t : List ℕ) → t ≡ take n (take (length l - b) (drop b l)) →
       take a m ++ (copied (take (length m - a) (drop a m)) t n ++ drop (length m - a) (drop a m)) ≡ stored m a (part l b n)
-  move-in e f t g =
-      let k = leb-true (b + n) (length l) e in
-      let h = leb-true (a + n) (length m) f in
+  move-in i t g =
+      let k = i .from in
+      let h = i .to in
       let all : length (drop b l) ≤ length l - b = simp length-drop (omega arith) in
       let t′ : t ≡ part l b n = g ∙ ap (take n) (take-all (length l - b) (drop b l) all) ∙ sym (part-inside l b n k) in
       let len = length-part l b n k in

@@ -1,4 +1,5 @@
--- Each number, as the code comes to it.
+-- Each number, as the code comes to it: the tests passed so far, and what the next one says. Where only the last test is left, one law gives the number for
+-- both its answers (`lent-last`, `view-last`, `access-last`).
 use Prim.Native.Nat.{ℕ, _+_, _%_, _≤_, _<_}
 use mathlib.Core.Bool.{Bool, true, false, _&&_, _||_}
 use mathlib.Core.List.{List}
@@ -9,73 +10,65 @@ use lib.Dec.{ltb, leb, eqb}
 use borrow.Author.Tests.{lt-ltb, le-ltb, le-leb, lt-leb, eq-eqb, ne-eqb, eqb-true}
 use Rattle.model.specs.Memories.{legalL2, legalExternal, externalBase, isMode, cacheSize}
 use Rattle.model.specs.Records.{state, sramOf, wellFormed}
-use Rattle.model.specs.Refusals.{unless, lentL1d, lentL2, lentExternal, lentDue, viewLentDue, viewDue, sizeOk, placeOk, valueOk, accessDue, blockDue, modeDue}
+use Rattle.model.specs.Refusals.{first, unless, lentL1d, lentL2, lentExternal, lentDue, viewLentDue, viewDue, sizeOk, placeOk, valueOk, accessDue, blockDue, modeDue}
 use Rattle.model.specs.declared.Record.{Record}
 
 -- "4: address not a multiple of the size"
 abbrev pub aligned : ℕ → ℕ → Bool
 aligned n a = eqb (a % n) 0
 
--- ---- the lent lengths
-pub lent-l2 : (r : Record) (m : List ℕ) (b : Bool) → b ≡ legalL2 (length m) → (b && eqb (length m) (r .l2len)) ≡ lentL2 r m
-unfolding lentL2
-lent-l2 r m b e = rw e refl
+-- ---- the lent lengths: a and b are what the tests of L2's and of external memory's say
+pub record Legal (r : Record) (m e : List ℕ) (a b : Bool) : Type 0 where
+  pub l2 : a ≡ legalL2 (length m)
+  pub ext : b ≡ legalExternal (length e)
 
-pub lent-external : (r : Record) (m : List ℕ) (b : Bool) → b ≡ legalExternal (length m) → (b && eqb (length m) (r .extlen)) ≡ lentExternal r m
-unfolding lentExternal
-lent-external r m b e = rw e refl
+module _ {r : Record} {m e : List ℕ} {a b : Bool} (k : Legal r m e a b) where
+  abbrev bothLent : Bool
+  bothLent = (a && eqb (length m) (r .l2len)) && (b && eqb (length e) (r .extlen))
 
-module _ (r : Record) (d m e : List ℕ) (a b : Bool) (ea : a ≡ legalL2 (length m)) (eb : b ≡ legalExternal (length e)) where
-  abbrev lentFlag : Bool
-  lentFlag = eqb (length d) 16384 && ((a && eqb (length m) (r .l2len)) && (b && eqb (length e) (r .extlen)))
+  both-lent : bothLent ≡ (lentL2 r m && lentExternal r e)
+  unfolding lentL2 lentExternal
+  both-lent = rw (k .l2, k .ext) refl
 
-  lent-flag : lentFlag ≡ (lentL1d d && (lentL2 r m && lentExternal r e))
-  unfolding lentL1d
-  lent-flag = rw (lent-l2 r m a ea, lent-external r e b eb) refl
+  module _ (d : List ℕ) where
+    by-lent : lentDue (state r d m e) ≡ first (unless (eqb (length d) 16384 && bothLent) 1) (unless (wellFormed r) 2)
+    unfolding lentDue lentL1d
+    by-lent = rw both-lent refl
 
-  pub lent-one : lentFlag ≡ false → 1 ≡ lentDue (state r d m e)
-  unfolding lentDue
-  lent-one f = rw (sym lent-flag ∙ f) refl
+    pub lent-one : (eqb (length d) 16384 && bothLent) ≡ false → 1 ≡ lentDue (state r d m e)
+    lent-one f = sym (by-lent ∙ rw f refl)
 
-  pub lent-none : lentFlag ≡ true → wellFormed r ≡ true → 0 ≡ lentDue (state r d m e)
-  unfolding lentDue
-  lent-none f w = rw (sym lent-flag ∙ f, w) refl
+    -- w: what the test of the record says
+    pub lent-last : (eqb (length d) 16384 && bothLent) ≡ true → (w : Bool) → w ≡ wellFormed r → lentDue (state r d m e) ≡ unless w 2
+    lent-last f w g = by-lent ∙ rw (f, g) refl
 
-  pub lent-two : lentFlag ≡ true → wellFormed r ≡ false → 2 ≡ lentDue (state r d m e)
-  unfolding lentDue
-  lent-two f w = rw (sym lent-flag ∙ f, w) refl
-
--- ---- the view
-module _ (r : Record) (m e : List ℕ) (x : ℕ) (a b : Bool) (ea : a ≡ legalL2 (length m)) (eb : b ≡ legalExternal (length e)) where
-  abbrev viewFlag : Bool
-  viewFlag = (a && eqb (length m) (r .l2len)) && (b && eqb (length e) (r .extlen))
-
-  view-flag : viewFlag ≡ (lentL2 r m && lentExternal r e)
-  view-flag = rw (lent-l2 r m a ea, lent-external r e b eb) refl
-
-  pub view-one : viewFlag ≡ false → 1 ≡ viewDue r m e x
-  unfolding viewDue viewLentDue
-  view-one f = rw (sym view-flag ∙ f) refl
-
-  pub view-two : viewFlag ≡ true → wellFormed r ≡ false → 2 ≡ viewDue r m e x
-  unfolding viewDue viewLentDue
-  view-two f w = rw (sym view-flag ∙ f, w) refl
-
-  pub view-four : viewFlag ≡ true → wellFormed r ≡ true → (x % 64 ≡ 0 → ⊥) → 4 ≡ viewDue r m e x
-  unfolding viewDue viewLentDue
-  view-four f w n = rw (sym view-flag ∙ f, w, ne-eqb (x % 64) 0 n) refl
-
-  module _ (f : viewFlag ≡ true) (w : wellFormed r ≡ true) (n : x % 64 ≡ 0) (s : ℕ) (es : s ≡ sramOf r) (p : Bool)
-      (ep : p ≡ placeOk s (r .extlen) 64 x) where
-    by-place : viewDue r m e x ≡ unless p 5
+  -- ---- the view
+  module _ (x : ℕ) where
+    pub view-one : bothLent ≡ false → 1 ≡ viewDue r m e x
     unfolding viewDue viewLentDue
-    by-place = rw (sym view-flag ∙ f, w, eq-eqb (x % 64) 0 n, ep, es) refl
+    view-one f = rw (sym both-lent ∙ f) refl
 
-    pub view-none : p ≡ true → 0 ≡ viewDue r m e x
-    view-none o = sym (by-place ∙ rw o refl)
+    pub view-two : bothLent ≡ true → wellFormed r ≡ false → 2 ≡ viewDue r m e x
+    unfolding viewDue viewLentDue
+    view-two f w = rw (sym both-lent ∙ f, w) refl
 
-    pub view-five : p ≡ false → 5 ≡ viewDue r m e x
-    view-five o = sym (by-place ∙ rw o refl)
+-- nothing is due for the memories and the record
+pub record Accepted (r : Record) (m e : List ℕ) (a b : Bool) : Type 0 where
+  pub legal : Legal r m e a b
+  pub lent : bothLent legal ≡ true
+  pub formed : wellFormed r ≡ true
+
+module _ {r : Record} {m e : List ℕ} {a b : Bool} (k : Accepted r m e a b) (x : ℕ) where
+  by-address : viewDue r m e x ≡ first (unless (eqb (x % 64) 0) 4) (unless (placeOk (sramOf r) (r .extlen) 64 x) 5)
+  unfolding viewDue viewLentDue
+  by-address = rw (sym (both-lent (k .legal)) ∙ k .lent, k .formed) refl
+
+  pub view-four : (x % 64 ≡ 0 → ⊥) → 4 ≡ viewDue r m e x
+  view-four n = sym (by-address ∙ rw (ne-eqb (x % 64) 0 n) refl)
+
+  -- p: what the test of the place says
+  pub view-last : x % 64 ≡ 0 → (s : ℕ) → s ≡ sramOf r → (p : Bool) → p ≡ placeOk s (r .extlen) 64 x → viewDue r m e x ≡ unless p 5
+  view-last n s es p ep = by-address ∙ rw (eq-eqb (x % 64) 0 n, ep, es) refl
 
 -- ---- a read or a write
 pub size-joined : (n : ℕ) → (eqb n 1 || (eqb n 2 || (eqb n 4 || eqb n 8))) ≡ sizeOk n
@@ -119,26 +112,39 @@ module _ (n v : ℕ) where
   unfolding valueOk
   value-any n1 n2 n4 h = rw (ne-eqb n 1 n1, ne-eqb n 2 n2, ne-eqb n 4 n4, lt-ltb v 18446744073709551616 h) refl
 
-module _ (s e n a v : ℕ) where
-  pub access-three : sizeOk n ≡ false → 3 ≡ accessDue s e n a v
+-- what is asked: the lengths of SRAM and of external memory, the access
+pub record Asked : Type 0 where
+  pub sram : ℕ
+  pub ext : ℕ
+  pub size : ℕ
+  pub address : ℕ
+  pub value : ℕ
+
+module _ (q : Asked) where
+  abbrev pub dueOf : ℕ
+  dueOf = accessDue (q .sram) (q .ext) (q .size) (q .address) (q .value)
+
+  abbrev pub placed : Bool
+  placed = placeOk (q .sram) (q .ext) (q .size) (q .address)
+
+  pub access-three : sizeOk (q .size) ≡ false → 3 ≡ dueOf
   unfolding accessDue
   access-three x = rw x refl
 
-  pub access-four : sizeOk n ≡ true → aligned n a ≡ false → 4 ≡ accessDue s e n a v
-  unfolding accessDue
-  access-four x y = rw (x, y) refl
+  module _ (x : sizeOk (q .size) ≡ true) where
+    pub access-four : aligned (q .size) (q .address) ≡ false → 4 ≡ dueOf
+    unfolding accessDue
+    access-four y = rw (x, y) refl
 
-  pub access-five : sizeOk n ≡ true → aligned n a ≡ true → placeOk s e n a ≡ false → 5 ≡ accessDue s e n a v
-  unfolding accessDue
-  access-five x y z = rw (x, y, z) refl
+    module _ (y : aligned (q .size) (q .address) ≡ true) where
+      pub access-five : placed ≡ false → 5 ≡ dueOf
+      unfolding accessDue
+      access-five z = rw (x, y, z) refl
 
-  pub access-six : sizeOk n ≡ true → aligned n a ≡ true → placeOk s e n a ≡ true → valueOk n v ≡ false → 6 ≡ accessDue s e n a v
-  unfolding accessDue
-  access-six x y z w = rw (x, y, z, w) refl
-
-  pub access-none : sizeOk n ≡ true → aligned n a ≡ true → placeOk s e n a ≡ true → valueOk n v ≡ true → 0 ≡ accessDue s e n a v
-  unfolding accessDue
-  access-none x y z w = rw (x, y, z, w) refl
+      -- w: what the test of the value says
+      pub access-last : placed ≡ true → (w : Bool) → w ≡ valueOk (q .size) (q .value) → dueOf ≡ unless w 6
+      unfolding accessDue
+      access-last z w f = rw (x, y, z, f) refl
 
 -- ---- a block, a mode
 module _ (b c : ℕ) where

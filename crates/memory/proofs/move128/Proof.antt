@@ -1,63 +1,52 @@
 -- `memory::move128` meets its contract: a line that lies in both memories is moved as its two halves (specs/Values `moved-both`), any other is not.
-use Prim.Native.Nat.{ℕ, _+_, _≤_}
+use Prim.Native.Nat.{ℕ, _+_}
 use Rattle.model.specs.Bytes.{part, stored}
-use Rattle.memory.specs.Copied.{move-short, move-full}
+use Rattle.memory.specs.Copied.{Inside, both-inside, move-short, move-full}
 use Rattle.memory.specs.Values.{moved-both}
 use lib.ListN.{length}
-use borrow.Author.Tests.{not-true, not-false, leb-true}
+use lib.Dec.{leb}
+use borrow.Author.Tests.{not-true, not-false}
 use native.Mathlib.Omega.{arith}
+use mathlib.Core.Bool.{true}
 use mathlib.Core.List.{List}
-use mathlib.Core.Path.{sym, ap, _∙_}
+use mathlib.Core.Path.{_≡_, sym, ap, _∙_}
 use borrow.Author.Needs.{needs}
 use Rattle.memory.proofs.move128.Statement.{statement}
 use Rattle.memory.proofs.move128.Tie as tie
 
--- past both tests, both lines lie in their memories
-inside : (c : tie.Else2) →
-    let p-args = c .before .before .before .before .before .before in
-    (p-args .args .b + 128 ≤ length (p-args .args .src .now)) × (p-args .args .a + 128 ≤ length (p-args .args .dst .now))
-inside c =
-    let p-fits3 = c .before in
-    let p-if1 = p-fits3 .before in
-    let p-fits2 = p-if1 .before in
-    let p-args = p-fits2 .before .before .before in
-    let a = p-args .args in (
-      leb-true (a .b + 128) (length (a .src .now)) (sym (p-fits2 .fits2 .ensures) ∙ not-false (p-fits2 .fits2 .result) (p-if1 .if1 .left)),
-      leb-true (a .a + 128) (length (a .dst .now)) (sym (p-fits3 .fits3 .ensures) ∙ not-false (p-fits3 .fits3 .result) (c .if2 .left)),
-    )
+-- ---- the way back: the arguments
+abbrev at-start : tie.Else1 → tie.Start
+at-start c = c .before .before .before .before
+
+-- ---- past the first test the line lies in the memory that it is moved from; past both, in both
+has : (c : tie.Else1) → let a = at-start c .args in leb (a .b + 128) (length (a .src .now)) ≡ true
+has c = sym (c .before .fits2 .ensures) ∙ not-false _ (c .if1 .left)
+
+inside : (c : tie.Else2) → let a = at-start (c .before .before) .args in Inside (a .dst .now) (a .src .now) (a .a) (a .b) 128
+inside c = both-inside _ _ _ _ 128 (has (c .before .before)) (sym (c .before .fits3 .ensures) ∙ not-false _ (c .if2 .left))
 
 fits-requires : tie.Need-fits-requires
 fits-requires c κs = search needs
 
 returns : tie.Need-returns
-returns c =
-    let p-fits2 = c .before in
-    let p-args = p-fits2 .before .before .before in
-    let a = p-args .args in move-short (a .dst .now) (a .src .now) (a .a) (a .b) 128 (sym (p-fits2 .fits2 .ensures) ∙ not-true _ (c .if1 .taken))
+returns c = move-short _ _ _ _ 128 (sym (c .before .fits2 .ensures) ∙ not-true _ (c .if1 .taken))
 
 fits-requires-2 : tie.Need-fits-requires-2
 fits-requires-2 c κs = search needs
 
 returns-2 : tie.Need-returns-2
-returns-2 c =
-    let p-fits3 = c .before in
-    let p-if1 = p-fits3 .before in
-    let p-fits2 = p-if1 .before in
-    let p-args = p-fits2 .before .before .before in
-    let a = p-args .args in move-full (a .dst .now) (a .src .now) (a .a) (a .b) 128 (sym (p-fits2 .fits2 .ensures) ∙ not-false _ (p-if1 .if1 .left)) (sym (p-fits3 .fits3 .ensures) ∙ not-true _ (c .if2 .taken))
+returns-2 c = move-full _ _ _ _ 128 (has (c .before .before)) (sym (c .before .fits3 .ensures) ∙ not-true _ (c .if2 .taken))
 
 move64-requires : tie.Need-move64-requires
 move64-requires c κs = search needs
 
 add-move64 : tie.Need-add-move64
 add-move64 c =
-    let p-if2 = c .before .before .before .before .before in
-    omega (arith, inside p-if2)
+    let h = inside (c .before .before .before .before .before) in omega arith
 
 add-move64-2 : tie.Need-add-move64-2
 add-move64-2 c =
-    let p-if2 = c .before .before .before .before .before in
-    omega (arith, inside p-if2)
+    let h = inside (c .before .before .before .before .before) in omega arith
 
 move64-requires-2 : tie.Need-move64-requires-2
 move64-requires-2 c κs = search needs
@@ -70,10 +59,9 @@ returns-3 c =
     let p-move642 = c .before .before in
     let p-move64 = p-move642 .before .before .before .before in
     let p-if2 = p-move64 .before .before in
-    let p-args = p-if2 .before .before .before .before .before .before in
-    let a = p-args .args in let h = inside p-if2 in
+    let a = at-start (p-if2 .before .before) .args in let h = inside p-if2 in
     p-move642 .move642 .ensures ∙ ap (λ (m : List ℕ). stored m (a .a + 64) (part (a .src .now) (a .b + 64) 64)) (p-move64 .move64 .ensures)
-    ∙ moved-both (a .dst .now) (a .src .now) (a .a) (a .b) 64 64 (h .1) (h .0)
+    ∙ moved-both (a .dst .now) (a .src .now) (a .a) (a .b) 64 64 (h .to) (h .from)
 
 pub move128-spec : {M : Type 1} → statement M
 move128-spec =

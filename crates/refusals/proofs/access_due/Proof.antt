@@ -1,9 +1,34 @@
--- `refusals::access_due` meets its contract: the tests in the order of their numbers. Assumes nothing.
-use Rattle.refusals.specs.Due.{access-three, access-four, access-five, access-six, access-none}
-use mathlib.Core.Path.{sym, _∙_}
+-- `refusals::access_due` meets its contract: the tests in the order of their numbers. Assumes nothing. Each return is a law of specs/Due over what the tests before it said.
+use Rattle.refusals.specs.Due.{aligned, Asked, dueOf, access-three, access-four, access-five, access-last}
+use Rattle.model.specs.Refusals.{unless, sizeOk}
+use mathlib.Core.Bool.{true}
+use mathlib.Core.Path.{_≡_, refl, sym, _∙_}
 use borrow.Author.Needs.{needs}
 use Rattle.refusals.proofs.access_due.Statement.{statement}
 use Rattle.refusals.proofs.access_due.Tie as tie
+
+-- ---- the way back: all four tests are made before the first is looked at; what is asked
+abbrev at-size : tie.After-value-ok → tie.After-size-ok
+at-size c = c .before .before .before
+
+abbrev asked : tie.After-value-ok → Asked
+asked c =
+    let a = at-size c .before .args in
+    record { sram = a .sram; ext = a .ext; size = a .size; address = a .address; value = a .value }
+
+-- ---- what is known past each test; the number due, by the last
+sized : (c : tie.Then1) → sizeOk (asked (c .before) .size) ≡ true
+sized c = sym (at-size (c .before) .size-ok .ensures) ∙ c .if1 .taken
+
+multiple-is : (c : tie.Then1) → let q = asked (c .before) in aligned (q .size) (q .address) ≡ c .before .before .before .is-aligned .result
+multiple-is c = sym (c .before .before .before .is-aligned .ensures (sized c))
+
+by-value : (c : tie.Then3) → let p-value-ok = c .before .before .before in dueOf (asked p-value-ok) ≡ unless (p-value-ok .value-ok .result) 6
+by-value c =
+    let p-if2 = c .before in
+    let p-if1 = p-if2 .before in
+    let p-value-ok = p-if1 .before in
+    access-last (asked p-value-ok) (sized p-if1) (multiple-is p-if1 ∙ p-if2 .if2 .taken) (sym (p-value-ok .before .place-ok .ensures) ∙ c .if3 .taken) _ (p-value-ok .value-ok .ensures)
 
 size-ok-requires : tie.Need-size-ok-requires
 size-ok-requires c κs = search needs
@@ -18,63 +43,24 @@ value-ok-requires : tie.Need-value-ok-requires
 value-ok-requires c κs = search needs
 
 returns : tie.Need-returns
-returns c =
-    let p-size-ok = c .before .before .before .before in
-    let p-args = p-size-ok .before in
-    access-three (p-args .args .sram) (p-args .args .ext) (p-args .args .size) (p-args .args .address) (p-args .args .value)
-    (sym (p-size-ok .size-ok .ensures) ∙ c .if1 .left)
+returns c = access-three (asked (c .before)) (sym (at-size (c .before) .size-ok .ensures) ∙ c .if1 .left)
 
 returns-2 : tie.Need-returns-2
 returns-2 c =
     let p-if1 = c .before in
-    let p-is-aligned = p-if1 .before .before .before in
-    let p-size-ok = p-is-aligned .before in
-    let p-args = p-size-ok .before in
-    access-four (p-args .args .sram) (p-args .args .ext) (p-args .args .size) (p-args .args .address) (p-args .args .value)
-    (sym (p-size-ok .size-ok .ensures) ∙ p-if1 .if1 .taken) (sym (p-is-aligned .is-aligned .ensures
-    (sym (p-size-ok .size-ok .ensures) ∙ p-if1 .if1 .taken)) ∙ c .if2 .left)
+    access-four (asked (p-if1 .before)) (sized p-if1) (multiple-is p-if1 ∙ c .if2 .left)
 
 returns-3 : tie.Need-returns-3
 returns-3 c =
     let p-if2 = c .before in
     let p-if1 = p-if2 .before in
-    let p-place-ok = p-if1 .before .before in
-    let p-is-aligned = p-place-ok .before in
-    let p-size-ok = p-is-aligned .before in
-    let p-args = p-size-ok .before in
-    access-five (p-args .args .sram) (p-args .args .ext) (p-args .args .size) (p-args .args .address) (p-args .args .value)
-    (sym (p-size-ok .size-ok .ensures) ∙ p-if1 .if1 .taken) (sym (p-is-aligned .is-aligned .ensures
-    (sym (p-size-ok .size-ok .ensures) ∙ p-if1 .if1 .taken)) ∙ p-if2 .if2 .taken) (sym (p-place-ok .place-ok .ensures) ∙ c .if3 .left)
+    access-five (asked (p-if1 .before)) (sized p-if1) (multiple-is p-if1 ∙ p-if2 .if2 .taken) (sym (p-if1 .before .before .place-ok .ensures) ∙ c .if3 .left)
 
 returns-4 : tie.Need-returns-4
-returns-4 c =
-    let p-if3 = c .before in
-    let p-if2 = p-if3 .before in
-    let p-if1 = p-if2 .before in
-    let p-value-ok = p-if1 .before in
-    let p-place-ok = p-value-ok .before in
-    let p-is-aligned = p-place-ok .before in
-    let p-size-ok = p-is-aligned .before in
-    let p-args = p-size-ok .before in
-    access-none (p-args .args .sram) (p-args .args .ext) (p-args .args .size) (p-args .args .address) (p-args .args .value)
-    (sym (p-size-ok .size-ok .ensures) ∙ p-if1 .if1 .taken) (sym (p-is-aligned .is-aligned .ensures
-    (sym (p-size-ok .size-ok .ensures) ∙ p-if1 .if1 .taken)) ∙ p-if2 .if2 .taken) (sym (p-place-ok .place-ok .ensures) ∙ p-if3 .if3 .taken)
-    (sym (p-value-ok .value-ok .ensures) ∙ c .if4 .taken)
+returns-4 c = sym (by-value (c .before) ∙ rw (c .if4 .taken) refl)
 
 returns-5 : tie.Need-returns-5
-returns-5 c =
-    let p-if3 = c .before in
-    let p-if2 = p-if3 .before in
-    let p-if1 = p-if2 .before in
-    let p-value-ok = p-if1 .before in
-    let p-place-ok = p-value-ok .before in
-    let p-is-aligned = p-place-ok .before in
-    let p-size-ok = p-is-aligned .before in
-    let p-args = p-size-ok .before in
-    access-six (p-args .args .sram) (p-args .args .ext) (p-args .args .size) (p-args .args .address) (p-args .args .value)
-    (sym (p-size-ok .size-ok .ensures) ∙ p-if1 .if1 .taken) (sym (p-is-aligned .is-aligned .ensures
-    (sym (p-size-ok .size-ok .ensures) ∙ p-if1 .if1 .taken)) ∙ p-if2 .if2 .taken) (sym (p-place-ok .place-ok .ensures) ∙ p-if3 .if3 .taken)
-    (sym (p-value-ok .value-ok .ensures) ∙ c .if4 .left)
+returns-5 c = sym (by-value (c .before) ∙ rw (c .if4 .left) refl)
 
 pub access-due-spec : {M : Type 1} → statement M
 access-due-spec =
