@@ -5,13 +5,21 @@ use std::io::Write;
 use std::path::Path;
 use std::process::{Command as Process, Stdio};
 use std::thread;
-use std::time::Duration;
+use std::time::{Duration, Instant};
 
 use oracle::bench::bench_trace;
-use oracle::gen::{hot, trace, Mix, Rng, TRACE_KINDS};
+use oracle::gen::{encode, hot, trace, Mix, Rng, TRACE_KINDS};
+use oracle::geometry::EXTERNAL_BASE;
+use oracle::Command;
 
-/// How many inputs the program is run on.
-pub const INPUTS: usize = 400;
+use crate::report::{hex, trace_words};
+use crate::shrink::shorten;
+
+/// How many inputs the program is run on. The first is the worked example.
+pub const INPUTS: u64 = 401;
+
+/// For how long an input is made smaller at most.
+const LIMIT: Duration = Duration::from_secs(30);
 
 /// The worked example of the paper, with the output that it prints in full.
 const EXAMPLE: ([u8; 28], &str) = (
@@ -22,38 +30,70 @@ const EXAMPLE: ([u8; 28], &str) = (
     "0 0 0\n0 4 0\n0 4 5\n0 1 5\n8 0 0\nend 0 28\n",
 );
 
-/// Runs the program on every input; the first difference, if there is one.
-pub fn compare(program: &Path, seed: u64) -> Result<(), String> {
-    let (input, expected) = EXAMPLE;
-    one(program, &input, expected, 0)?;
-    for number in 0..INPUTS {
-        let mut rng = Rng::new(seed ^ (number as u64).wrapping_mul(0x9E37_79B9));
-        let input = input_of(&mut rng, number);
-        // Now and then the bytes come in pieces.
-        let piece = if number % 40 == 39 { 1 + rng.below(700) as usize } else { 0 };
-        one(program, &input, &bench_trace(&input), piece)?;
+/// Runs the program on the input of this number. A difference comes back as
+/// text, with the input made smaller; an error is that the program could not
+/// be run.
+pub fn compare(program: &Path, seed: u64, number: u64) -> Result<Option<String>, String> {
+    if number == 0 {
+        let (input, expected) = EXAMPLE;
+        return one(program, &input, expected, 0);
     }
-    Ok(())
+    let mut rng = Rng::new(seed ^ (number - 1).wrapping_mul(0x9E37_79B9));
+    let input = input_of(&mut rng, number - 1);
+    // Now and then the bytes come in pieces.
+    let piece = if number % 40 == 0 { 1 + rng.below(700) as usize } else { 0 };
+    let found = one(program, &input, &bench_trace(&input), piece)?;
+    Ok(match found {
+        Some(_) => smaller(program, input, piece).or(found),
+        None => None,
+    })
+}
+
+/// The difference on a smaller input.
+fn smaller(program: &Path, input: Vec<u8>, piece: usize) -> Option<String> {
+    let begun = Instant::now();
+    let mut last = None;
+    // Bytes that are never read may go first, and go at once.
+    let mut short = input.clone();
+    short.truncate(4_096);
+    let mut fails = |left: &[u8], _: usize| {
+        if begun.elapsed() >= LIMIT {
+            return false;
+        }
+        match one(program, left, &bench_trace(left), piece) {
+            Ok(Some(difference)) => {
+                last = Some(difference);
+                true
+            }
+            _ => false,
+        }
+    };
+    let input = if fails(&short, 0) { short } else { input };
+    shorten(input, fails);
+    last
 }
 
 /// The input of this number: empty, random, damaged or long.
-fn input_of(rng: &mut Rng, number: usize) -> Vec<u8> {
+fn input_of(rng: &mut Rng, number: u64) -> Vec<u8> {
     let lines = hot(rng, 65_536, 65_536);
     match number {
         0 => return Vec::new(),
         // One command over and over, across the 4,096 bytes that are read.
         1..=9 => {
-            let command = [&[2u8][..], &[9], &[10, 1], &[0, 4, 0], &[11, 128, 1, 1]][number % 5];
-            return command.iter().copied().cycle().take(4_090 + number).collect();
+            let command =
+                [&[2u8][..], &[9], &[10, 1], &[0, 4, 0], &[11, 128, 1, 1]][number as usize % 5];
+            return command.iter().copied().cycle().take(4_090 + number as usize).collect();
         }
         10..=15 => {
-            let mut bytes = vec![0; [1, 4_095, 4_096, 4_097, 70_000, 300_000][number - 10]];
+            let length = [1, 4_095, 4_096, 4_097, 70_000, 300_000][number as usize - 10];
+            let mut bytes = vec![0; length];
             rng.fill(&mut bytes);
             return bytes;
         }
+        16 => return largest_values(),
         _ => {}
     }
-    let kind = TRACE_KINDS[number % TRACE_KINDS.len()];
+    let kind = TRACE_KINDS[number as usize % TRACE_KINDS.len()];
     let commands = match number % 5 {
         0 => rng.below(4),
         1 => rng.below(30),
@@ -66,7 +106,25 @@ fn input_of(rng: &mut Rng, number: usize) -> Vec<u8> {
     input
 }
 
-fn one(program: &Path, input: &[u8], expected: &str, piece: usize) -> Result<(), String> {
+/// The largest value of each size, written and read back: the last is 2^64 - 1,
+/// the longest number there is in decimal.
+fn largest_values() -> Vec<u8> {
+    let mut input = Vec::new();
+    for address in [0, EXTERNAL_BASE] {
+        for (size, value) in [(1, 0xFF), (2, 0xFFFF), (4, 0xFFFF_FFFF), (8, u64::MAX)] {
+            encode(&Command::Write { size, address, value }, &mut input);
+            encode(&Command::Read { size, address }, &mut input);
+        }
+    }
+    input
+}
+
+fn one(
+    program: &Path,
+    input: &[u8],
+    expected: &str,
+    piece: usize,
+) -> Result<Option<String>, String> {
     let failed =
         |what: &str, error: std::io::Error| format!("{}: {what}: {error}", program.display());
     let mut child = Process::new(program)
@@ -91,23 +149,34 @@ fn one(program: &Path, input: &[u8], expected: &str, piece: usize) -> Result<(),
     });
     let output = child.wait_with_output().map_err(|error| failed("cannot be read", error))?;
     writer.join().expect("the writer ends");
-    if output.stdout == expected.as_bytes() {
-        return Ok(());
+    if output.stdout == expected.as_bytes() && output.status.success() {
+        return Ok(None);
     }
-    let ours = String::from_utf8_lossy(&output.stdout);
-    let line =
-        ours.lines().zip(expected.lines()).take_while(|(ours, theirs)| ours == theirs).count();
-    Err(format!(
-        "bench-trace on {} bytes, line {}: {:?}, expected {:?}\ninput: {}",
+    let shown = &input[..input.len().min(4_096)];
+    let mut text = format!(
+        "{}, {}\ninput of {} bytes: {}",
+        output_difference(&String::from_utf8_lossy(&output.stdout), expected),
+        output.status,
         input.len(),
-        line + 1,
-        ours.lines().nth(line),
-        expected.lines().nth(line),
-        hex(&input[..input.len().min(4_096)]),
-    ))
+        hex(shown),
+    );
+    for words in trace_words(shown) {
+        text.push_str(&format!("\n     {words}"));
+    }
+    Ok(Some(text))
 }
 
-/// Bytes in hexadecimal.
-pub fn hex(bytes: &[u8]) -> String {
-    bytes.iter().map(|byte| format!("{byte:02x}")).collect::<Vec<_>>().join(" ")
+/// Where the output differs, if it does.
+fn output_difference(ours: &str, expected: &str) -> String {
+    if ours == expected {
+        return "the output is as expected".into();
+    }
+    let line =
+        ours.lines().zip(expected.lines()).take_while(|(ours, theirs)| ours == theirs).count();
+    format!(
+        "line {} is {:?}, expected {:?}",
+        line + 1,
+        ours.lines().nth(line),
+        expected.lines().nth(line)
+    )
 }

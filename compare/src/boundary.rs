@@ -59,11 +59,13 @@ pub struct CRun {
 }
 
 const _: () = {
-    assert!(size_of::<CLine>() == 8 && offset_of!(CLine, address) == 4);
+    assert!(size_of::<CLine>() == 8 && offset_of!(CLine, dirty) == 1);
+    assert!(offset_of!(CLine, address) == 4);
     assert!(size_of::<CL1dSet>() == 20 && offset_of!(CL1dSet, order) == 16);
     assert!(size_of::<CL2Set>() == 36 && offset_of!(CL2Set, order) == 32);
     assert!(size_of::<CRecord>() == 21_004);
-    assert!(offset_of!(CRecord, mode) == 8 && offset_of!(CRecord, mar129) == 10);
+    assert!(offset_of!(CRecord, extlen) == 4 && offset_of!(CRecord, mode) == 8);
+    assert!(offset_of!(CRecord, mar128) == 9 && offset_of!(CRecord, mar129) == 10);
     assert!(offset_of!(CRecord, l1d) == 12 && offset_of!(CRecord, l2) == 2_572);
     assert!(size_of::<CCalled>() == 21_016);
     assert!(offset_of!(CCalled, number) == 8 && offset_of!(CCalled, server) == 9);
@@ -296,6 +298,15 @@ pub fn same_record(ours: &CRecord, theirs: &Record) -> bool {
         && ours.l2.iter().zip(&theirs.l2).all(|(ours, theirs)| *ours == l2_set(theirs))
 }
 
+/// A set in words: for each way valid, dirty and address, then the order.
+fn set_words(lines: &[CLine], order: &[u8]) -> String {
+    let ways: Vec<String> = lines
+        .iter()
+        .map(|line| format!("{} {} {:#x}", line.valid, line.dirty, line.address))
+        .collect();
+    format!("[{}] order {order:?}", ways.join(", "))
+}
+
 /// Where two records of C's differ.
 pub fn record_difference(ours: &CRecord, theirs: &CRecord) -> String {
     let mut found = Vec::new();
@@ -311,12 +322,16 @@ pub fn record_difference(ours: &CRecord, theirs: &CRecord) -> String {
     numbers("mar129", ours.mar129.into(), theirs.mar129.into());
     for (set, (ours, theirs)) in ours.l1d.iter().zip(&theirs.l1d).enumerate() {
         if ours != theirs {
-            found.push(format!("L1D set {set} is {ours:x?}, expected {theirs:x?}"));
+            let ours = set_words(&ours.lines, &ours.order);
+            let theirs = set_words(&theirs.lines, &theirs.order);
+            found.push(format!("L1D set {set} is {ours}, expected {theirs}"));
         }
     }
     for (set, (ours, theirs)) in ours.l2.iter().zip(&theirs.l2).enumerate() {
         if ours != theirs {
-            found.push(format!("L2 set {set} is {ours:x?}, expected {theirs:x?}"));
+            let ours = set_words(&ours.lines, &ours.order);
+            let theirs = set_words(&theirs.lines, &theirs.order);
+            found.push(format!("L2 set {set} is {ours}, expected {theirs}"));
         }
     }
     let more = found.len().saturating_sub(3);

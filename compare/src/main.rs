@@ -3,22 +3,23 @@
 
 mod bench;
 mod boundary;
+mod now;
 mod pair;
+mod report;
 mod sections;
 mod shrink;
 
+use std::panic;
 use std::path::PathBuf;
 use std::process::ExitCode;
 use std::time::Instant;
 
 use oracle::gen::Rng;
-use oracle::record::{L1dSet, L2Set};
-use oracle::trace::decode;
 
-use bench::hex;
-use pair::{Met, Op};
+use pair::Met;
+use report::report;
 use sections::{Section, SECTIONS};
-use shrink::{shrink, Case};
+use shrink::shrink;
 
 const HELP: &str = "\
 compare: the calls of the boundary against the reference model
@@ -28,10 +29,16 @@ compare: the calls of the boundary against the reference model
   --bench-trace PATH   the program bench-trace, to be compared as well
   --section NAME       only this section: records, lists, traces, refusals, views
   --group K            only group K of that section
+  --input K            nothing but input K of bench-trace
+  --now PATH           a file that says which group is being run
   --help               this text
 
-Equal seeds give equal calls. Exit status: 0 no difference; 1 a difference, which
-is made smaller and printed, or something that should be met was not; 2 bad usage.";
+Equal seeds give equal calls. Exit status: 0 no difference; 1 a difference or a
+panic, which is made smaller and printed, or something that should be met was
+not; 2 bad usage, or a program or file that cannot be run or written.";
+
+const OPTIONS: [&str; 7] =
+    ["--calls", "--seed", "--bench-trace", "--section", "--group", "--input", "--now"];
 
 struct Arguments {
     calls: u64,
@@ -39,6 +46,8 @@ struct Arguments {
     bench_trace: Option<PathBuf>,
     section: Option<&'static Section>,
     group: Option<u64>,
+    input: Option<u64>,
+    now: Option<PathBuf>,
 }
 
 /// The arguments; `None` if help was asked for.
@@ -49,12 +58,14 @@ fn arguments(mut words: impl Iterator<Item = String>) -> Result<Option<Arguments
         bench_trace: None,
         section: None,
         group: None,
+        input: None,
+        now: None,
     };
     while let Some(word) = words.next() {
         if word == "--help" {
             return Ok(None);
         }
-        if !["--calls", "--seed", "--bench-trace", "--section", "--group"].contains(&&*word) {
+        if !OPTIONS.contains(&&*word) {
             return Err(format!("'{word}' is no argument of compare"));
         }
         let value = words.next().ok_or(format!("{word} needs a value"))?;
@@ -65,6 +76,8 @@ fn arguments(mut words: impl Iterator<Item = String>) -> Result<Option<Arguments
             "--calls" => found.calls = number()?,
             "--seed" => found.seed = number()?,
             "--group" => found.group = Some(number()?),
+            "--input" => found.input = Some(number()?),
+            "--now" => found.now = Some(PathBuf::from(&value)),
             "--bench-trace" => {
                 let path = PathBuf::from(&value);
                 if !path.is_file() {
@@ -84,26 +97,78 @@ fn arguments(mut words: impl Iterator<Item = String>) -> Result<Option<Arguments
     if found.group.is_some() && found.section.is_none() {
         return Err("--group needs --section".into());
     }
+    if found.input.is_some() && found.bench_trace.is_none() {
+        return Err("--input needs --bench-trace".into());
+    }
+    if found.input.is_some_and(|input| input >= bench::INPUTS) {
+        return Err(format!("--input needs a number below {}", bench::INPUTS));
+    }
     Ok(Some(found))
 }
 
 fn main() -> ExitCode {
-    match arguments(std::env::args().skip(1)) {
+    now::keep_panics();
+    let arguments = match arguments(std::env::args().skip(1)) {
         Err(message) => {
             eprintln!("compare: {message}; see compare --help");
-            ExitCode::from(2)
+            return ExitCode::from(2);
         }
         Ok(None) => {
             println!("{HELP}");
-            ExitCode::SUCCESS
+            return ExitCode::SUCCESS;
         }
-        Ok(Some(arguments)) => run(&arguments),
+        Ok(Some(arguments)) => arguments,
+    };
+    match panic::catch_unwind(|| run(&arguments)) {
+        Ok(Ok(true)) => ExitCode::SUCCESS,
+        Ok(Ok(false)) => ExitCode::from(1),
+        Ok(Err(message)) => {
+            eprintln!("compare: {message}");
+            ExitCode::from(2)
+        }
+        // One outside the lists of calls, as in making them.
+        Err(_) => {
+            println!("PANIC in {}", now::place());
+            println!("{}", now::last_panic());
+            ExitCode::from(1)
+        }
     }
 }
 
-fn run(arguments: &Arguments) -> ExitCode {
+/// Whether all is well; an error is something that could not be run.
+fn run(arguments: &Arguments) -> Result<bool, String> {
     let started = Instant::now();
     let mut met = Met::default();
+    if arguments.input.is_none() && !run_sections(arguments, &mut met)? {
+        return Ok(false);
+    }
+    if !run_bench(arguments)? {
+        return Ok(false);
+    }
+    println!("refusals met, 0 to 12: {:?}", met.numbers);
+    println!("servers met, 0 to 4: {:?}; modes: {:?}", met.servers, met.modes);
+    let faults = met.possible_faults();
+    println!(
+        "ill-formed records made: {}; of each fault in each mode: {} at least",
+        faults.iter().map(|fault| fault.2).sum::<u64>(),
+        faults.iter().map(|fault| fault.2).min().unwrap_or(0)
+    );
+    let everything = arguments.section.is_none() && arguments.input.is_none();
+    if everything && arguments.calls >= 200_000 && !met_everything(&met) {
+        println!("something that should be met was not: {met:?}");
+        return Ok(false);
+    }
+    println!(
+        "compare: {} calls, seed {}, no difference, {:.1} s",
+        met.calls,
+        arguments.seed,
+        started.elapsed().as_secs_f64()
+    );
+    Ok(true)
+}
+
+/// Runs the groups of the sections; false after a difference.
+fn run_sections(arguments: &Arguments, met: &mut Met) -> Result<bool, String> {
     for (number, section) in SECTIONS.iter().enumerate() {
         if arguments.section.is_some_and(|only| only.name != section.name) {
             continue;
@@ -114,16 +179,8 @@ fn run(arguments: &Arguments) -> ExitCode {
         let before = met.calls;
         let mut group = arguments.group.unwrap_or(0);
         while met.calls < until {
-            let salt = (number as u64 + 1) << 48 | group;
-            let mut rng = Rng::new(arguments.seed ^ salt.wrapping_mul(0xD129_0D3B_3C5E_9A35));
-            if let Some(case) = (section.group)(&mut rng, group, &mut met) {
-                println!("DIFFERENCE in {} (seed {})", section.name, arguments.seed);
-                println!(
-                    "again: compare --seed {} --section {} --group {group}",
-                    arguments.seed, section.name
-                );
-                report(&shrink(case));
-                return ExitCode::from(1);
+            if !run_group(arguments, number as u64, section, group, met)? {
+                return Ok(false);
             }
             if arguments.group.is_some() {
                 break;
@@ -138,86 +195,72 @@ fn run(arguments: &Arguments) -> ExitCode {
             section.about
         );
     }
-    if let Some(program) = &arguments.bench_trace {
-        let begun = Instant::now();
-        if let Err(difference) = bench::compare(program, arguments.seed) {
-            println!("DIFFERENCE in bench-trace (seed {}): {difference}", arguments.seed);
-            return ExitCode::from(1);
-        }
-        println!(
-            "bench     {:8} inputs {:5.1} s  the program bench-trace, byte for byte",
-            bench::INPUTS + 1,
-            begun.elapsed().as_secs_f64()
-        );
-    }
-    println!("refusals met, 0 to 12: {:?}", met.numbers);
-    println!("servers met, 0 to 4: {:?}; modes: {:?}", met.servers, met.modes);
-    if arguments.section.is_none() && arguments.calls >= 200_000 && !met_everything(&met) {
-        println!("something that should be met was not: {met:?}");
-        return ExitCode::from(1);
-    }
-    println!(
-        "compare: {} calls, seed {}, no difference, {:.1} s",
-        met.calls,
-        arguments.seed,
-        started.elapsed().as_secs_f64()
-    );
-    ExitCode::SUCCESS
+    Ok(true)
 }
 
-/// Every number, server, mode and MAR range came up.
+/// Runs one group; false after a difference, which is printed.
+fn run_group(
+    arguments: &Arguments,
+    number: u64,
+    section: &Section,
+    group: u64,
+    met: &mut Met,
+) -> Result<bool, String> {
+    let (seed, name) = (arguments.seed, section.name);
+    let place = format!(
+        "section {name}, group {group}, seed {seed}\n\
+         again: compare --seed {seed} --section {name} --group {group}"
+    );
+    now::enter(arguments.now.as_deref(), place.clone())?;
+    let salt = (number + 1) << 48 | group;
+    let mut rng = Rng::new(seed ^ salt.wrapping_mul(0xD129_0D3B_3C5E_9A35));
+    let Some(case) = (section.group)(&mut rng, group, met) else { return Ok(true) };
+    println!("DIFFERENCE in {place}");
+    report(&shrink(case));
+    Ok(false)
+}
+
+/// Runs bench-trace on its inputs, if its path is known; false after a
+/// difference, which is printed.
+fn run_bench(arguments: &Arguments) -> Result<bool, String> {
+    let Some(program) = &arguments.bench_trace else { return Ok(true) };
+    let seed = arguments.seed;
+    let begun = Instant::now();
+    let inputs = match arguments.input {
+        Some(input) => input..input + 1,
+        None => 0..bench::INPUTS,
+    };
+    for input in inputs.clone() {
+        let place = format!(
+            "bench-trace, input {input}, seed {seed}\n\
+             again: compare --seed {seed} --bench-trace {} --input {input}",
+            program.display()
+        );
+        now::enter(arguments.now.as_deref(), place.clone())?;
+        if let Some(difference) = bench::compare(program, seed, input)? {
+            println!("DIFFERENCE in {place}\n{difference}");
+            return Ok(false);
+        }
+    }
+    println!(
+        "bench     {:8} inputs {:5.1} s  the program bench-trace, byte for byte",
+        inputs.end - inputs.start,
+        begun.elapsed().as_secs_f64()
+    );
+    Ok(true)
+}
+
+/// Every number, server, mode, MAR range, length class and fault came up.
 fn met_everything(met: &Met) -> bool {
     met.numbers.iter().all(|&count| count > 50)
         && met.servers.iter().all(|&count| count > 1_000)
         && [0, 1, 2, 3, 7].iter().all(|&mode| met.modes[mode] > 1_000)
+        // Mode 7 needs the largest L, and would be rare without care.
+        && met.modes[7] * 100 >= met.modes.iter().sum::<u64>() * 8
         && met.ranges.iter().flatten().all(|&count| count > 50)
         && [met.odd, met.views, met.runs, met.flat_reads].iter().all(|&count| count > 1_000)
         && met.flat_memories > 50
-}
-
-/// Prints a case.
-fn report(case: &Case) {
-    let setup = &case.start.setup;
-    let record = &setup.record;
-    println!(
-        "record: L {} E {} mode {} MAR {} {}; lent: L1D {} L2 {} external {} bytes",
-        record.l,
-        record.e,
-        record.mode,
-        record.mar128,
-        record.mar129,
-        setup.l1d.len(),
-        setup.l2.len(),
-        setup.ext.len()
-    );
-    for (name, bytes) in [("L1D", &setup.l1d), ("L2", &setup.l2), ("external", &setup.ext)] {
-        if bytes.iter().all(|&byte| byte == 0) {
-            println!("  {name} bytes: all 0");
-        } else {
-            println!("  {name} bytes: random, {} ...", hex(&bytes[..bytes.len().min(16)]));
-        }
-    }
-    for (set, lines) in record.l1d.iter().enumerate().filter(|(_, set)| **set != L1dSet::FRESH) {
-        println!("  L1D set {set}: {lines:x?}");
-    }
-    for (set, lines) in record.l2.iter().enumerate().filter(|(_, set)| **set != L2Set::FRESH) {
-        println!("  L2 set {set}: {lines:x?}");
-    }
-    for odd in &case.start.odd {
-        println!("  no bool: {odd:?}");
-    }
-    for (number, op) in case.ops.iter().enumerate() {
-        match op {
-            Op::Run { trace, answer_bytes } | Op::RunAndSingleCalls { trace, answer_bytes } => {
-                println!("{number}: run, {answer_bytes} answer bytes, trace {}", hex(trace));
-                let mut place = 0;
-                while let Some((command, length)) = decode(&trace[place..]) {
-                    println!("     {command:x?}");
-                    place += length;
-                }
-            }
-            other => println!("{number}: {other:x?}"),
-        }
-    }
-    println!("after call {}: {}", case.difference.op, case.difference.what);
+        && met.long_runs > 0
+        && met.externals.iter().all(|&count| count > 0)
+        && met.possible_faults().iter().all(|&(_, _, count)| count > 0)
 }

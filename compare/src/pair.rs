@@ -2,15 +2,18 @@
 //! on both, and after each call the answers, the records and the lent bytes
 //! are compared.
 
+use std::panic::{catch_unwind, AssertUnwindSafe};
+
 use oracle::calls::{fresh_start, look, look_number};
 use oracle::flat::Flat;
-use oracle::gen::Setup;
+use oracle::gen::{Fault, Setup, FAULTS, LEGAL_MODES, RANGE_BYTES};
 use oracle::geometry::{external_length_is_legal, l2_length_is_legal, EXTERNAL_BASE, L1D_BYTES};
 use oracle::trace::{decode, ANSWER_BYTES};
 use oracle::wellformed::is_well_formed;
-use oracle::{Answer, Command, RunResult};
+use oracle::{Answer, Command, Record, RunResult};
 
 use crate::boundary::{self, record_difference, record_of, same_record, CRecord, Lent};
+use crate::now;
 
 /// A byte of C's record that stands for a bool, and a value put there.
 #[derive(Clone, Copy, PartialEq, Eq, Debug)]
@@ -39,10 +42,12 @@ pub struct Start {
     pub flat: bool,
 }
 
-/// One call, or a run with the same commands as single calls after it.
+/// One call, or a run with the same commands as single calls after it, or
+/// another record put in place of the present one on both sides.
 #[derive(Clone, PartialEq, Eq, Debug)]
 pub enum Op {
     Fresh,
+    Record(Box<Record>),
     Direct(Command),
     Run { trace: Vec<u8>, answer_bytes: usize },
     RunAndSingleCalls { trace: Vec<u8>, answer_bytes: usize },
@@ -64,12 +69,79 @@ pub struct Met {
     pub runs: u64,
     pub flat_reads: u64,
     pub flat_memories: u64,
+    /// Runs that took in more than 5,000 bytes.
+    pub long_runs: u64,
+    /// Lists by the length of external memory, see `count_external`.
+    pub externals: [u64; 5],
+    /// Records made, by fault and by mode; those of no legal mode stand last.
+    pub faults: [[u64; 6]; 25],
+}
+
+impl Met {
+    /// A list over external memory of this length: up to 786,432 bytes, less
+    /// than all of MAR 128's range, just that, up to 17,301,504, or more.
+    pub fn count_external(&mut self, e: u32) {
+        let class = match e {
+            0..=786_432 => 0,
+            786_433..RANGE_BYTES => 1,
+            RANGE_BYTES => 2,
+            RANGE_BYTES..=17_301_504 => 3,
+            _ => 4,
+        };
+        self.externals[class] += 1;
+    }
+
+    /// A record with this fault was made, and has this mode now.
+    pub fn count_fault(&mut self, fault: Fault, mode: u32) {
+        let fault = FAULTS.iter().position(|&other| other == fault).expect("one of all faults");
+        let column = LEGAL_MODES.iter().position(|&legal| legal == mode);
+        self.faults[fault][column.unwrap_or(LEGAL_MODES.len())] += 1;
+    }
+
+    /// The faults and modes that go together, and how often they were met
+    /// together; the mode 255 stands for all that are no legal mode.
+    pub fn possible_faults(&self) -> Vec<(Fault, u32, u64)> {
+        let mut found = Vec::new();
+        for (fault, met) in FAULTS.into_iter().zip(self.faults) {
+            for (mode, count) in LEGAL_MODES.into_iter().chain([255]).zip(met) {
+                let possible = match mode {
+                    255 => fault == Fault::IllegalMode,
+                    _ => fault.can_stand_in(mode),
+                };
+                if possible {
+                    found.push((fault, mode, count));
+                }
+            }
+        }
+        found
+    }
+}
+
+/// What differs. A case that is made smaller keeps its kind.
+#[derive(Clone, Copy, PartialEq, Eq, Debug)]
+pub enum Kind {
+    Number,
+    Server,
+    Value,
+    /// What a run took in, and how many answers it gave.
+    Counts,
+    Record,
+    Bytes,
+    Panic,
+}
+
+/// What is wrong after a call.
+#[derive(Clone, Debug)]
+pub struct Wrong {
+    kind: Kind,
+    what: String,
 }
 
 /// A difference, and the call after which it was seen.
 #[derive(Clone, Debug)]
 pub struct Difference {
     pub op: usize,
+    pub kind: Kind,
     pub what: String,
 }
 
@@ -92,8 +164,20 @@ struct Pair<'a> {
     met: &'a mut Met,
 }
 
-/// Makes the calls on both sides; the first difference, if there is one.
+/// Makes the calls on both sides; the first difference, if there is one. A
+/// panic is a difference too.
 pub fn compare(start: &Start, ops: &[Op], met: &mut Met) -> Option<Difference> {
+    let mut op = 0;
+    let (kind, what) = match catch_unwind(AssertUnwindSafe(|| make(start, ops, met, &mut op))) {
+        Ok(Ok(())) => return None,
+        Ok(Err(wrong)) => (wrong.kind, wrong.what),
+        Err(_) => (Kind::Panic, now::last_panic()),
+    };
+    Some(Difference { op, kind, what })
+}
+
+/// Makes the calls; `reached` is the number of the present one.
+fn make(start: &Start, ops: &[Op], met: &mut Met, reached: &mut usize) -> Result<(), Wrong> {
     let mut record = record_of(&start.setup.record);
     for odd in &start.odd {
         *odd_byte(&mut record, odd.place) = odd.value;
@@ -109,18 +193,12 @@ pub fn compare(start: &Start, ops: &[Op], met: &mut Met) -> Option<Difference> {
         met,
     };
     for (op, call) in ops.iter().enumerate() {
-        if let Err(what) = pair.step(call) {
-            return Some(Difference { op, what });
-        }
+        *reached = op;
+        pair.step(call)?;
         let whole = op % WHOLE_EVERY == WHOLE_EVERY - 1 || op + 1 == ops.len();
-        if let Err(what) = pair.memories(call, whole) {
-            return Some(Difference { op, what });
-        }
+        pair.memories(call, whole)?;
     }
-    if let Err(what) = pair.end() {
-        return Some(Difference { op: ops.len().saturating_sub(1), what });
-    }
-    None
+    pair.end()
 }
 
 /// The byte at a place.
@@ -135,28 +213,68 @@ pub fn odd_byte(record: &mut CRecord, place: OddPlace) -> &mut u8 {
     }
 }
 
-fn expect<T: PartialEq + std::fmt::Debug>(name: &str, ours: T, theirs: T) -> Result<(), String> {
+fn expect<T: PartialEq + std::fmt::Debug>(
+    kind: Kind,
+    name: &str,
+    ours: T,
+    theirs: T,
+) -> Result<(), Wrong> {
     if ours == theirs {
         Ok(())
     } else {
-        Err(format!("{name} is {ours:?}, expected {theirs:?}"))
+        Err(Wrong { kind, what: format!("{name} is {ours:?}, expected {theirs:?}") })
     }
 }
 
-fn expect_bytes(name: &str, ours: &[u8], theirs: &[u8]) -> Result<(), String> {
+/// The kind is that of the first field that differs.
+fn expect_answer(name: &str, ours: Answer, theirs: Answer) -> Result<(), Wrong> {
+    let kind = if ours.number != theirs.number {
+        Kind::Number
+    } else if ours.server != theirs.server {
+        Kind::Server
+    } else {
+        Kind::Value
+    };
+    expect(kind, name, ours, theirs)
+}
+
+fn expect_run(ours: RunResult, theirs: RunResult) -> Result<(), Wrong> {
+    let kind = if ours.stop != theirs.stop { Kind::Number } else { Kind::Counts };
+    expect(kind, "run", ours, theirs)
+}
+
+fn expect_bytes(name: &str, ours: &[u8], theirs: &[u8]) -> Result<(), Wrong> {
     if ours == theirs {
         return Ok(());
     }
-    let place = ours.iter().zip(theirs).position(|(ours, theirs)| ours != theirs);
-    match place {
-        Some(place) => Err(format!(
-            "{name} byte {place} ({place:x}h) is {:02x}, expected {:02x}; {} bytes differ",
+    let differ = || ours.iter().zip(theirs).filter(|(ours, theirs)| ours != theirs).count();
+    let what = match first_difference(ours, theirs) {
+        Some(place) => format!(
+            "{name} byte {place} ({place:#x}) is {:#04x}, expected {:#04x}; {} bytes differ",
             ours[place],
             theirs[place],
-            ours.iter().zip(theirs).filter(|(ours, theirs)| ours != theirs).count()
-        )),
-        None => Err(format!("{name} has {} bytes, expected {}", ours.len(), theirs.len())),
-    }
+            differ()
+        ),
+        None => format!("{name} has {} bytes, expected {}", ours.len(), theirs.len()),
+    };
+    Err(Wrong { kind: Kind::Bytes, what })
+}
+
+/// The answers of a run: the kind goes by the first byte that differs.
+fn expect_answers(ours: &[u8], theirs: &[u8], count: usize) -> Result<(), Wrong> {
+    expect_bytes("answers", ours, theirs).map_err(|wrong| {
+        let kind = match first_difference(ours, theirs) {
+            Some(place) if place >= count * ANSWER_BYTES => Kind::Bytes,
+            Some(place) if place % ANSWER_BYTES == 0 => Kind::Number,
+            Some(place) if place % ANSWER_BYTES == 1 => Kind::Server,
+            _ => Kind::Value,
+        };
+        Wrong { kind, ..wrong }
+    })
+}
+
+fn first_difference(ours: &[u8], theirs: &[u8]) -> Option<usize> {
+    ours.iter().zip(theirs).position(|(ours, theirs)| ours != theirs)
 }
 
 impl Pair<'_> {
@@ -180,9 +298,15 @@ impl Pair<'_> {
         }
     }
 
-    fn step(&mut self, op: &Op) -> Result<(), String> {
+    fn step(&mut self, op: &Op) -> Result<(), Wrong> {
         match op {
             Op::Fresh => self.fresh(),
+            Op::Record(record) => {
+                self.record = record_of(record);
+                self.theirs.record = record.clone();
+                self.odd = false;
+                Ok(())
+            }
             Op::Direct(command) => self.direct(command),
             Op::Run { trace, answer_bytes } => self.run(trace, *answer_bytes).map(|_| ()),
             Op::RunAndSingleCalls { trace, answer_bytes } => {
@@ -192,19 +316,18 @@ impl Pair<'_> {
         }
     }
 
-    fn fresh(&mut self) -> Result<(), String> {
+    fn fresh(&mut self) -> Result<(), Wrong> {
         let (record, number) =
             fresh_start(&mut self.theirs.l1d, &mut self.theirs.l2, &mut self.theirs.ext);
         let (_, lent) = self.lent();
         let called = boundary::fresh(lent);
         self.met.calls += 1;
         self.met.numbers[number as usize] += 1;
-        let expected = Answer::refused(number);
-        expect("number", called.number, expected.number)?;
-        expect("server", called.server, expected.server)?;
-        expect("value", called.value, expected.value)?;
+        let ours = Answer { number: called.number, server: called.server, value: called.value };
+        expect_answer("answer", ours, Answer::refused(number))?;
         if !same_record(&called.record, &record) {
-            return Err(record_difference(&called.record, &record_of(&record)));
+            let what = record_difference(&called.record, &record_of(&record));
+            return Err(Wrong { kind: Kind::Record, what });
         }
         if number == 0 {
             *self.record = called.record;
@@ -217,7 +340,7 @@ impl Pair<'_> {
         Ok(())
     }
 
-    fn direct(&mut self, command: &Command) -> Result<(), String> {
+    fn direct(&mut self, command: &Command) -> Result<(), Wrong> {
         let theirs = if self.odd {
             Answer::refused(self.odd_number(true))
         } else {
@@ -227,7 +350,7 @@ impl Pair<'_> {
         let called = boundary::direct(record, command, lent);
         self.count(command, &theirs);
         let ours = Answer { number: called.number, server: called.server, value: called.value };
-        expect("answer", ours, theirs)?;
+        expect_answer("answer", ours, theirs)?;
         self.take_record(called.record)?;
         self.flat(command, &ours)
     }
@@ -253,24 +376,25 @@ impl Pair<'_> {
 
     /// The record that came back is the expected one, and takes the place of
     /// the one that went in.
-    fn take_record(&mut self, ours: CRecord) -> Result<(), String> {
+    fn take_record(&mut self, ours: CRecord) -> Result<(), Wrong> {
         let same =
             if self.odd { ours == *self.record } else { same_record(&ours, &self.theirs.record) };
         if !same {
             let expected =
                 if self.odd { self.record.clone() } else { record_of(&self.theirs.record) };
-            return Err(format!("record: {}", record_difference(&ours, &expected)));
+            let what = format!("record: {}", record_difference(&ours, &expected));
+            return Err(Wrong { kind: Kind::Record, what });
         }
         *self.record = ours;
         Ok(())
     }
 
     /// What flat memory says of a call.
-    fn flat(&mut self, command: &Command, ours: &Answer) -> Result<(), String> {
+    fn flat(&mut self, command: &Command, ours: &Answer) -> Result<(), Wrong> {
         let Some(flat) = &mut self.flat else { return Ok(()) };
         if let Some((number, value)) = flat.apply(command) {
-            expect("number, by flat memory,", ours.number, number)?;
-            expect("value, by flat memory,", ours.value, value)?;
+            expect(Kind::Number, "number, by flat memory,", ours.number, number)?;
+            expect(Kind::Value, "value, by flat memory,", ours.value, value)?;
             self.met.flat_reads += 1;
         }
         let global = matches!(command, Command::L2WritebackAll | Command::L2WritebackInvalidateAll);
@@ -282,7 +406,7 @@ impl Pair<'_> {
     }
 
     /// A run; the answer bytes that came back.
-    fn run(&mut self, trace: &[u8], answer_bytes: usize) -> Result<Vec<u8>, String> {
+    fn run(&mut self, trace: &[u8], answer_bytes: usize) -> Result<Vec<u8>, Wrong> {
         let mut expected = vec![0xB7; answer_bytes];
         let mut answers = expected.clone();
         let theirs = if self.odd {
@@ -297,8 +421,9 @@ impl Pair<'_> {
         self.met.odd += u64::from(self.odd);
         self.met.numbers[theirs.stop as usize] += 1;
         let ours = RunResult { consumed: run.consumed, answers: run.count, stop: run.stop };
-        expect("run", ours, theirs)?;
-        expect_bytes("answers", &answers, &expected)?;
+        expect_run(ours, theirs)?;
+        expect_answers(&answers, &expected, run.count)?;
+        self.met.long_runs += u64::from(run.consumed > 5_000);
         self.take_record(run.record)?;
         if self.flat.is_some() {
             let mut place = 0;
@@ -311,8 +436,8 @@ impl Pair<'_> {
                 if let Some((number, value)) =
                     self.flat.as_mut().and_then(|flat| flat.apply(&command))
                 {
-                    expect("number, by flat memory,", ours.number, number)?;
-                    expect("value, by flat memory,", ours.value, value)?;
+                    expect(Kind::Number, "number, by flat memory,", ours.number, number)?;
+                    expect(Kind::Value, "value, by flat memory,", ours.value, value)?;
                     self.met.flat_reads += 1;
                 }
             }
@@ -322,7 +447,7 @@ impl Pair<'_> {
 
     /// A run, and then its commands as single calls from the same beginning:
     /// the answers, the record and every byte are the same.
-    fn run_and_single_calls(&mut self, trace: &[u8], answer_bytes: usize) -> Result<(), String> {
+    fn run_and_single_calls(&mut self, trace: &[u8], answer_bytes: usize) -> Result<(), Wrong> {
         let before = (self.record.clone(), self.l1d.clone(), self.l2.clone(), self.ext.clone());
         let answers = self.run(trace, answer_bytes)?;
         let (mut record, mut l1d, mut l2, mut ext) = before;
@@ -342,21 +467,24 @@ impl Pair<'_> {
             *record = called.record;
             let answer = &answers[count * ANSWER_BYTES..(count + 1) * ANSWER_BYTES];
             let value = u64::from_le_bytes(answer[2..].try_into().expect("eight bytes"));
-            let single = (called.number, called.server, called.value);
-            expect("single call's answer", single, (answer[0], answer[1], value))?;
+            let single =
+                Answer { number: called.number, server: called.server, value: called.value };
+            let run = Answer { number: answer[0], server: answer[1], value };
+            expect_answer("single call's answer", single, run)?;
             place += length;
             count += 1;
         }
         if *record != *self.record {
             let difference = record_difference(&record, &self.record);
-            return Err(format!("record after single calls: {difference}"));
+            let what = format!("record after single calls: {difference}");
+            return Err(Wrong { kind: Kind::Record, what });
         }
         expect_bytes("L1D after single calls,", &l1d, &self.l1d)?;
         expect_bytes("L2 after single calls,", &l2, &self.l2)?;
         expect_bytes("external memory after single calls,", &ext, &self.ext)
     }
 
-    fn view(&mut self, address: u32, buffer: usize) -> Result<(), String> {
+    fn view(&mut self, address: u32, buffer: usize) -> Result<(), Wrong> {
         let theirs = &self.theirs;
         let (number, part) = if self.odd {
             (self.odd_number(false), &[][..])
@@ -376,14 +504,14 @@ impl Pair<'_> {
         self.met.views += 1;
         self.met.numbers[number as usize] += 1;
         let ours = boundary::view(&self.record, address, &self.l2, &self.ext, &mut seen);
-        expect("number of the view", ours, expected_number)?;
+        expect(Kind::Number, "number of the view", ours, expected_number)?;
         expect_bytes("viewed bytes", &seen, &expected)?;
         let ours = boundary::view_number(&self.record, address, &self.l2, &self.ext);
-        expect("view's number", ours, number)
+        expect(Kind::Number, "view's number", ours, number)
     }
 
     /// Every lent byte is the expected one.
-    fn memories(&mut self, op: &Op, whole: bool) -> Result<(), String> {
+    fn memories(&mut self, op: &Op, whole: bool) -> Result<(), Wrong> {
         expect_bytes("L1D", &self.l1d, &self.theirs.l1d)?;
         expect_bytes("L2", &self.l2, &self.theirs.l2)?;
         if whole || self.ext.len() <= SMALL {
@@ -406,7 +534,7 @@ impl Pair<'_> {
 
     /// After a list that flat memory agrees with, a last change to mode 0
     /// brings everything home.
-    fn end(&mut self) -> Result<(), String> {
+    fn end(&mut self) -> Result<(), Wrong> {
         if self.flat.is_none() {
             return Ok(());
         }

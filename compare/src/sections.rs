@@ -3,9 +3,10 @@
 //! give equal groups.
 
 use oracle::gen::{
-    self, call, command, encode, hot, hot_for, ill_formed_record, look_address, make_length_wrong,
-    senseless_record, Call, Hot, Mix, Rng, Setup, TraceKind, E_BOTH_RANGES, FAULTS, LEGAL_L,
-    LEGAL_MODES, TRACE_KINDS, WRONG_LENGTHS,
+    self, call, command, encode, hot, hot_for, ill_formed_record, l_for, look_address,
+    make_length_wrong, senseless_record, well_formed_record, well_formed_record_in_mode, Call, Hot,
+    Mix, Rng, Setup, TraceKind, E_BOTH_RANGES, FAULTS, LEGAL_L, LEGAL_MODES, RANGE_BYTES,
+    TRACE_KINDS, WRONG_LENGTHS,
 };
 use oracle::geometry::{mode_is_legal, EXTERNAL_BASE, L2};
 use oracle::{Command, Line, Record};
@@ -52,6 +53,7 @@ pub const SECTIONS: [Section; 5] = [
 
 /// Compares a list; a difference makes it a case.
 fn check(start: Start, ops: Vec<Op>, met: &mut Met) -> Option<Case> {
+    met.count_external(start.setup.record.e);
     compare(&start, &ops, met).map(|difference| Case { start, ops, difference })
 }
 
@@ -80,13 +82,58 @@ fn small_e(rng: &mut Rng) -> u32 {
     }
 }
 
-/// A legal E with external memory in both MAR ranges.
-fn large_e(rng: &mut Rng) -> u32 {
-    match rng.below(4) {
-        0 => 33_554_432,
-        1 => 16_777_216 + 128 * (1 + rng.below(4_096)),
+/// A large legal E, in turn around the border of the MAR ranges and far from
+/// it on both sides.
+fn large_e(rng: &mut Rng, turn: u64) -> u32 {
+    match turn % 6 {
+        0 => E_BOTH_RANGES,
+        1 => RANGE_BYTES,
+        2 => 33_554_432,
+        3 => RANGE_BYTES + 128 * (1 + rng.below(4_096)),
+        // From 786,432 to 16 MiB, and from 17,301,504 to 32 MiB.
+        4 => 786_432 + 128 * (1 + rng.below(124_927)),
+        _ => 17_301_504 + 128 * (1 + rng.below(126_975)),
+    }
+}
+
+/// A legal E with a little external memory in the range of MAR 129, seldom
+/// with none: then the first line past the end lies there.
+fn e_at_the_border(rng: &mut Rng) -> u32 {
+    match rng.below(6) {
+        0 => RANGE_BYTES,
+        1 => RANGE_BYTES + 128,
+        2 | 3 => RANGE_BYTES + 128 * (1 + rng.below(4_096)),
         _ => E_BOTH_RANGES,
     }
+}
+
+/// A mode, an L with which it is legal, and an E, which comes to the border of
+/// the MAR ranges one time in `every`.
+fn mode_and_sizes(rng: &mut Rng, turn: u64, every: u64) -> (u32, u32, u32) {
+    let mode = LEGAL_MODES[turn as usize % LEGAL_MODES.len()];
+    let large = turn % every == every - 1;
+    let e = if large { e_at_the_border(rng) } else { small_e(rng) };
+    (mode, l_for(rng, mode), e)
+}
+
+/// Random memories of these sizes, with a record of this mode.
+fn setup_in_mode(rng: &mut Rng, mode: u32, l: u32, e: u32) -> Setup {
+    let mut setup = Setup::random(rng, l, e);
+    setup.redraw_record_in_mode(rng, mode);
+    setup
+}
+
+/// Accesses of each size that end with external memory, and just behind it.
+fn accesses_at_the_end(e: u32) -> Vec<Op> {
+    let end = EXTERNAL_BASE + e;
+    let mut ops = Vec::new();
+    for size in [1, 2, 4, 8] {
+        for address in [end - size, end] {
+            ops.push(Op::Direct(Command::Write { size, address, value: 0xA0 + u64::from(size) }));
+            ops.push(Op::Direct(Command::Read { size, address }));
+        }
+    }
+    ops
 }
 
 fn op_of(call: Call, rng: &mut Rng) -> Op {
@@ -107,38 +154,46 @@ fn view_buffer(rng: &mut Rng) -> usize {
 /// Random well-formed records, reachable or not, over one set of memories.
 fn records(rng: &mut Rng, group: u64, met: &mut Met) -> Option<Case> {
     let large = group % 24 == 23;
-    let l = rng.pick(&LEGAL_L);
-    let e = if large { large_e(rng) } else { small_e(rng) };
-    let mut setup = Setup::random(rng, l, e);
+    let mode = LEGAL_MODES[group as usize % LEGAL_MODES.len()];
+    let l = l_for(rng, mode);
+    let e = if large { large_e(rng, group / 24) } else { small_e(rng) };
+    let setup = Setup::random(rng, l, e);
+    let mut ops = Vec::new();
     for _ in 0..if large { 2 } else { 12 } {
-        setup.redraw_record(rng);
-        let lines = hot_for(rng, &setup.record);
-        let count = if large { 200 } else { 4 + rng.below(28) };
-        let ops = (0..count)
-            .map(|_| {
-                let call = call(rng, &lines, &Mix::ALL);
-                op_of(call, rng)
-            })
-            .collect();
-        let case = check(plain(setup.clone()), ops, met);
-        if case.is_some() {
-            return case;
+        let record = if rng.chance(2, 3) {
+            well_formed_record_in_mode(rng, l, e, mode)
+        } else {
+            well_formed_record(rng, l, e)
+        };
+        let lines = hot_for(rng, &record);
+        ops.push(Op::Record(record));
+        if large {
+            ops.extend(accesses_at_the_end(e));
+        }
+        for _ in 0..if large { 200 } else { 4 + rng.below(28) } {
+            let call = call(rng, &lines, &Mix::ALL);
+            ops.push(op_of(call, rng));
         }
     }
-    None
+    check(plain(setup), ops, met)
 }
 
 // ------------------------------------------------------------------ lists
 
 /// A long list from fresh, in turn over every L and several E.
 fn lists(rng: &mut Rng, group: u64, met: &mut Met) -> Option<Case> {
-    let sizes = [65_536, E_BOTH_RANGES, 8_192, 6 * 65_536, 128, 65_536, 12 * 65_536];
-    let l = LEGAL_L[(group % 8) as usize];
-    let mut e = sizes[(group % 7) as usize];
-    if e == E_BOTH_RANGES && group % 3 == 0 {
-        e = 33_554_432;
-    }
-    let large = e >= E_BOTH_RANGES;
+    // Eleven turns, so that every L comes up with every size; the largest, which
+    // alone leaves room for mode 7, comes up more often.
+    let l = LEGAL_L[(group % 11).min(7) as usize];
+    let large = group % 7 == 1;
+    let e = match group % 7 {
+        1 => large_e(rng, group / 7),
+        2 => 8_192,
+        3 => 6 * 65_536,
+        4 => 128,
+        6 => 12 * 65_536,
+        _ => 65_536,
+    };
     let mut mix = match group % 5 {
         4 => Mix::ALL,
         3 => Mix {
@@ -164,8 +219,13 @@ fn lists(rng: &mut Rng, group: u64, met: &mut Met) -> Option<Case> {
     if rng.chance(7, 8) {
         ops.push(Op::Direct(Command::Mar { number: 129, bit: 1 }));
     }
-    let modes: Vec<u32> = LEGAL_MODES.into_iter().filter(|&mode| mode_is_legal(l, mode)).collect();
+    let mut modes = LEGAL_MODES.to_vec();
+    modes.push(7);
+    modes.retain(|&mode| mode_is_legal(l, mode));
     ops.push(Op::Direct(Command::Mode { mode: rng.pick(&modes) }));
+    if large {
+        ops.extend(accesses_at_the_end(e));
+    }
     let mut lines = hot(rng, l, e);
     for _ in 0..3_000 {
         if rng.chance(1, 700) {
@@ -190,14 +250,20 @@ fn lists(rng: &mut Rng, group: u64, met: &mut Met) -> Option<Case> {
 /// Traces of every kind, with answer buffers of every length around a multiple
 /// of 10; each run is followed by the same commands as single calls.
 fn traces(rng: &mut Rng, group: u64, met: &mut Met) -> Option<Case> {
-    let l = rng.pick(&LEGAL_L);
+    let mode = LEGAL_MODES[group as usize % LEGAL_MODES.len()];
+    let l = l_for(rng, mode);
     let e = small_e(rng).min(65_536);
+    if group % 160 == 80 {
+        let setup = setup_in_mode(rng, mode, l, e);
+        let ops = long_traces(rng, &setup);
+        return check(plain(setup), ops, met);
+    }
     let setup = if group % 4 == 0 {
         let mut ext = vec![0; e as usize];
         rng.fill(&mut ext);
         Setup::fresh_over(l, ext)
     } else {
-        Setup::random(rng, l, e)
+        setup_in_mode(rng, mode, l, e)
     };
     let lines = hot_for(rng, &setup.record);
     let mut ops = Vec::new();
@@ -234,24 +300,41 @@ fn traces(rng: &mut Rng, group: u64, met: &mut Met) -> Option<Case> {
     check(plain(setup), ops, met)
 }
 
+/// A trace of 20,000 bytes, with answer bytes for all of it and for a part.
+fn long_traces(rng: &mut Rng, setup: &Setup) -> Vec<Op> {
+    let lines = hot_for(rng, &setup.record);
+    let mut trace = Vec::new();
+    let mut count = 0;
+    while trace.len() < 20_000 {
+        encode(&command(rng, &lines, &Mix::ALL), &mut trace);
+        count += 1;
+    }
+    let part = 10 * (count - rng.below(count / 4)) as usize - 1;
+    vec![
+        Op::RunAndSingleCalls { trace: trace.clone(), answer_bytes: 10 * count as usize },
+        Op::Run { trace, answer_bytes: part },
+    ]
+}
+
 // --------------------------------------------------------------- refusals
 
 fn refusals(rng: &mut Rng, group: u64, met: &mut Met) -> Option<Case> {
     match group % 7 {
         0 => ill_formed(rng, group / 7, met),
-        1 => odd_bytes(rng, met),
+        1 => odd_bytes(rng, group / 7, met),
         2 => wrong_lengths(rng, group / 7, met),
-        3 => senseless(rng, met),
+        3 => senseless(rng, group / 7, met),
         4 => edges(rng, group / 7, met),
         5 => mar_edges(rng, met),
-        _ => changed(rng, met),
+        _ => changed(rng, group / 7, met),
     }
 }
 
-/// Every kind of call, and some more.
-fn some_calls(rng: &mut Rng, lines: &Hot, fresh_too: bool) -> Vec<Op> {
+/// One command of every kind, and some that get a higher number where a 1 or a
+/// 2 does not come first.
+fn every_command() -> [Command; 16] {
     let (base, count) = (EXTERNAL_BASE, 16);
-    let mut ops: Vec<Op> = [
+    [
         Command::Read { size: 4, address: 0 },
         Command::Write { size: 4, address: EXTERNAL_BASE, value: 7 },
         Command::L2WritebackAll,
@@ -264,14 +347,16 @@ fn some_calls(rng: &mut Rng, lines: &Hot, fresh_too: bool) -> Vec<Op> {
         Command::L1dInvalidateAll,
         Command::Mode { mode: 0 },
         Command::Mar { number: 128, bit: 1 },
-        // Higher numbers that do not come up.
         Command::Read { size: 3, address: 1 },
         Command::Mode { mode: 5 },
         Command::Mar { number: 7, bit: 7 },
         Command::L2BlockWriteback { base: 2, count: 70_000 },
     ]
-    .map(Op::Direct)
-    .to_vec();
+}
+
+/// Every kind of call, and some more.
+fn some_calls(rng: &mut Rng, lines: &Hot, fresh_too: bool) -> Vec<Op> {
+    let mut ops = every_command().map(Op::Direct).to_vec();
     for _ in 0..4 {
         ops.push(Op::Direct(command(rng, lines, &Mix::ALL)));
     }
@@ -289,26 +374,49 @@ fn some_calls(rng: &mut Rng, lines: &Hot, fresh_too: bool) -> Vec<Op> {
     ops
 }
 
-/// A record in which one clause of the paragraph is broken.
+/// Two or three calls of any kind.
+fn few_calls(rng: &mut Rng, lines: &Hot) -> Vec<Op> {
+    let direct =
+        if rng.chance(1, 2) { rng.pick(&every_command()) } else { command(rng, lines, &Mix::ALL) };
+    let mut ops = vec![Op::Direct(direct)];
+    if rng.chance(1, 2) {
+        ops.push(Op::View { address: look_address(rng, lines), buffer: view_buffer(rng) });
+    } else {
+        let trace = gen::trace(rng, lines, &Mix::ALL, 2, TraceKind::Valid).bytes;
+        ops.push(Op::RunAndSingleCalls { trace, answer_bytes: rng.pick(&[0, 10, 20, 25]) });
+    }
+    ops
+}
+
+/// Records in which one clause of the paragraph is broken: every fault that can
+/// stand in this mode, over one set of memories.
 fn ill_formed(rng: &mut Rng, turn: u64, met: &mut Met) -> Option<Case> {
-    let fault = FAULTS[turn as usize % FAULTS.len()];
-    let l = rng.pick(&LEGAL_L);
-    let e = small_e(rng);
-    let record = ill_formed_record(rng, l, e, fault)?;
-    let mut setup = Setup::random(rng, l, e);
-    setup.record = in_bytes(record);
-    let lines = hot(rng, l, e);
-    let ops = some_calls(rng, &lines, true);
+    let (mode, l, e) = mode_and_sizes(rng, turn, 12);
+    let setup = setup_in_mode(rng, mode, l, e);
+    let lines = hot_for(rng, &setup.record);
+    let mut ops = Vec::new();
+    for fault in FAULTS {
+        // Fewer groups have lines in the range of MAR 129.
+        for _ in 0..if e >= RANGE_BYTES { 5 } else { 2 } {
+            // Some sizes leave no room for a fault; others do.
+            let Some(record) = ill_formed_record(rng, l, e, mode, fault) else { break };
+            let record = in_bytes(record);
+            met.count_fault(fault, record.mode);
+            ops.push(Op::Record(record));
+            ops.extend(few_calls(rng, &lines));
+        }
+    }
+    ops.push(Op::Fresh);
+    ops.push(Op::Direct(Command::Read { size: 8, address: 0 }));
     check(plain(setup), ops, met)
 }
 
 /// A byte that stands for a bool and is neither 0 nor 1.
-fn odd_bytes(rng: &mut Rng, met: &mut Met) -> Option<Case> {
-    let l = rng.pick(&LEGAL_L);
-    let e = small_e(rng);
+fn odd_bytes(rng: &mut Rng, turn: u64, met: &mut Met) -> Option<Case> {
+    let (mode, l, e) = mode_and_sizes(rng, turn, 36);
     let mut setup = Setup::random(rng, l, e);
-    for _ in 0..6 {
-        setup.redraw_record(rng);
+    for _ in 0..if e >= RANGE_BYTES { 1 } else { 6 } {
+        setup.redraw_record_in_mode(rng, mode);
         let mut start = plain(setup.clone());
         for _ in 0..rng.pick(&[1, 1, 1, 2, 40]) {
             let (l1d, l2) = (rng.below(128) as usize, rng.below(512) as usize);
@@ -344,9 +452,8 @@ fn odd_bytes(rng: &mut Rng, met: &mut Met) -> Option<Case> {
 /// A lent length that is illegal or unlike the record's; a record that is ill
 /// formed too gets the same number.
 fn wrong_lengths(rng: &mut Rng, turn: u64, met: &mut Met) -> Option<Case> {
-    let l = rng.pick(&LEGAL_L);
-    let e = small_e(rng);
-    let mut setup = Setup::random(rng, l, e);
+    let (mode, l, e) = mode_and_sizes(rng, turn, 36);
+    let mut setup = setup_in_mode(rng, mode, l, e);
     make_length_wrong(rng, &mut setup, WRONG_LENGTHS[turn as usize % WRONG_LENGTHS.len()]);
     if rng.chance(1, 4) {
         let wrong = rng.pick(&WRONG_LENGTHS);
@@ -365,9 +472,8 @@ fn wrong_lengths(rng: &mut Rng, turn: u64, met: &mut Met) -> Option<Case> {
 }
 
 /// A record of no sense at all, over memories of any length.
-fn senseless(rng: &mut Rng, met: &mut Met) -> Option<Case> {
-    let l = rng.pick(&LEGAL_L);
-    let e = small_e(rng);
+fn senseless(rng: &mut Rng, turn: u64, met: &mut Met) -> Option<Case> {
+    let (_, l, e) = mode_and_sizes(rng, turn, 36);
     let mut setup = Setup {
         record: in_bytes(senseless_record(rng, l, e)),
         l1d: vec![1; if rng.chance(7, 8) { 16_384 } else { rng.below(40_000) as usize }],
@@ -388,28 +494,25 @@ fn senseless(rng: &mut Rng, met: &mut Met) -> Option<Case> {
 
 /// Well-formed records with a field or two changed, whatever comes of it: both
 /// sides have to agree on which of them are still well formed.
-fn changed(rng: &mut Rng, met: &mut Met) -> Option<Case> {
-    let l = rng.pick(&LEGAL_L);
-    let e = small_e(rng);
+fn changed(rng: &mut Rng, turn: u64, met: &mut Met) -> Option<Case> {
+    let (mode, l, e) = mode_and_sizes(rng, turn, 12);
     let mut setup = Setup::random(rng, l, e);
+    let mut ops = Vec::new();
     for _ in 0..20 {
-        setup.redraw_record(rng);
-        let mut start = plain(setup.clone());
+        setup.redraw_record_in_mode(rng, mode);
+        let mut record = setup.record.clone();
         for _ in 0..rng.pick(&[1, 1, 1, 2, 3]) {
-            change(rng, &mut start.setup.record);
+            change(rng, &mut record);
         }
-        let lines = hot_for(rng, &start.setup.record);
-        let mut ops = vec![Op::Direct(Command::Read { size: 1, address: EXTERNAL_BASE })];
+        let lines = hot_for(rng, &record);
+        ops.push(Op::Record(record));
+        ops.push(Op::Direct(Command::Read { size: 1, address: EXTERNAL_BASE }));
         for _ in 0..rng.below(4) {
             ops.push(Op::Direct(command(rng, &lines, &Mix::ALL)));
         }
         ops.push(Op::View { address: look_address(rng, &lines), buffer: 64 });
-        let case = check(start, ops, met);
-        if case.is_some() {
-            return case;
-        }
     }
-    None
+    check(plain(setup), ops, met)
 }
 
 /// Changes one field of a record: more often one that says something.

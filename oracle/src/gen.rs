@@ -2,11 +2,10 @@
 //! here is part of the model. Equal seeds give equal things.
 
 use crate::calls;
-use crate::geometry::{mar_number, mode_is_legal, L1d, EXTERNAL_BASE, L1D_BYTES, L2};
-use crate::modes::{change_mar, holds_a_line_of};
+use crate::geometry::{cache_size, mode_is_legal, L1d, EXTERNAL_BASE, L1D_BYTES, L2};
 use crate::record::{Line, Record};
 use crate::trace::{run, Command, RunResult};
-use crate::wellformed::{broken_clauses, Clause};
+use crate::wellformed::Clause;
 use crate::Answer;
 
 /// The legal values of L: "a multiple of 32,768, from 32,768 to 262,144".
@@ -17,6 +16,10 @@ pub const LEGAL_MODES: [u32; 5] = [0, 1, 2, 3, 7];
 
 /// An E with 65,536 bytes of external memory in the range of MAR 129.
 pub const E_BOTH_RANGES: u32 = 16_777_216 + 65_536;
+
+/// The bytes that one MAR bit covers: an E of as many ends where the range of
+/// MAR 129 begins.
+pub const RANGE_BYTES: u32 = 16_777_216;
 
 // ---------------------------------------------------------------- numbers
 
@@ -126,6 +129,12 @@ impl Setup {
         self.record = well_formed_record(rng, self.l2.len() as u32, self.ext.len() as u32);
     }
 
+    /// The same in a given legal mode.
+    pub fn redraw_record_in_mode(&mut self, rng: &mut Rng, mode: u32) {
+        let (l, e) = (self.l2.len() as u32, self.ext.len() as u32);
+        self.record = well_formed_record_in_mode(rng, l, e, mode);
+    }
+
     /// The direct call of this command.
     pub fn call(&mut self, command: &Command) -> Answer {
         let (record, l1d, l2, ext) =
@@ -227,6 +236,17 @@ pub fn sizes(rng: &mut Rng) -> (u32, u32) {
         }
     };
     (l, e)
+}
+
+/// A random legal L with which this mode is legal. The least one, which leaves
+/// no SRAM in a mode other than 0, comes up more often.
+pub fn l_for(rng: &mut Rng, mode: u32) -> u32 {
+    let legal: Vec<u32> = LEGAL_L.into_iter().filter(|&l| mode_is_legal(l, mode)).collect();
+    if rng.chance(1, 3) {
+        legal[0]
+    } else {
+        rng.pick(&legal)
+    }
 }
 
 // ----------------------------------------------------- well-formed records
@@ -428,28 +448,68 @@ impl Fault {
             Fault::L1dNotInL2 => Clause::Inclusion,
         }
     }
+
+    /// Whether the fault can stand alone in a record of this legal mode, the
+    /// sizes being right for it.
+    pub fn can_stand_in(self, mode: u32) -> bool {
+        match self {
+            // Such a record's mode is not a legal one.
+            Fault::IllegalMode => false,
+            // The least L has room for mode 1.
+            Fault::CacheAboveL => mode > 1,
+            // In another mode the L2 line around it lies wrong as well.
+            Fault::L1dMarZero => mode == 0,
+            // Mode 7 leaves no SRAM.
+            Fault::L2InSram => mode != 0 && mode != 7,
+            Fault::L2Order
+            | Fault::L2InvalidDirty
+            | Fault::L2InvalidAddress
+            | Fault::L2NoMultiple
+            | Fault::L2OtherSet
+            | Fault::L2Twice
+            | Fault::L2Outside
+            | Fault::L2MarZero
+            | Fault::L1dNotInL2 => mode != 0,
+            // Mode 7 uses every set.
+            Fault::UnusedSetOrder | Fault::UnusedSetMark | Fault::UnusedSetLine => mode != 7,
+            _ => true,
+        }
+    }
 }
 
 /// A random record of these legal sizes in which this fault alone stands: no
 /// clause but the fault's own is broken. With lent memories of the record's
-/// lengths a call gets 2. `None` if the sizes leave no room for the fault (in
-/// 200 tries).
-pub fn ill_formed_record(rng: &mut Rng, l: u32, e: u32, fault: Fault) -> Option<Box<Record>> {
-    for _ in 0..200 {
-        let mut record = well_formed_record(rng, l, e);
-        let done = put_fault(rng, &mut record, fault);
-        if done.is_some() && broken_clauses(&record) == [fault.clause()] {
-            return Some(record);
-        }
+/// lengths a call gets 2. The fault is put into a record of this legal mode;
+/// two of the faults then change the mode. `None` if none of 40 such records
+/// has a place for it.
+///
+/// The fault breaks its clause by the way in which it is put there. Nothing is
+/// asked of `wellformed`: that is compared by means of these records, and if it
+/// took too much for well formed it would leave out just the records that show
+/// it. That each fault stands alone is seen in the tests.
+pub fn ill_formed_record(
+    rng: &mut Rng,
+    l: u32,
+    e: u32,
+    mode: u32,
+    fault: Fault,
+) -> Option<Box<Record>> {
+    let changes_mode = matches!(fault, Fault::IllegalMode | Fault::CacheAboveL);
+    if !changes_mode && !fault.can_stand_in(mode) {
+        return None;
     }
-    None
+    (0..40).find_map(|_| {
+        let mut record = well_formed_record_in_mode(rng, l, e, mode);
+        put_fault(rng, &mut record, fault).map(|()| record)
+    })
 }
 
 /// A random fault in a random record of these legal sizes, and which it is.
 pub fn any_ill_formed_record(rng: &mut Rng, l: u32, e: u32) -> (Box<Record>, Fault) {
+    let modes: Vec<u32> = LEGAL_MODES.into_iter().filter(|&mode| mode_is_legal(l, mode)).collect();
     loop {
-        let fault = rng.pick(&FAULTS);
-        if let Some(record) = ill_formed_record(rng, l, e, fault) {
+        let (mode, fault) = (rng.pick(&modes), rng.pick(&FAULTS));
+        if let Some(record) = ill_formed_record(rng, l, e, mode, fault) {
             return (record, fault);
         }
     }
@@ -463,8 +523,13 @@ fn put_fault(rng: &mut Rng, record: &mut Record, fault: Fault) -> Option<()> {
             record.mode = rng.pick(&[4, 5, 6, 8, 9, 15, 255, 256, 257, 65_536, u32::MAX]);
         }
         Fault::CacheAboveL => {
+            let above = |&mode: &u32| cache_size(mode).is_some_and(|c| c > record.l);
+            let modes: Vec<u32> = LEGAL_MODES.into_iter().filter(above).collect();
+            if modes.is_empty() {
+                return None;
+            }
             *record = *Record::fresh(record.l, record.e);
-            record.mode = rng.pick(&[1, 2, 3, 7]);
+            record.mode = rng.pick(&modes);
         }
         Fault::Mar128NoBit => {
             // No line may lie there: its MAR bit would not be 1 any more.
@@ -476,67 +541,77 @@ fn put_fault(rng: &mut Rng, record: &mut Record, fault: Fault) -> Option<()> {
             record.mar129 = rng.pick(&[2, 3, 129, 255, 256, u32::MAX]);
         }
         Fault::L1dOrder => {
-            let set = rng.below(L1d::SETS as u32) as usize;
-            record.l1d[set].order[rng.below(2) as usize] = rng.pick(&[0, 1, 2, 3, 200, 255]);
+            let place = &mut record.l1d[edge_or_any(rng, L1d::SETS)].order[rng.below(2) as usize];
+            *place = other_than(rng, *place, &[0, 1, 2, 3, 200, 255]);
         }
         Fault::L2Order => {
-            let sets = L2::sets(record.mode) as u32;
-            if sets == 0 {
-                return None;
-            }
-            let set = rng.below(sets) as usize;
-            record.l2[set].order[rng.below(4) as usize] = rng.pick(&[0, 1, 2, 3, 4, 5, 200, 255]);
+            let set = edge_or_any(rng, L2::sets(record.mode));
+            let place = &mut record.l2[set].order[rng.below(4) as usize];
+            *place = other_than(rng, *place, &[0, 1, 2, 3, 4, 5, 200, 255]);
         }
         Fault::L1dInvalidDirty => {
-            let (set, way) = l1d_way(rng, record, false)?;
+            let (set, way) = edge_way(rng, &l1d_ways(record, false))?;
             record.l1d[set].lines[way].dirty = true;
         }
         Fault::L1dInvalidAddress => {
-            let (set, way) = l1d_way(rng, record, false)?;
+            let (set, way) = edge_way(rng, &l1d_ways(record, false))?;
             record.l1d[set].lines[way].address = any_address(rng, record);
         }
         Fault::L2InvalidDirty => {
-            let (set, way) = l2_way(rng, record, false)?;
+            let (set, way) = edge_way(rng, &l2_ways(record, false))?;
             record.l2[set].lines[way].dirty = true;
         }
         Fault::L2InvalidAddress => {
-            let (set, way) = l2_way(rng, record, false)?;
+            let (set, way) = edge_way(rng, &l2_ways(record, false))?;
             record.l2[set].lines[way].address = any_address(rng, record);
         }
         Fault::L1dNoMultiple => {
-            let (set, way) = l1d_way(rng, record, true)?;
-            record.l1d[set].lines[way].address += 1 + rng.below(L1d::LINE - 1);
+            let (set, way) = edge_way(rng, &l1d_ways(record, true))?;
+            let address = record.l1d[set].lines[way].address;
+            record.l1d[set].lines[way].address = unaligned(rng, record, address, L1d::LINE)?;
         }
         Fault::L2NoMultiple => {
-            let (set, way) = l2_way(rng, record, true)?;
-            drop_l1d_halves(record, record.l2[set].lines[way].address);
-            record.l2[set].lines[way].address += 1 + rng.below(L2::LINE - 1);
+            let (set, way) = edge_way(rng, &l2_ways(record, true))?;
+            let address = record.l2[set].lines[way].address;
+            record.l2[set].lines[way].address = unaligned(rng, record, address, L2::LINE)?;
+            drop_l1d_halves(record, address);
         }
         Fault::L1dOtherSet => {
-            // The other half of the 128 bytes lies in a set next to this one.
-            let (set, way) = l1d_way(rng, record, true)?;
-            let other_half = record.l1d[set].lines[way].address ^ L1d::LINE;
-            drop_l1d_line(record, other_half);
-            record.l1d[set].lines[way].address = other_half;
+            let (set, way) = edge_way(rng, &l1d_ways(record, true))?;
+            let address = record.l1d[set].lines[way].address;
+            // An external line has to stay in its L2 line, if there is L2: then
+            // it becomes the other half of the 128 bytes.
+            let stays = address >= EXTERNAL_BASE && record.mode != 0;
+            let bit = if stays { 0 } else { rng.below(7) };
+            let other = address ^ L1d::LINE << bit;
+            if is_past_external(record, other) {
+                return None;
+            }
+            drop_l1d_line(record, other);
+            record.l1d[set].lines[way].address = other;
         }
         Fault::L2OtherSet => {
-            let (set, way) = l2_way(rng, record, true)?;
+            let (set, way) = edge_way(rng, &l2_ways(record, true))?;
             let address = record.l2[set].lines[way].address;
-            let neighbour = address ^ L2::LINE;
-            drop_l1d_halves(record, address);
-            drop_l1d_halves(record, neighbour);
-            if let Some((set, way)) = record.find_l2(neighbour) {
-                record.l2[set].lines[way] = Line::EMPTY;
+            // Half the time the set that is half of all sets away.
+            let bits = L2::sets(record.mode).trailing_zeros();
+            let bit = if rng.chance(1, 2) { bits - 1 } else { rng.below(bits) };
+            let other = address ^ L2::LINE << bit;
+            if is_past_external(record, other) {
+                return None;
             }
-            record.l2[set].lines[way].address = neighbour;
+            drop_l1d_halves(record, address);
+            drop_l1d_halves(record, other);
+            drop_l2_line(record, other);
+            record.l2[set].lines[way].address = other;
         }
         Fault::L1dTwice => {
-            let (set, way) = l1d_way(rng, record, true)?;
+            let (set, way) = edge_way(rng, &l1d_ways(record, true))?;
             record.l1d[set].lines[1 - way] = record.l1d[set].lines[way];
             record.l1d[set].lines[1 - way].dirty = rng.chance(1, 2);
         }
         Fault::L2Twice => {
-            let (set, way) = l2_way(rng, record, true)?;
+            let (set, way) = edge_way(rng, &l2_ways(record, true))?;
             let other = (way + 1 + rng.below(3) as usize) % L2::WAYS;
             if record.l2[set].lines[other].valid {
                 drop_l1d_halves(record, record.l2[set].lines[other].address);
@@ -545,46 +620,42 @@ fn put_fault(rng: &mut Rng, record: &mut Record, fault: Fault) -> Option<()> {
             record.l2[set].lines[other].dirty = rng.chance(1, 2);
         }
         Fault::L1dOutside => {
-            let set = rng.below(L1d::SETS as u32);
-            let way = rng.below(2) as usize;
-            let first = first_outside(rng, record).next_multiple_of(8_192);
-            let turn = if rng.chance(1, 2) { 0 } else { rng.below(64) };
-            let address = first.checked_add(set * L1d::LINE + turn * 8_192)?;
-            record.l1d[set as usize].lines[way] =
-                Line { valid: true, dirty: rng.chance(1, 2), address };
+            let address = outside_line(rng, record, L1d::LINE);
+            put_l1d_line(rng, record, address);
         }
         Fault::L1dMarZero => {
-            let number = rng.pick(&[128, 129]);
-            if !holds_a_line_of(record, number) {
-                return None;
-            }
-            change_mar(record, number, 0);
+            let (number, address) = line_in_a_range(rng, record, L1d::LINE);
+            drop_l1d_line(record, address);
+            put_l1d_line(rng, record, address);
+            set_mar(record, number, 0);
         }
         Fault::L2InSram => {
-            if record.sram_size() == 0 {
+            let lines = record.sram_size() / L2::LINE;
+            if lines == 0 {
                 return None;
             }
-            let address = rng.below(record.sram_size() / L2::LINE) * L2::LINE;
-            put_l2_line(rng, record, address)?;
+            let line = edge_or_any(rng, lines as usize) as u32;
+            put_l2_line(rng, record, line * L2::LINE)?;
         }
         Fault::L2Outside => {
-            let turn = if rng.chance(1, 2) { rng.below(4) } else { rng.below(4_096) };
-            let address = first_outside(rng, record).checked_add(turn * L2::LINE)?;
+            let address = outside_line(rng, record, L2::LINE);
             put_l2_line(rng, record, address)?;
         }
         Fault::L2MarZero => {
-            let number = rng.pick(&[128, 129]);
+            let (number, address) = line_in_a_range(rng, record, L2::LINE);
+            drop_l2_line(record, address);
+            put_l2_line(rng, record, address)?;
             drop_l1d_range(record, number);
-            if !holds_a_line_of(record, number) {
-                return None;
-            }
-            change_mar(record, number, 0);
+            set_mar(record, number, 0);
         }
         Fault::UnusedSetOrder => {
             let set = unused_set(rng, record)?;
-            record.l2[set].order = rng.permutation();
-            if rng.chance(1, 4) {
-                record.l2[set].order[rng.below(4) as usize] = rng.pick(&[0, 3, 4, 200]);
+            let way = rng.below(4) as usize;
+            let order = &mut record.l2[set].order;
+            if rng.chance(3, 4) {
+                order.swap(way, (way + 1 + rng.below(3) as usize) % L2::WAYS);
+            } else {
+                order[way] = other_than(rng, order[way], &[0, 3, 4, 200]);
             }
         }
         Fault::UnusedSetMark => {
@@ -603,21 +674,19 @@ fn put_fault(rng: &mut Rng, record: &mut Record, fault: Fault) -> Option<()> {
                 Line { valid: true, dirty: rng.chance(1, 2), address };
         }
         Fault::L1dNotInL2 => {
-            let set = rng.below(L1d::SETS as u32) as usize;
-            let address = external_line(rng, record, L1d::LINE, L1d::SETS, set)?;
+            let (number, address) = line_in_a_range(rng, record, L1d::LINE);
             drop_l1d_halves(record, L2::line_address(address));
-            if let Some((set, way)) = record.find_l2(address) {
-                record.l2[set].lines[way] = Line::EMPTY;
-            }
-            record.l1d[set].lines[rng.below(2) as usize] =
-                Line { valid: true, dirty: rng.chance(1, 2), address };
+            drop_l2_line(record, address);
+            put_l1d_line(rng, record, address);
+            // Where the bit was 0 the range held no line, so nothing else changes.
+            set_mar(record, number, 1);
         }
     }
     Some(())
 }
 
-/// A random valid (or invalid) way of L1D.
-fn l1d_way(rng: &mut Rng, record: &Record, valid: bool) -> Option<(usize, usize)> {
+/// The valid (or invalid) ways of L1D, by set.
+fn l1d_ways(record: &Record, valid: bool) -> Vec<(usize, usize)> {
     let mut ways = Vec::new();
     for (number, set) in record.l1d.iter().enumerate() {
         for (way, line) in set.lines.iter().enumerate() {
@@ -626,15 +695,11 @@ fn l1d_way(rng: &mut Rng, record: &Record, valid: bool) -> Option<(usize, usize)
             }
         }
     }
-    if ways.is_empty() {
-        None
-    } else {
-        Some(rng.pick(&ways))
-    }
+    ways
 }
 
-/// A random valid (or invalid) way of an L2 set in use.
-fn l2_way(rng: &mut Rng, record: &Record, valid: bool) -> Option<(usize, usize)> {
+/// The valid (or invalid) ways of the L2 sets in use, by set.
+fn l2_ways(record: &Record, valid: bool) -> Vec<(usize, usize)> {
     let mut ways = Vec::new();
     for (number, set) in record.l2.iter().enumerate().take(L2::sets(record.mode)) {
         for (way, line) in set.lines.iter().enumerate() {
@@ -643,15 +708,96 @@ fn l2_way(rng: &mut Rng, record: &Record, valid: bool) -> Option<(usize, usize)>
             }
         }
     }
+    ways
+}
+
+/// One of the ways, if there are any.
+fn any_way(rng: &mut Rng, ways: &[(usize, usize)]) -> Option<(usize, usize)> {
     if ways.is_empty() {
         None
     } else {
-        Some(rng.pick(&ways))
+        Some(rng.pick(ways))
     }
 }
 
-/// Puts a line in place of another, in the set of its address; `None` in mode
-/// 0.
+/// One of the ways, more often one of the first or of the last set.
+fn edge_way(rng: &mut Rng, ways: &[(usize, usize)]) -> Option<(usize, usize)> {
+    let set = match rng.below(4) {
+        0 => ways.first()?.0,
+        1 => ways.last()?.0,
+        _ => return any_way(rng, ways),
+    };
+    let of_set: Vec<_> = ways.iter().copied().filter(|way| way.0 == set).collect();
+    any_way(rng, &of_set)
+}
+
+/// A number below `count`, more often the first or the last.
+fn edge_or_any(rng: &mut Rng, count: usize) -> usize {
+    match rng.below(6) {
+        0 => 0,
+        1 => count - 1,
+        _ => rng.below(count as u32) as usize,
+    }
+}
+
+/// One of the values, but not this one.
+fn other_than(rng: &mut Rng, this: u8, values: &[u8]) -> u8 {
+    loop {
+        let value = rng.pick(values);
+        if value != this {
+            return value;
+        }
+    }
+}
+
+/// A line address in external memory and the number of its MAR range: more
+/// often 129 if E reaches it, and the first or the last line of the range.
+fn line_in_a_range(rng: &mut Rng, record: &Record, line: u32) -> (u32, u32) {
+    let number = if record.e > RANGE_BYTES { rng.pick(&[128, 129, 129]) } else { 128 };
+    let (from, to) =
+        if number == 128 { (0, record.e.min(RANGE_BYTES)) } else { (RANGE_BYTES, record.e) };
+    let turn = edge_or_any(rng, ((to - from) / line) as usize) as u32;
+    (number, EXTERNAL_BASE + from + turn * line)
+}
+
+/// Whether the line lies in this MAR range. An empty way lies at 0.
+fn in_range(line: &Line, number: u32) -> bool {
+    line.address >> 24 == number
+}
+
+/// Gives a MAR bit a value.
+fn set_mar(record: &mut Record, number: u32, bit: u32) {
+    if number == 128 {
+        record.mar128 = bit;
+    } else {
+        record.mar129 = bit;
+    }
+}
+
+/// An address inside this line, but for its first byte; half the time its
+/// middle. `None` if a line from there on would pass the end of its memory.
+fn unaligned(rng: &mut Rng, record: &Record, address: u32, line: u32) -> Option<u32> {
+    let end = if address < EXTERNAL_BASE { record.sram_size() } else { EXTERNAL_BASE + record.e };
+    if address + 2 * line > end {
+        return None;
+    }
+    Some(address + if rng.chance(1, 2) { line / 2 } else { 1 + rng.below(line - 1) })
+}
+
+/// Whether a line address of external memory or above lies past its end.
+fn is_past_external(record: &Record, address: u32) -> bool {
+    address >= EXTERNAL_BASE + record.e
+}
+
+/// Puts a line in place of another, in the L1D set of its address.
+fn put_l1d_line(rng: &mut Rng, record: &mut Record, address: u32) {
+    let way = rng.below(L1d::WAYS as u32) as usize;
+    record.l1d[L1d::set_of(address)].lines[way] =
+        Line { valid: true, dirty: rng.chance(1, 2), address };
+}
+
+/// Puts a line in place of another, in the L2 set of its address; `None` in
+/// mode 0.
 fn put_l2_line(rng: &mut Rng, record: &mut Record, address: u32) -> Option<()> {
     let set = L2::set_of(record.mode, address)?;
     let way = rng.below(L2::WAYS as u32) as usize;
@@ -672,15 +818,18 @@ fn unused_set(rng: &mut Rng, record: &Record) -> Option<usize> {
     Some(rng.pick(&[sets, L2::SETS_HELD - 1, sets + any]))
 }
 
-/// An address at which one of the memories has just ended, or a far one
-/// outside both.
-fn first_outside(rng: &mut Rng, record: &Record) -> u32 {
-    match rng.below(4) {
-        0 => record.sram_size(),
-        1 => EXTERNAL_BASE + record.e,
-        2 => 0x7FFF_E000,
-        _ => 0xFFF0_0000,
+/// A line address outside both memories: half the time the very first one past
+/// an end or the last one before a beginning.
+fn outside_line(rng: &mut Rng, record: &Record, line: u32) -> u32 {
+    let (sram_end, external_end) = (record.sram_size(), EXTERNAL_BASE + record.e);
+    if rng.chance(1, 2) {
+        let top = 0u32.wrapping_sub(line);
+        return rng.pick(&[sram_end, external_end, external_end, EXTERNAL_BASE - line, top]);
     }
+    let (from, to) = if rng.chance(1, 2) { (sram_end, EXTERNAL_BASE) } else { (external_end, 0) };
+    let lines = to.wrapping_sub(from) / line;
+    let near = rng.pick(&[64, 4_096, lines]).min(lines);
+    from + rng.below(near) * line
 }
 
 /// Empties the L1D ways that hold a half of this L2 line.
@@ -696,10 +845,17 @@ fn drop_l1d_line(record: &mut Record, address: u32) {
     }
 }
 
+/// Empties the L2 way that holds this line.
+fn drop_l2_line(record: &mut Record, address: u32) {
+    if let Some((set, way)) = record.find_l2(address) {
+        record.l2[set].lines[way] = Line::EMPTY;
+    }
+}
+
 /// Empties all ways of L1D that hold a line of this MAR range.
 fn drop_l1d_range(record: &mut Record, number: u32) {
     for line in record.l1d.iter_mut().flat_map(|set| set.lines.iter_mut()) {
-        if mar_number(line.address) == number {
+        if in_range(line, number) {
             *line = Line::EMPTY;
         }
     }
@@ -709,7 +865,7 @@ fn drop_l1d_range(record: &mut Record, number: u32) {
 fn drop_range(record: &mut Record, number: u32) {
     drop_l1d_range(record, number);
     for line in record.l2.iter_mut().flat_map(|set| set.lines.iter_mut()) {
-        if mar_number(line.address) == number {
+        if in_range(line, number) {
             *line = Line::EMPTY;
         }
     }
@@ -913,10 +1069,10 @@ pub fn hot(rng: &mut Rng, l: u32, e: u32) -> Hot {
 pub fn hot_for(rng: &mut Rng, record: &Record) -> Hot {
     let mut hot = hot(rng, record.l, record.e);
     for _ in 0..hot.lines.len() {
-        if let Some((set, way)) = l1d_way(rng, record, true) {
+        if let Some((set, way)) = any_way(rng, &l1d_ways(record, true)) {
             hot.lines.push(record.l1d[set].lines[way].address);
         }
-        if let Some((set, way)) = l2_way(rng, record, true) {
+        if let Some((set, way)) = any_way(rng, &l2_ways(record, true)) {
             hot.lines.push(record.l2[set].lines[way].address + 64 * rng.below(2));
         }
     }

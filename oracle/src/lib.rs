@@ -1,6 +1,7 @@
 //! A reference model of the two-level data memory of paper 01, "The C64x data
 //! memory in two levels". It is written from the sentences of that paper
-//! alone, for obviousness. The sentence a function carries out is quoted
+//! and the readings of its open points in docs/DECISIONS.md, not from the
+//! proved code or its definitions, for obviousness. The sentence a function carries out is quoted
 //! above it.
 
 pub mod access;

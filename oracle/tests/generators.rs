@@ -1,10 +1,12 @@
 //! The generators make what they say, and no content makes a call panic.
 
+use std::collections::BTreeSet;
+
 use oracle::calls::fresh_start;
 use oracle::gen::{
-    any_ill_formed_record, call, command, encode, hot, hot_for, ill_formed_record, look_address,
-    make_length_wrong, senseless_record, sizes, trace, Call, Mix, Rng, Setup, TraceKind,
-    E_BOTH_RANGES, FAULTS, TRACE_KINDS, WRONG_LENGTHS,
+    any_ill_formed_record, call, command, encode, hot, hot_for, ill_formed_record, l_for,
+    look_address, make_length_wrong, senseless_record, sizes, trace, Call, Fault, Mix, Rng, Setup,
+    TraceKind, E_BOTH_RANGES, FAULTS, LEGAL_MODES, TRACE_KINDS, WRONG_LENGTHS,
 };
 use oracle::trace::decode;
 use oracle::wellformed::{broken_clauses, is_well_formed};
@@ -55,20 +57,30 @@ fn every_fault_is_made_and_gets_2() {
     let mut rng = Rng::new(2);
     for fault in FAULTS {
         let mut made = 0;
-        for turn in 0..40 {
-            let (l, _) = sizes(&mut rng);
+        let mut modes = BTreeSet::new();
+        for turn in 0..300 {
+            let mode = LEGAL_MODES[turn % LEGAL_MODES.len()];
+            let l = l_for(&mut rng, mode);
             let e = if turn % 2 == 0 { E_BOTH_RANGES } else { small_e(&mut rng) };
-            let Some(record) = ill_formed_record(&mut rng, l, e, fault) else { continue };
+            let Some(record) = ill_formed_record(&mut rng, l, e, mode, fault) else { continue };
             made += 1;
+            assert_eq!(fault == Fault::IllegalMode, !LEGAL_MODES.contains(&record.mode));
+            if fault != Fault::IllegalMode {
+                assert!(fault.can_stand_in(record.mode));
+                modes.insert(record.mode);
+            }
             assert!(!is_well_formed(&record));
             assert_eq!(broken_clauses(&record), [fault.clause()]);
-            if turn % 2 == 1 {
+            if turn % 8 == 1 {
                 let mut setup = Setup::random(&mut rng, l, e);
                 setup.record = record;
                 refuses_everything(&mut rng, setup, 2);
             }
         }
-        assert!(made >= 10, "{fault:?} {made}");
+        assert!(made >= 20, "{fault:?} {made}");
+        let possible: BTreeSet<u32> =
+            LEGAL_MODES.into_iter().filter(|&mode| fault.can_stand_in(mode)).collect();
+        assert_eq!(modes, possible, "{fault:?}");
     }
     for _ in 0..100 {
         let (l, _) = sizes(&mut rng);

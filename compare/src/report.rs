@@ -1,0 +1,123 @@
+//! A case in words. Numbers in hexadecimal begin with 0x, all others are
+//! decimal.
+
+use oracle::record::{L1dSet, L2Set, Line, Record};
+use oracle::trace::decode;
+use oracle::Command;
+
+use crate::pair::Op;
+use crate::shrink::Case;
+
+/// Bytes in hexadecimal.
+pub fn hex(bytes: &[u8]) -> String {
+    bytes.iter().map(|byte| format!("{byte:#04x}")).collect::<Vec<_>>().join(" ")
+}
+
+/// Prints a case.
+pub fn report(case: &Case) {
+    let setup = &case.start.setup;
+    println!(
+        "memories: L1D {} L2 {} external {} bytes",
+        setup.l1d.len(),
+        setup.l2.len(),
+        setup.ext.len()
+    );
+    for (name, bytes) in [("L1D", &setup.l1d), ("L2", &setup.l2), ("external", &setup.ext)] {
+        if bytes.iter().all(|&byte| byte == 0) {
+            println!("  {name} bytes: all 0");
+        } else {
+            println!("  {name} bytes: random, {} ...", hex(&bytes[..bytes.len().min(16)]));
+        }
+    }
+    report_record(&setup.record);
+    for odd in &case.start.odd {
+        println!("  no bool: {odd:?}");
+    }
+    for (number, op) in case.ops.iter().enumerate() {
+        report_op(number, op);
+    }
+    println!("after call {}: {}", case.difference.op, case.difference.what);
+}
+
+fn report_record(record: &Record) {
+    println!(
+        "record: L {} E {} mode {} MAR {} {}",
+        record.l, record.e, record.mode, record.mar128, record.mar129
+    );
+    for (set, held) in record.l1d.iter().enumerate().filter(|(_, set)| **set != L1dSet::FRESH) {
+        println!("  L1D set {set}: {}", set_words(&held.lines, &held.order));
+    }
+    for (set, held) in record.l2.iter().enumerate().filter(|(_, set)| **set != L2Set::FRESH) {
+        println!("  L2 set {set}: {}", set_words(&held.lines, &held.order));
+    }
+}
+
+/// The ways of a set that are not empty, and its order.
+fn set_words(lines: &[Line], order: &[u8]) -> String {
+    let mut words = String::new();
+    for (way, line) in lines.iter().enumerate().filter(|(_, line)| **line != Line::EMPTY) {
+        let valid = if line.valid { "valid" } else { "invalid" };
+        let dirty = if line.dirty { "dirty" } else { "clean" };
+        words.push_str(&format!("way {way} {valid} {dirty} {:#x}, ", line.address));
+    }
+    format!("{words}order {order:?}")
+}
+
+fn report_op(number: usize, op: &Op) {
+    match op {
+        Op::Fresh => println!("{number}: fresh start"),
+        Op::Record(record) => {
+            print!("{number}: from here on another ");
+            report_record(record);
+        }
+        Op::Direct(command) => println!("{number}: {}", command_words(command)),
+        Op::View { address, buffer } => {
+            println!("{number}: view of {address:#x}, buffer of {buffer} bytes");
+        }
+        Op::Run { trace, answer_bytes } => report_run(number, "run", trace, *answer_bytes),
+        Op::RunAndSingleCalls { trace, answer_bytes } => {
+            report_run(number, "run, then single calls", trace, *answer_bytes);
+        }
+    }
+}
+
+fn report_run(number: usize, name: &str, trace: &[u8], answer_bytes: usize) {
+    println!("{number}: {name}, {answer_bytes} answer bytes, trace {}", hex(trace));
+    for words in trace_words(trace) {
+        println!("     {words}");
+    }
+}
+
+/// The whole commands in front of a trace.
+pub fn trace_words(trace: &[u8]) -> Vec<String> {
+    let mut words = Vec::new();
+    let mut place = 0;
+    while let Some((command, length)) = decode(&trace[place..]) {
+        words.push(command_words(&command));
+        place += length;
+    }
+    words
+}
+
+fn command_words(command: &Command) -> String {
+    let whole = format!("{command:?}");
+    let name = whole.split(' ').next().unwrap_or_default();
+    match *command {
+        Command::Read { size, address } => format!("{name} size {size} address {address:#x}"),
+        Command::Write { size, address, value } => {
+            format!("{name} size {size} address {address:#x} value {value:#x}")
+        }
+        Command::L2BlockWriteback { base, count }
+        | Command::L2BlockWritebackInvalidate { base, count }
+        | Command::L2BlockInvalidate { base, count }
+        | Command::L1dBlockWritebackInvalidate { base, count }
+        | Command::L1dBlockInvalidate { base, count } => {
+            format!("{name} base {base:#x} count {count}")
+        }
+        Command::Mode { mode } => format!("{name} {mode}"),
+        Command::Mar { number, bit } => format!("{name} {number} bit {bit}"),
+        Command::L2WritebackAll | Command::L2WritebackInvalidateAll | Command::L1dInvalidateAll => {
+            whole
+        }
+    }
+}
