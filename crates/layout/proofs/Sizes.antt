@@ -1,7 +1,7 @@
 -- C's structs as the language's machine lays them out: the size of each, and where each field begins. include/c64x.h asserts the same numbers for C, and compare/ for its
 -- declarations. They hold by computing.
 use Prim.Native.Nat.{ℕ}
-use mathlib.Core.List.{List, [], _∷_}
+use mathlib.Core.List.{[], _∷_}
 use mathlib.Core.Option.{Option, none, some}
 use mathlib.Core.Path.{_≡_, refl}
 use mir.Syntax.{Ty}

@@ -1,8 +1,9 @@
 -- Laws of the definitions, which callers cite in place of their text: choices and tests, parts of a memory and bytes stored in it, the order of
--- use, commands in mode 0. No definition stands here.
+-- use, the way that is chosen, commands in mode 0. No definition stands here.
 use Prim.Native.Nat.{ℕ, zero, suc, _<_, _≤_, _%_, _/_, _+_, _-_}
 use mathlib.Core.Bool.{Bool, true, false, cond, _&&_}
 use mathlib.Core.List.{List, [], map, _++_}
+use mathlib.Core.Logic.{_≢_}
 use mathlib.Core.Path.{_≡_, refl, sym, ap, _∙_, subst}
 use native.Mathlib.Omega.{arith}
 use native.Mathlib.Nat.{add-sub-of-le}
@@ -12,9 +13,12 @@ use lib.Dec.{leb, eqb}
 use borrow.Author.Tests.{leb-true, le-leb, lt-leb, eqb-true, eqb-false}
 use Rattle.model.specs.Basics.{each}
 use Rattle.model.specs.Bytes.{splice, part, stored, littleBytes}
-use Rattle.model.specs.Lines.{Permutation2, Permutation4, used2, used4}
+use Rattle.model.specs.Lines.{Permutation2, Permutation4, used2, used4, l1dGet, l2Get}
 use Rattle.model.specs.Records.{State, l2SetsOf}
+use Rattle.model.specs.Ways.{lowestInvalid, l1dVictim, l2Victim}
 use Rattle.model.specs.Commands.{eachL2, unlessMode0}
+use Rattle.model.specs.declared.L1dSet.{L1dSet}
+use Rattle.model.specs.declared.L2Set.{L2Set}
 use Rattle.model.specs.declared.Order2.{Order2}
 use Rattle.model.specs.declared.Order4.{Order4}
 
@@ -131,6 +135,23 @@ used2-permutation o w h p = go (eqb (o .first) w) refl
     go true e = p
     go false e = let n = eqb-false (o .first) w e in omega arith
 
+-- a way put in front of three others, all apart
+in-front : (w a b c : ℕ) → w < 4 → a < 4 → b < 4 → c < 4 → a ≢ w → b ≢ w → c ≢ w → a ≢ b → a ≢ c → b ≢ c →
+    Permutation4 (record { first = w; second = a; third = b; fourth = c })
+in-front w a b c hw ha hb hc aw bw cw ab ac bc =
+    record {
+      below1 = hw;
+      below2 = ha;
+      below3 = hb;
+      below4 = hc;
+      apart12 = λ q. aw (sym q);
+      apart13 = λ q. bw (sym q);
+      apart14 = λ q. cw (sym q);
+      apart23 = ab;
+      apart24 = ac;
+      apart34 = bc;
+    }
+
 pub used4-permutation : (o : Order4) (w : ℕ) → w < 4 → Permutation4 o → Permutation4 (used4 o w)
 unfolding used4
 used4-permutation o w h p = go (eqb (o .first) w) refl (eqb (o .second) w) refl (eqb (o .third) w) refl
@@ -142,47 +163,16 @@ used4-permutation o w h p = go (eqb (o .first) w) refl (eqb (o .second) w) refl 
         (record { first = w; second = o .first; third = o .second; fourth = o .third }))))
     go true e y f z g = p
     go false e true f z g =
-        let n = eqb-false (o .first) w e in let m = eqb-true (o .second) w f in
-        record {
-          below1 = h;
-          below2 = p .below1;
-          below3 = p .below3;
-          below4 = p .below4;
-          apart12 = λ q. n (sym q);
-          apart13 = λ q. p .apart23 (m ∙ q);
-          apart14 = λ q. p .apart24 (m ∙ q);
-          apart23 = p .apart13;
-          apart24 = p .apart14;
-          apart34 = p .apart34;
-        }
+        let m = eqb-true (o .second) w f in
+        in-front w (o .first) (o .third) (o .fourth) h (p .below1) (p .below3) (p .below4)
+        (eqb-false (o .first) w e) (λ q. p .apart23 (m ∙ sym q)) (λ q. p .apart24 (m ∙ sym q)) (p .apart13) (p .apart14) (p .apart34)
     go false e false f true g =
-        let n = eqb-false (o .first) w e in let m = eqb-false (o .second) w f in let k = eqb-true (o .third) w g in
-        record {
-          below1 = h;
-          below2 = p .below1;
-          below3 = p .below2;
-          below4 = p .below4;
-          apart12 = λ q. n (sym q);
-          apart13 = λ q. m (sym q);
-          apart14 = λ q. p .apart34 (k ∙ q);
-          apart23 = p .apart12;
-          apart24 = p .apart14;
-          apart34 = p .apart24;
-        }
+        let k = eqb-true (o .third) w g in
+        in-front w (o .first) (o .second) (o .fourth) h (p .below1) (p .below2) (p .below4)
+        (eqb-false (o .first) w e) (eqb-false (o .second) w f) (λ q. p .apart34 (k ∙ sym q)) (p .apart12) (p .apart14) (p .apart24)
     go false e false f false g =
-        let n = eqb-false (o .first) w e in let m = eqb-false (o .second) w f in let k = eqb-false (o .third) w g in
-        record {
-          below1 = h;
-          below2 = p .below1;
-          below3 = p .below2;
-          below4 = p .below3;
-          apart12 = λ q. n (sym q);
-          apart13 = λ q. m (sym q);
-          apart14 = λ q. k (sym q);
-          apart23 = p .apart12;
-          apart24 = p .apart13;
-          apart34 = p .apart23;
-        }
+        in-front w (o .first) (o .second) (o .third) h (p .below1) (p .below2) (p .below3)
+        (eqb-false (o .first) w e) (eqb-false (o .second) w f) (eqb-false (o .third) w g) (p .apart12) (p .apart13) (p .apart23)
 
 -- what `touch` ensures, from the equation alone
 pub kept2 : {o r : Order2} {w : ℕ} → r ≡ used2 o w → (r ≡ used2 o w) × (w < 2 → Permutation2 o → Permutation2 r)
@@ -191,12 +181,14 @@ kept2 {o} {r} {w} e = (e, λ h p. subst Permutation2 (sym e) (used2-permutation 
 pub kept4 : {o r : Order4} {w : ℕ} → r ≡ used4 o w → (r ≡ used4 o w) × (w < 4 → Permutation4 o → Permutation4 r)
 kept4 {o} {r} {w} e = (e, λ h p. subst Permutation4 (sym e) (used4-permutation o w h p))
 
--- the last way in order is a way of the set: the remainder in `l1dVictim` and `l2Victim` (Ways) changes nothing
-pub last2 : (o : Order2) → Permutation2 o → o .second % 2 ≡ o .second
-last2 o p = let h = p .below2 in omega arith
+-- of a permutation the remainder in the two victims says nothing: "else the last in order"
+pub l1d-victim : (v : L1dSet) → Permutation2 (v .order) → l1dVictim v ≡ lowestInvalid (l1dGet v) 2 0 (v .order .second)
+unfolding l1dVictim
+l1d-victim v p = let h = p .below2 in let e : v .order .second % 2 ≡ v .order .second = omega arith in rw e refl
 
-pub last4 : (o : Order4) → Permutation4 o → o .fourth % 4 ≡ o .fourth
-last4 o p = let h = p .below4 in omega arith
+pub l2-victim : (v : L2Set) → Permutation4 (v .order) → l2Victim v ≡ lowestInvalid (l2Get v) 4 0 (v .order .fourth)
+unfolding l2Victim
+l2-victim v p = let h = p .below4 in let e : v .order .fourth % 4 ≡ v .order .fourth = omega arith in rw e refl
 
 -- ---- L2 has no way to go through in mode 0
 pub no-ways : (f : ℕ → ℕ → State → State) (z : State) → unlessMode0 (eachL2 f) z ≡ eachL2 f z

@@ -26,7 +26,7 @@ unfoldable pub lowestInvalid : (ℕ → Line) → ℕ → ℕ → ℕ → ℕ
 lowestInvalid g zero k last = last
 lowestInvalid g (suc n) k last = cond (g k .valid) (lowestInvalid g n (suc k) last) k
 
--- Of a permutation the remainder is the last way itself (`last2`, `last4` in Laws); it makes the way one of the set for every record.
+-- Of a permutation the remainder is the last way itself (`l1d-victim`, `l2-victim` in Laws); it makes the way one of the set for every record.
 unfoldable pub l1dVictim : L1dSet → ℕ
 l1dVictim v = lowestInvalid (l1dGet v) 2 0 (v .order .second % 2)
 
