@@ -50,7 +50,7 @@ fn main() {
     let mut l2 = io::large_buffer();
     let mut ext = io::large_buffer();
     let mut answers = [0u8; 40960];
-    let start = calls::fresh(&mut l1d, &mut l2, &mut ext);
+    let start = start::fresh(&mut l1d, &mut l2, &mut ext);
     let r = start.record;
     let q = calls::run(r, &input[..n], &mut l1d, &mut l2, &mut ext, &mut answers);
     show_all(&answers, q.count);

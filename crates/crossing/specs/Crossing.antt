@@ -13,7 +13,7 @@ use Rattle.model.specs.Records.{state}
 use Rattle.model.specs.Refusals.{viewDue}
 use Rattle.model.specs.Calls.{Reply, Run, call, runCall, viewCall}
 use Rattle.model.specs.declared.Command.{Command}
-use Rattle.calls.specs.declared.Called.{Called}
+use Rattle.start.specs.declared.Called.{Called}
 use Rattle.layout.specs.Layout.{bitsOnly, recordFromC, recordToC}
 use Rattle.layout.specs.declared.CRecord.{CRecord}
 use Rattle.crossing.specs.declared.CCalled.{CCalled}

@@ -17,9 +17,10 @@ use Rattle.model.specs.Calls.{refused, call, freshCall, runCall, viewCall}
 use Rattle.model.specs.Laws.{bool, cond-true, part-inside, length-part}
 use Rattle.model.specs.declared.Command.{Command}
 use Rattle.model.specs.declared.Record.{Record}
-use Rattle.calls.specs.Called.{view-tells}
-use Rattle.calls.specs.Called as inner
-use Rattle.calls.specs.declared.Called.{Called}
+use Rattle.start.specs.Called.{calledAs}
+use Rattle.start.specs.declared.Called.{Called}
+use Rattle.view.specs.Seen.{view-tells}
+use Rattle.calls.specs.Done.{ranAs}
 use Rattle.calls.specs.declared.RunResult.{RunResult}
 use Rattle.layout.specs.Layout.{bitsOnly, recordFromC, recordToC}
 use Rattle.layout.specs.Back.{record-back}
@@ -56,13 +57,13 @@ pub back-joined : (x : Called) (c : CRecord) → c ≡ recordToC (x .«record»)
 unfolding givenBack
 back-joined x c e = rw e refl
 
-pub back-through : (x : Called) (y : CCalled) (d m e : List ℕ) → y ≡ givenBack x → calledInC y d m e ≡ through (inner.calledAs x d m e)
+pub back-through : (x : Called) (y : CCalled) (d m e : List ℕ) → y ≡ givenBack x → calledInC y d m e ≡ through (calledAs x d m e)
 unfolding givenBack
 back-through x y d m e q = ap (λ (z : CCalled). calledInC z d m e) q
 
 module _ (q : Command) (c : CRecord) (d m e : List ℕ) where
   pub command-read : bitsOnly c ≡ true → (r : Record) → r ≡ recordFromC c → (x : Called) (y : CCalled) (d′ m′ e′ : List ℕ) →
-      inner.calledAs x d′ m′ e′ ≡ call q (state r d m e) → y ≡ givenBack x → calledInC y d′ m′ e′ ≡ commandCall q c d m e
+      calledAs x d′ m′ e′ ≡ call q (state r d m e) → y ≡ givenBack x → calledInC y d′ m′ e′ ≡ commandCall q c d m e
   unfolding commandCall
   command-read b r er x y d′ m′ e′ ex ey =
       back-through x y d′ m′ e′ ey ∙ ap through ex ∙ ap (λ (s : Record). through (call q (state s d m e))) er
@@ -73,13 +74,13 @@ module _ (q : Command) (c : CRecord) (d m e : List ℕ) where
   command-unread b n en = rw (b, en) refl
 
 pub fresh-back : (d m e : List ℕ) (x : Called) (y : CCalled) (d′ m′ e′ : List ℕ) →
-    inner.calledAs x d′ m′ e′ ≡ freshCall d m e → y ≡ givenBack x → calledInC y d′ m′ e′ ≡ through (freshCall d m e)
+    calledAs x d′ m′ e′ ≡ freshCall d m e → y ≡ givenBack x → calledInC y d′ m′ e′ ≡ through (freshCall d m e)
 fresh-back d m e x y d′ m′ e′ ex ey = back-through x y d′ m′ e′ ey ∙ ap through ex
 
 -- ---- a run
 module _ (t o : List ℕ) (c : CRecord) (d m e : List ℕ) where
   pub run-read : bitsOnly c ≡ true → (r : Record) → r ≡ recordFromC c → (x : RunResult) (w : CRecord) (d′ m′ e′ o′ : List ℕ) →
-      inner.ranAs x d′ m′ e′ o′ ≡ runCall t o (state r d m e) → w ≡ recordToC (x .«record») →
+      ranAs x d′ m′ e′ o′ ≡ runCall t o (state r d m e) → w ≡ recordToC (x .«record») →
       cRan w d′ m′ e′ (x .consumed) (x .count) (x .stop) o′ ≡ runBy t o c d m e
   unfolding runBy
   run-read b r er x w d′ m′ e′ o′ ex ew =

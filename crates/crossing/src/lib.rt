@@ -5,7 +5,6 @@ ghost use Rattle.model.specs.Trace.{command};
 ghost use Rattle.model.specs.Calls.{freshCall};
 ghost use Rattle.crossing.specs.Crossing.{sizesAlike, unreadDue, calledInC, ranInC, seenAs, through, givenBack, commandCall, runBy, viewNumber, viewInto};
 use layout::CRecord;
-use model::Command;
 
 // What a call returns: the number of its refusal (0: accepted), the server and the value of an access, and the record after it.
 #[repr(C)]
@@ -49,7 +48,7 @@ fn unread_due(l2len: u32, extlen: u32, l1d: &[u8], l2: &[u8], ext: &[u8]) -> u8
 }
 
 // ---- a command, through the record that C's stands for
-fn given_back(x: calls::Called) -> CCalled
+fn given_back(x: start::Called) -> CCalled
     ensures { λ y. ⌜ y ≡ givenBack x ⌝ }
 {
     let after = x.record;
@@ -77,13 +76,7 @@ pub fn carry_out(
 {
     if layout::bits(c) {
         let r = layout::record_in(c);
-        let q = Command {
-            code: code,
-            first: first,
-            second: second,
-            value: value,
-        };
-        return given_back(calls::one_command(r, q, l1d, l2, ext));
+        return given_back(calls::one_command(r, code, first, second, value, l1d, l2, ext));
     }
     CCalled {
         value: 0,
@@ -98,7 +91,7 @@ pub fn fresh(l1d: &mut [u8], l2: &mut [u8], ext: &mut [u8]) -> CCalled
     ensures { λ x. ⌜ calledInC x (now (l1d .exit)) (now (l2 .exit)) (now (ext .exit))
         ≡ through (freshCall (now (l1d .entry)) (now (l2 .entry)) (now (ext .entry))) ⌝ }
 {
-    given_back(calls::fresh(l1d, l2, ext))
+    given_back(start::fresh(l1d, l2, ext))
 }
 
 // A run over a trace; one answer of ten bytes for each command.
@@ -139,7 +132,7 @@ pub fn view_due(c: CRecord, address: u32, l2: &[u8], ext: &[u8]) -> u8
 {
     if layout::bits(c) {
         let r = layout::record_in(c);
-        return calls::view_number(r, l2, ext, address);
+        return view::view_number(r, l2, ext, address);
     }
     if sizes_alike(c.l2len, c.extlen, l2, ext) {
         return 2;
@@ -159,7 +152,7 @@ pub fn view<'a>(c: CRecord, address: u32, l2: &'a [u8], ext: &'a [u8], seen: &mu
         return number;
     }
     let r = layout::record_in(c);
-    let part = calls::view(r, l2, ext, address);
+    let part = view::view(r, l2, ext, address);
     memory::move64(seen, 0, part, 0);
     0
 }

@@ -4,21 +4,9 @@ ghost use mathlib.Core.Path.{_≡_};
 ghost use Rattle.model.specs.Records.{state};
 ghost use Rattle.model.specs.Trace.{command};
 ghost use Rattle.model.specs.Calls.{call};
-ghost use Rattle.calls.specs.Called.{calledAs};
-use calls::Called;
-use model::Command;
+ghost use Rattle.start.specs.Called.{calledAs};
 use model::Record;
-
-fn command(code: u8, first: u32, second: u32, value: u64) -> Command
-    ensures { λ c. ⌜ c ≡ command code first second value ⌝ }
-{
-    Command {
-        code: code,
-        first: first,
-        second: second,
-        value: value,
-    }
-}
+use start::Called;
 
 pub fn read(
     r: Record,
@@ -30,7 +18,7 @@ pub fn read(
 ) -> Called
     ensures { λ x. ⌜ calledAs x (now (l1d .exit)) (now (l2 .exit)) (now (ext .exit)) ≡ call (command 0 size address 0) (state r (now (l1d .entry)) (now (l2 .entry)) (now (ext .entry))) ⌝ }
 {
-    calls::one_command(r, command(0, size, address, 0), l1d, l2, ext)
+    calls::one_command(r, 0, size, address, 0, l1d, l2, ext)
 }
 
 pub fn write(
@@ -44,13 +32,13 @@ pub fn write(
 ) -> Called
     ensures { λ x. ⌜ calledAs x (now (l1d .exit)) (now (l2 .exit)) (now (ext .exit)) ≡ call (command 1 size address value) (state r (now (l1d .entry)) (now (l2 .entry)) (now (ext .entry))) ⌝ }
 {
-    calls::one_command(r, command(1, size, address, value), l1d, l2, ext)
+    calls::one_command(r, 1, size, address, value, l1d, l2, ext)
 }
 
 pub fn l2_writeback_all(r: Record, l1d: &mut [u8], l2: &mut [u8], ext: &mut [u8]) -> Called
     ensures { λ x. ⌜ calledAs x (now (l1d .exit)) (now (l2 .exit)) (now (ext .exit)) ≡ call (command 2 0 0 0) (state r (now (l1d .entry)) (now (l2 .entry)) (now (ext .entry))) ⌝ }
 {
-    calls::one_command(r, command(2, 0, 0, 0), l1d, l2, ext)
+    calls::one_command(r, 2, 0, 0, 0, l1d, l2, ext)
 }
 
 pub fn l2_writeback_invalidate_all(
@@ -61,7 +49,7 @@ pub fn l2_writeback_invalidate_all(
 ) -> Called
     ensures { λ x. ⌜ calledAs x (now (l1d .exit)) (now (l2 .exit)) (now (ext .exit)) ≡ call (command 3 0 0 0) (state r (now (l1d .entry)) (now (l2 .entry)) (now (ext .entry))) ⌝ }
 {
-    calls::one_command(r, command(3, 0, 0, 0), l1d, l2, ext)
+    calls::one_command(r, 3, 0, 0, 0, l1d, l2, ext)
 }
 
 pub fn l2_writeback_block(
@@ -74,7 +62,7 @@ pub fn l2_writeback_block(
 ) -> Called
     ensures { λ x. ⌜ calledAs x (now (l1d .exit)) (now (l2 .exit)) (now (ext .exit)) ≡ call (command 4 base count 0) (state r (now (l1d .entry)) (now (l2 .entry)) (now (ext .entry))) ⌝ }
 {
-    calls::one_command(r, command(4, base, count, 0), l1d, l2, ext)
+    calls::one_command(r, 4, base, count, 0, l1d, l2, ext)
 }
 
 pub fn l2_writeback_invalidate_block(
@@ -87,7 +75,7 @@ pub fn l2_writeback_invalidate_block(
 ) -> Called
     ensures { λ x. ⌜ calledAs x (now (l1d .exit)) (now (l2 .exit)) (now (ext .exit)) ≡ call (command 5 base count 0) (state r (now (l1d .entry)) (now (l2 .entry)) (now (ext .entry))) ⌝ }
 {
-    calls::one_command(r, command(5, base, count, 0), l1d, l2, ext)
+    calls::one_command(r, 5, base, count, 0, l1d, l2, ext)
 }
 
 pub fn l2_invalidate_block(
@@ -100,7 +88,7 @@ pub fn l2_invalidate_block(
 ) -> Called
     ensures { λ x. ⌜ calledAs x (now (l1d .exit)) (now (l2 .exit)) (now (ext .exit)) ≡ call (command 6 base count 0) (state r (now (l1d .entry)) (now (l2 .entry)) (now (ext .entry))) ⌝ }
 {
-    calls::one_command(r, command(6, base, count, 0), l1d, l2, ext)
+    calls::one_command(r, 6, base, count, 0, l1d, l2, ext)
 }
 
 pub fn l1d_writeback_invalidate_block(
@@ -113,7 +101,7 @@ pub fn l1d_writeback_invalidate_block(
 ) -> Called
     ensures { λ x. ⌜ calledAs x (now (l1d .exit)) (now (l2 .exit)) (now (ext .exit)) ≡ call (command 7 base count 0) (state r (now (l1d .entry)) (now (l2 .entry)) (now (ext .entry))) ⌝ }
 {
-    calls::one_command(r, command(7, base, count, 0), l1d, l2, ext)
+    calls::one_command(r, 7, base, count, 0, l1d, l2, ext)
 }
 
 pub fn l1d_invalidate_block(
@@ -126,19 +114,19 @@ pub fn l1d_invalidate_block(
 ) -> Called
     ensures { λ x. ⌜ calledAs x (now (l1d .exit)) (now (l2 .exit)) (now (ext .exit)) ≡ call (command 8 base count 0) (state r (now (l1d .entry)) (now (l2 .entry)) (now (ext .entry))) ⌝ }
 {
-    calls::one_command(r, command(8, base, count, 0), l1d, l2, ext)
+    calls::one_command(r, 8, base, count, 0, l1d, l2, ext)
 }
 
 pub fn l1d_invalidate_all(r: Record, l1d: &mut [u8], l2: &mut [u8], ext: &mut [u8]) -> Called
     ensures { λ x. ⌜ calledAs x (now (l1d .exit)) (now (l2 .exit)) (now (ext .exit)) ≡ call (command 9 0 0 0) (state r (now (l1d .entry)) (now (l2 .entry)) (now (ext .entry))) ⌝ }
 {
-    calls::one_command(r, command(9, 0, 0, 0), l1d, l2, ext)
+    calls::one_command(r, 9, 0, 0, 0, l1d, l2, ext)
 }
 
 pub fn change_mode(r: Record, mode: u32, l1d: &mut [u8], l2: &mut [u8], ext: &mut [u8]) -> Called
     ensures { λ x. ⌜ calledAs x (now (l1d .exit)) (now (l2 .exit)) (now (ext .exit)) ≡ call (command 10 mode 0 0) (state r (now (l1d .entry)) (now (l2 .entry)) (now (ext .entry))) ⌝ }
 {
-    calls::one_command(r, command(10, mode, 0, 0), l1d, l2, ext)
+    calls::one_command(r, 10, mode, 0, 0, l1d, l2, ext)
 }
 
 pub fn change_mar(
@@ -151,5 +139,5 @@ pub fn change_mar(
 ) -> Called
     ensures { λ x. ⌜ calledAs x (now (l1d .exit)) (now (l2 .exit)) (now (ext .exit)) ≡ call (command 11 mar bit 0) (state r (now (l1d .entry)) (now (l2 .entry)) (now (ext .entry))) ⌝ }
 {
-    calls::one_command(r, command(11, mar, bit, 0), l1d, l2, ext)
+    calls::one_command(r, 11, mar, bit, 0, l1d, l2, ext)
 }

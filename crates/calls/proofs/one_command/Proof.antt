@@ -1,13 +1,31 @@
 -- `calls::one_command` meets its contract: the checks, then the one step of the loop.
-use Rattle.turns.specs.Executed.{executedAs}
-use Rattle.calls.specs.Called.{call-refused, call-done}
-use Rattle.model.specs.Records.{state}
+use Rattle.turns.specs.Executed.{Executed, executedAs}
+use Rattle.calls.specs.Done.{call-refused, call-done}
+use Rattle.model.specs.Records.{State, state}
+use Rattle.model.specs.Trace.{command}
+use Rattle.model.specs.declared.Command.{Command}
 use lib.ListN.{length-replicate, replicate}
 use Prim.Native.Nat.{ℕ}
 use borrow.Author.Needs.{needs}
 use Rattle.calls.proofs.one_command.Statement.{statement}
 use Rattle.calls.proofs.one_command.Tie as tie
 
+-- ---- the way back from the checks to the arguments; what is lent, the command that is asked for, and what the loop gave
+abbrev at-start : tie.After-lent-due → tie.Start
+at-start c = c .before .before .before .before .before .before .before
+
+abbrev lent : tie.Start → State
+lent c = state (c .args .r) (c .args .l1d .now) (c .args .l2 .now) (c .args .ext .now)
+
+abbrev asked : tie.Start → Command
+asked c = command (c .args .code) (c .args .first) (c .args .second) (c .args .value)
+
+abbrev executed : tie.After-execute → Executed
+executed c =
+    let last = c .execute .last .1 .1 .1 .1 in
+    executedAs (c .execute .result) (last .0) (last .1 .0) (last .1 .1 .0) (last .1 .1 .1 .0)
+
+-- ---- the needs
 lent-due-requires : tie.Need-lent-due-requires
 lent-due-requires c κs = search needs
 
@@ -27,9 +45,9 @@ returns : tie.Need-returns
 returns c =
     let p-if1 = c .before in
     let p-lent-due = p-if1 .before in
-    let p-args = p-lent-due .before .before .before .before .before .before .before in
-    let a = p-args .args in
-    rw (c .answered .ensures) (call-refused (state (a .r) (a .l1d .now) (a .l2 .now) (a .ext .now)) (p-lent-due .lent-due .result) (p-lent-due .lent-due .ensures) (a .c) (p-if1 .if1 .taken))
+    let start = at-start p-lent-due in
+    rw (c .answered .ensures)
+    (call-refused (lent start) (p-lent-due .lent-due .result) (p-lent-due .lent-due .ensures) (asked start) (p-if1 .if1 .taken))
 
 slice-aggregate-execute : tie.Need-slice-aggregate-execute
 slice-aggregate-execute c = search needs
@@ -54,9 +72,9 @@ returns-2 c =
     let p-execute = c .before .before .before .before .before .before .before .before .before in
     let p-if1 = p-execute .before .before .before .before .before .before in
     let p-lent-due = p-if1 .before in
-    let p-args = p-lent-due .before .before .before .before .before .before .before in
-    let a = p-args .args in
-    call-done (state (a .r) (a .l1d .now) (a .l2 .now) (a .ext .now)) (p-lent-due .lent-due .result) (p-lent-due .lent-due .ensures) (a .c) (replicate 1 0) (replicate 10 0) (executedAs (p-execute .execute .result) (p-execute .execute .last .1 .1 .1 .1 .0) (p-execute .execute .last .1 .1 .1 .1 .1 .0) (p-execute .execute .last .1 .1 .1 .1 .1 .1 .0) (p-execute .execute .last .1 .1 .1 .1 .1 .1 .1 .0)) (p-if1 .if1 .left) (length-replicate {A = ℕ} 10 0) (p-execute .execute .ensures)
+    let start = at-start p-lent-due in
+    call-done (lent start) (p-lent-due .lent-due .result) (p-lent-due .lent-due .ensures) (asked start) (replicate 1 0) (replicate 10 0)
+    (executed p-execute) (p-if1 .if1 .left) (length-replicate {A = ℕ} 10 0) (p-execute .execute .ensures)
 
 pub one-command-spec : {M : Type 1} → statement M
 one-command-spec =

@@ -1,6 +1,6 @@
 -- `calls::run` meets its contract: the checks, then the loop over the trace.
 use Rattle.turns.specs.Executed.{executedAs}
-use Rattle.calls.specs.Called.{run-refused, run-done}
+use Rattle.calls.specs.Done.{run-refused, run-done}
 use Rattle.model.specs.Records.{state}
 use borrow.Author.Needs.{needs}
 use Rattle.calls.proofs.run.Statement.{statement}

@@ -1,5 +1,5 @@
 -- `crossing::view` meets its contract: a short buffer, then a number that is due, leave the buffer as it is; else its front gets the 64 bytes that
--- `calls::view` gives, all of them since none is due. Assumes nothing.
+-- `view::view` gives, all of them since none is due. Assumes nothing.
 use Rattle.crossing.specs.Joined.{view-short, view-refused, view-done}
 use borrow.Author.Needs.{needs}
 use Rattle.crossing.proofs.view.Statement.{statement}
