@@ -29,7 +29,8 @@ pub kept-none : {f : ℕ → State → State} {n : ℕ} {r : Record} {l m e : Li
 unfolding each
 kept-none = record { within = omega arith; l2Long = refl; extLong = refl; mode = refl; l2len = refl; made = refl }
 
-pub kept-next : {f : ℕ → State → State} {n : ℕ} {r₀ : Record} {l m₀ e₀ : List ℕ} {k : ℕ} {r : Record} {m e : List ℕ} → Kept f n r₀ l m₀ e₀ k r m e → k < n →
+pub kept-next : {f : ℕ → State → State} {n : ℕ} {r₀ : Record} {l m₀ e₀ : List ℕ} {k : ℕ} {r : Record} {m e : List ℕ} → Kept f n r₀ l m₀ e₀ k r m e →
+    k < n →
     (r′ : Record) (m′ e′ : List ℕ) → length m′ ≡ length m → length e′ ≡ length e → r′ .mode ≡ r .mode → r′ .l2len ≡ r .l2len →
     state r′ l m′ e′ ≡ f k (state r l m e) → Kept f n r₀ l m₀ e₀ (k + 1) r′ m′ e′
 unfolding each

@@ -83,11 +83,17 @@ cases =
 
 pub cases-hold : map (λ (c : Case). c .given) cases ≡ map (λ (c : Case). c .stated) cases
 unfolding
-    after cases each anyOf allIndexed part stored splice little littleBytes zeroFrom legalL2 legalExternal cacheSize isMode l2Slot used2 used4 l1dPut l2Put l1dUse l2Use
-    wayHolding lowestInvalid l1dFind l2Find l1dVictim l2Victim holds marBit withL1dLine withL2Line freshRecord freshState legalSizes permuted2 permuted4 emptyWay
-    ownL1dSet ownL2Set inSram inCacheable l1dRegion l2Region coveredByL2 insideL2Line l1dPlace l2Place l1dLineOk l2LineOk noneTwice freshUnlessUsed l1dSetOk l2SetOk wellFormed l1dWay l2Way inL1d inL2 cacheable homeIsL2 memoryPart putMemory
-    useL1d useL2 emptyL1d emptyL2 putL2 putL1d putHome writebackL1d evictL1d takeHalf takeHalves writeOutL2 writebackL2 evictL2 fillL2 l2WayFor fetchL2 homeLine fillL1d homeServer
-    readHit readFilled readEmptied readMiss readAccess writeHit writeHome writeMiss writeAccess changeMar holdsRange inRange blockEnd smaller linesTouched eachL2 unlessMode0
-    l2WritebackInvalidateAll lentL1d lentL2 lentExternal lentDue sizeOk placeOk valueOk accessDue blockDue marDue moreGroups groups numberBelow oneNumber decodeAfter decode
+    after cases each anyOf allIndexed part stored splice little littleBytes zeroFrom legalL2 legalExternal cacheSize isMode l2Slot used2 used4 l1dPut
+    l2Put l1dUse l2Use
+    wayHolding lowestInvalid l1dFind l2Find l1dVictim l2Victim holds marBit withL1dLine withL2Line freshRecord freshState legalSizes permuted2
+    permuted4 emptyWay
+    ownL1dSet ownL2Set inSram inCacheable l1dRegion l2Region coveredByL2 insideL2Line l1dPlace l2Place l1dLineOk l2LineOk noneTwice freshUnlessUsed
+    l1dSetOk l2SetOk wellFormed l1dWay l2Way inL1d inL2 cacheable homeIsL2 memoryPart putMemory
+    useL1d useL2 emptyL1d emptyL2 putL2 putL1d putHome writebackL1d evictL1d takeHalf takeHalves writeOutL2 writebackL2 evictL2 fillL2 l2WayFor
+    fetchL2 homeLine fillL1d homeServer
+    readHit readFilled readEmptied readMiss readAccess writeHit writeHome writeMiss writeAccess changeMar holdsRange inRange blockEnd smaller
+    linesTouched eachL2 unlessMode0
+    l2WritebackInvalidateAll lentL1d lentL2 lentExternal lentDue sizeOk placeOk valueOk accessDue blockDue marDue moreGroups groups numberBelow
+    oneNumber decodeAfter decode
     commandDue readDone writeDone commandState accepted step call runFrom
 cases-hold = refl

@@ -99,7 +99,12 @@ module _ (l : ℕ) (c : Command) where
   unfolding operandsDue
   due-below-4 k =
       let low : c .code ≤ 11 = omega arith in
-      rw (lt-leb 4 (c .code) k, ne-eqb (c .code) 10 (λ e. absurd (omega arith)), ne-eqb (c .code) 11 (λ e. absurd (omega arith)), le-leb (c .code) 11 low) refl
+      rw (
+        lt-leb 4 (c .code) k,
+        ne-eqb (c .code) 10 (λ e. absurd (omega arith)),
+        ne-eqb (c .code) 11 (λ e. absurd (omega arith)),
+        le-leb (c .code) 11 low,
+      ) refl
 
   pub due-block : 4 ≤ c .code → c .code ≤ 8 → blockDue (c .first) (c .second) ≡ operandsDue l c
   unfolding operandsDue
@@ -121,7 +126,13 @@ module _ (l : ℕ) (c : Command) where
   unfolding operandsDue
   due-unknown k =
       let four : 4 ≤ c .code = omega arith in let eight : 8 < c .code = omega arith in
-      rw (le-leb 4 (c .code) four, lt-leb (c .code) 8 eight, ne-eqb (c .code) 10 (λ e. absurd (omega arith)), ne-eqb (c .code) 11 (λ e. absurd (omega arith)), lt-leb (c .code) 11 k) refl
+      rw (
+        le-leb 4 (c .code) four,
+        lt-leb (c .code) 8 eight,
+        ne-eqb (c .code) 10 (λ e. absurd (omega arith)),
+        ne-eqb (c .code) 11 (λ e. absurd (omega arith)),
+        lt-leb (c .code) 11 k,
+      ) refl
 
   -- the one code from 11 on that no number is due for
   pub accepted-mar : operandsDue l c ≡ 0 → 11 ≤ c .code → c .code ≡ 11

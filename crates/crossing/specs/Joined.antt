@@ -29,7 +29,8 @@ use Rattle.crossing.specs.Crossing.{cReply, calledInC, through, givenBac
 use Rattle.crossing.specs.declared.CCalled.{CCalled}
 
 -- ---- a refused call gives C's record back as it was given
-pub refused-back : (n : ℕ) (c : CRecord) (d m e : List ℕ) → bitsOnly c ≡ true → through (refused n (state (recordFromC c) d m e)) ≡ cReply n 0 0 c d m e
+pub refused-back : (n : ℕ) (c : CRecord) (d m e : List ℕ) → bitsOnly c ≡ true →
+    through (refused n (state (recordFromC c) d m e)) ≡ cReply n 0 0 c d m e
 refused-back n c d m e b = ap (λ (r : CRecord). cReply n 0 0 r d m e) (record-back c b)
 
 -- ---- a record that has no counterpart

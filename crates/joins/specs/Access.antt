@@ -29,7 +29,8 @@ use Rattle.joins.specs.Sets.{set-again, keep-l1d, withSets}
 abbrev pub checked : Command → ℕ
 checked c = cond (isWrite c) (c .value) 0
 
-pub access-due : (c : Command) (z : State) → c .code < 2 → accessDue (sramOf (z .rec)) (z .rec .extlen) (c .first) (c .second) (checked c) ≡ commandDue c z
+pub access-due : (c : Command) (z : State) → c .code < 2 →
+    accessDue (sramOf (z .rec)) (z .rec .extlen) (c .first) (c .second) (checked c) ≡ commandDue c z
 unfolding commandDue
 access-due c z h =
     bool (isWrite c)
@@ -44,7 +45,8 @@ pub access-accepted : (c : Command) (z : State) → c .code < 2 → commandDue c
 unfolding step accepted
 access-accepted c z h d =
     bool (isWrite c)
-    (λ w. let e = eqb-true (c .code) 1 w in let n : c .code ≢ 0 = λ k. let j = k in absurd (omega arith) in rw (eq-eqb (commandDue c z) 0 d, w, ne-eqb (c .code) 0 n) refl)
+    (λ w. let e = eqb-true (c .code) 1 w in let n : c .code ≢ 0 = λ k. let j = k in absurd (omega arith) in
+    rw (eq-eqb (commandDue c z) 0 d, w, ne-eqb (c .code) 0 n) refl)
     (λ w. let n = eqb-false (c .code) 1 w in let e : c .code ≡ 0 = omega arith in rw (eq-eqb (commandDue c z) 0 d, w, eq-eqb (c .code) 0 e) refl)
 
 -- what is not cacheable is external
@@ -58,7 +60,8 @@ module _ (r : Record) (l m e : List ℕ) (c : Command) where
   z = state r l m e
 
   abbrev fronted : ℕ → Fronted → Reply
-  fronted i f = reply (f .out .answer .number) (f .out .answer .server) (f .out .answer .value) (state (withL1dSet r i (f .out .set)) (f .l1d) m (f .ext))
+  fronted i f =
+      reply (f .out .answer .number) (f .out .answer .server) (f .out .answer .value) (state (withL1dSet r i (f .out .set)) (f .l1d) m (f .ext))
 
   direct-done : cacheable r (c .second) ≡ false → reply 0 4 (direct c e .value) (state r l m (direct c e .ext)) ≡ performed c z
   unfolding direct writeDone readDone writeAccess readAccess memoryPart putMemory
@@ -67,7 +70,8 @@ module _ (r : Record) (l m e : List ℕ) (c : Command) where
       bool (isWrite c) (λ w. rw (w, k, b) refl) (λ w. rw (w, k, b) refl)
 
   hit-done : cacheable r (c .second) ≡ true → ltb (l1dFind (l1dSetAt r (l1dSetOf (c .second))) (l1dLine (c .second))) 2 ≡ true →
-      (h : Hit) → h ≡ hit (l1dSetAt r (l1dSetOf (c .second))) (l1dSetOf (c .second)) (l1dFind (l1dSetAt r (l1dSetOf (c .second))) (l1dLine (c .second))) c l →
+      (h : Hit) →
+      h ≡ hit (l1dSetAt r (l1dSetOf (c .second))) (l1dSetOf (c .second)) (l1dFind (l1dSetAt r (l1dSetOf (c .second))) (l1dLine (c .second))) c l →
       reply 0 1 (h .out .value) (state (withL1dSet r (l1dSetOf (c .second)) (h .out .set)) (h .l1d) m e) ≡ performed c z
   unfolding hit writeDone readDone writeAccess readAccess inL1d l1dWay readHit writeHit useL1d putL1d withL1dLine
   hit-done k f h eh =
@@ -75,10 +79,13 @@ module _ (r : Record) (l m e : List ℕ) (c : Command) where
       (λ w. rw (eh, w, k, f)
       (ap (λ (ls : List L1dSet). reply 0 1 0 (state (withSets r ls (r .l2)) (stored l (l1dData (l1dSetOf (c .second)) (l1dFind (l1dSetAt r (l1dSetOf (c .second))) (l1dLine (c .second))) + c .second % 64) (written c)) m e))
       (sym (set-again (λ (s : L1dSet). l1dUse s (l1dFind (l1dSetAt r (l1dSetOf (c .second))) (l1dLine (c .second)))) (r .l1d) (l1dSetOf (c .second))
-      (l1dPut (l1dSetAt r (l1dSetOf (c .second))) (l1dFind (l1dSetAt r (l1dSetOf (c .second))) (l1dLine (c .second))) (lineOf (l1dGet (l1dSetAt r (l1dSetOf (c .second))) (l1dFind (l1dSetAt r (l1dSetOf (c .second))) (l1dLine (c .second))) .address) true)) noL1dSet))))
+      (l1dPut (l1dSetAt r (l1dSetOf (c .second))) (l1dFind (l1dSetAt r (l1dSetOf (c .second))) (l1dLine (c .second)))
+      (lineOf (l1dGet (l1dSetAt r (l1dSetOf (c .second))) (l1dFind (l1dSetAt r (l1dSetOf (c .second))) (l1dLine (c .second))) .address) true))
+      noL1dSet))))
       (λ w. rw (eh, w, k, f) refl)
 
-  pub front-done : (i due : ℕ) (cached : Bool) (f : Fronted) → c .code < 2 → i ≡ l1dSetOf (c .second) → due ≡ commandDue c z → cached ≡ cacheable r (c .second) →
+  pub front-done : (i due : ℕ) (cached : Bool) (f : Fronted) → c .code < 2 → i ≡ l1dSetOf (c .second) → due ≡ commandDue c z →
+      cached ≡ cacheable r (c .second) →
       f ≡ frontOut (l1dSetAt r i) i due cached c l e → f .out .done ≡ true → fronted i f ≡ step c z
   unfolding frontOut step
   front-done i due cached f h ei ed ec ef dn =
@@ -86,7 +93,9 @@ module _ (r : Record) (l m e : List ℕ) (c : Command) where
       (λ t. let d0 = eqb-true (commandDue c z) 0 t in
       bool (cacheable r (c .second))
       (λ k. bool (ltb (l1dFind (l1dSetAt r (l1dSetOf (c .second))) (l1dLine (c .second))) 2)
-      (λ g. ap (fronted i) (rw (ed, ec, ei, t, k, g) at ef) ∙ rw ei (hit-done k g (hit (l1dSetAt r (l1dSetOf (c .second))) (l1dSetOf (c .second)) (l1dFind (l1dSetAt r (l1dSetOf (c .second))) (l1dLine (c .second))) c l) refl) ∙ access-accepted c z h d0)
+      (λ g. ap (fronted i) (rw (ed, ec, ei, t, k, g) at ef) ∙ rw ei (hit-done k g
+      (hit (l1dSetAt r (l1dSetOf (c .second))) (l1dSetOf (c .second)) (l1dFind (l1dSetAt r (l1dSetOf (c .second))) (l1dLine (c .second))) c
+      l) refl) ∙ access-accepted c z h d0)
       (λ g. false-true (sym (ap (λ (x : Fronted). x .out .done) (rw (ed, ec, ei, t, k, g) at ef)) ∙ dn)))
       (λ k. ap (fronted i) (rw (ed, ec, t, k) at ef)
       ∙ ap (λ (x : Record). reply 0 4 (direct c e .value) (state x l m (direct c e .ext))) (keep-l1d r i)

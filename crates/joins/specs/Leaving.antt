@@ -109,7 +109,8 @@ module _ (r : Record) (l m e : List ℕ) (t v i j : ℕ) (h₁ h₂ : Taken) (d 
       let o : h₁ ≡ takeHalf (l1dSetAt r i) true (x .address) (l2Data r t v) l m = q .one ∙ ap (λ (b : Bool). takeHalf (l1dSetAt r i) b (x .address) (l2Data r t v) l m) k in
       let w : h₂ ≡ takeHalf (l1dSetAt (withL1dSet r i (h₁ .out .set)) j) true (upperHalf (x .address)) (l2Data r t v) l (h₁ .l2)
       = q .two ∙ ap (λ (b : Bool). takeHalf (l1dSetAt (withL1dSet r i (h₁ .out .set)) j) b (upperHalf (x .address)) (l2Data r t v) l (h₁ .l2)) k in
-      half-taken (withSets r (set (r .l1d) i (h₁ .out .set)) (mark (h₁ .out .dirty) (r .l2) t v)) l (h₁ .l2) e t v (upperHalf (x .address)) j h₂ (q .high) w
+      half-taken (withSets r (set (r .l1d) i (h₁ .out .set)) (mark (h₁ .out .dirty) (r .l2) t v)) l (h₁ .l2) e t v (upperHalf (x .address)) j h₂
+      (q .high) w
       ∙ ap (Model.takeHalf t v (upperHalf (x .address))) (half-taken r l m e t v (x .address) i h₁ (q .low) o)
 
   twice-line : x .valid ≡ true → lineIn twice t v ≡ record { valid = true; dirty = h₂ .out .dirty || (h₁ .out .dirty || x .dirty); address = x .address }
@@ -126,14 +127,17 @@ module _ (r : Record) (l m e : List ℕ) (t v i j : ℕ) (h₁ h₂ : Taken) (d 
   outBy y z =
       cond (y .valid)
       (cond (y .dirty)
-      (state (withL2Line (z .rec) t v (lineOf (y .address) false)) (z .l1d) (z .l2) (stored (z .ext) (y .address - externalBase) (part (z .l2) (l2Data (z .rec) t v) 128))) z) z
+      (state (withL2Line (z .rec) t v (lineOf (y .address) false)) (z .l1d) (z .l2)
+      (stored (z .ext) (y .address - externalBase) (part (z .l2) (l2Data (z .rec) t v) 128)))
+      z) z
 
   goes-dirty : x .valid ≡ true → d ≡ (h₂ .out .dirty || (h₁ .out .dirty || x .dirty))
   unfolding goesOut
   goes-dirty k = q .goes ∙ rw k (turned (x .dirty) (h₁ .out .dirty) (h₂ .out .dirty))
 
   out-twice : x .valid ≡ true →
-      state (withSets r rest (cond d (putLine (r .l2) t v (lineOf (x .address) false)) twice)) l (h₂ .l2) e₂ ≡ writeOutL2 t v (state (withSets r rest twice) l (h₂ .l2) e)
+      state (withSets r rest (cond d (putLine (r .l2) t v (lineOf (x .address) false)) twice)) l (h₂ .l2) e₂ ≡ writeOutL2 t v
+      (state (withSets r rest twice) l (h₂ .l2) e)
   unfolding writeOutL2 writeOut withL2Line
   out-twice k =
       let g = goes-dirty k in
@@ -142,7 +146,8 @@ module _ (r : Record) (l m e : List ℕ) (t v i j : ℕ) (h₁ h₂ : Taken) (d 
       ∙ ap (λ (y : Line). outBy y (state (withSets r rest twice) l (h₂ .l2) e)) (sym (twice-line k)) in
       bool d
       (λ b. rw (q .out, b)
-      (ap (λ (ls : List L2Set). state (withSets r rest ls) l (h₂ .l2) (stored e (x .address - externalBase) (part (h₂ .l2) (l2Data r t v) 128))) (sym (twice-put (lineOf (x .address) false)))
+      (ap (λ (ls : List L2Set). state (withSets r rest ls) l (h₂ .l2) (stored e (x .address - externalBase) (part (h₂ .l2) (l2Data r t v) 128)))
+      (sym (twice-put (lineOf (x .address) false)))
       ∙ (rw b at by)))
       (λ b. rw (q .out, b) (rw b at by))
 
@@ -171,7 +176,8 @@ module _ (r : Record) (l m e : List ℕ) (t v i j : ℕ) (h₁ h₂ : Taken) (d 
   unfolding writebackL2
   wrote-back =
       bool (x .valid)
-      (λ k. let z₂ : writeOutL2 t v (state (withSets r rest twice) l (h₂ .l2) e) ≡ writeOutL2 t v (takeHalves t v (x .address) (state r l m e)) = ap (writeOutL2 t v) (taken-both k) in
+      (λ k. let z₂ : writeOutL2 t v (state (withSets r rest twice) l (h₂ .l2) e) ≡ writeOutL2 t v (takeHalves t v (x .address) (state r l m e))
+      = ap (writeOutL2 t v) (taken-both k) in
       let same : putLine (r .l2) t v (lineOf (x .address) false) ≡ cond d (putLine (r .l2) t v (lineOf (x .address) false)) twice
       = bool d (λ b. rw b refl) (λ b. rw b (still k b)) in
       rw k (ap (λ (ls : List L2Set). state (withSets r rest ls) l (h₂ .l2) e₂) same ∙ out-twice k ∙ z₂))

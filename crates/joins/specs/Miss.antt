@@ -48,7 +48,11 @@ roomed r l m e write a i t g s q ei eg et es eq =
     (λ w. let g′ = rw w at eg in
     let s′ : s ≡ sentAs (l2SetAt r t) m e = rw g′ at es in
     let q′ : q ≡ l1dSetAt r i = rw g′ at eq in
-    rw (s′, q′, w) (ap (λ (x : Record). state (withL1dSet x i (l1dSetAt r i)) l m e) (keep-l2 r t) ∙ ap (λ (x : Record). state x l m e) (keep-l1d r i)))
+    rw (
+      s′,
+      q′,
+      w,
+    ) (ap (λ (x : Record). state (withL1dSet x i (l1dSetAt r i)) l m e) (keep-l2 r t) ∙ ap (λ (x : Record). state x l m e) (keep-l1d r i)))
     (λ w. let g′ = rw w at eg in
     let t′ : l2SetsOf r ≢ 0 → t ≡ l2SetOf r (l1dLineAt r i (l1dVictim (l1dSetAt r i)) .address) = rw g′ at et in
     let s′ : s ≡ sendHome (l2SetAt r t) (sramOf r) (l2SetsOf r) t i (l1dVictim (l1dSetAt r i)) (l1dLineAt r i (l1dVictim (l1dSetAt r i))) l m e = rw g′ at es in
@@ -60,12 +64,14 @@ roomed r l m e write a i t g s q ei eg et es eq =
 module _ (r : Record) (l m e : List ℕ) (write : Bool) (a i : ℕ) (g : Departure) (q : L1dSet) (b : Below) (ei : i ≡ l1dSetOf a)
     (eg : g ≡ leaving (l1dSetAt r i) write) (eq : q ≡ emptied (l1dSetAt r i) g) where
   pub room-inside : (t : ℕ) (n : Inside) → goesInside (l2SetsOf r) (g .line) ≡ true → (l2SetsOf r ≢ 0 → t ≡ l2SetOf r (g .line .address)) →
-      n ≡ sendInside (l2SetAt r t) (sramOf r) (l2SetsOf r) t i (g .way) (g .line .address) l m → b ≡ sendBelow (l2SetsOf r) i (g .way) (g .line) l (n .l2) e →
+      n ≡ sendInside (l2SetAt r t) (sramOf r) (l2SetsOf r) t i (g .way) (g .line .address) l m →
+      b ≡ sendBelow (l2SetsOf r) i (g .way) (g .line) l (n .l2) e →
       state (withL1dSet (withL2Set r t (n .set)) i q) l (b .l2) (b .ext) ≡ room write a (state r l m e)
   room-inside t n k et en eb =
       let es : sentAs (n .set) (n .l2) e ≡ sendHome (l2SetAt r t) (sramOf r) (l2SetsOf r) t i (g .way) (g .line) l m e
       = ap (λ (x : Inside). sentAs (x .set) (x .l2) e) en ∙ sym (all-inside (l2SetsOf r) i (g .way) (g .line) l m e (l2SetAt r t) (sramOf r) t k) in
-      ap (λ (x : Below). state (withL1dSet (withL2Set r t (n .set)) i q) l (x .l2) (x .ext)) (eb ∙ none-below (l2SetsOf r) i (g .way) (g .line) l (n .l2) e k)
+      ap (λ (x : Below). state (withL1dSet (withL2Set r t (n .set)) i q) l (x .l2) (x .ext))
+      (eb ∙ none-below (l2SetsOf r) i (g .way) (g .line) l (n .l2) e k)
       ∙ roomed r l m e write a i t g (sentAs (n .set) (n .l2) e) q ei eg et es eq
 
   pub room-below : goesInside (l2SetsOf r) (g .line) ≡ false → b ≡ sendBelow (l2SetsOf r) i (g .way) (g .line) l m e →
@@ -78,7 +84,8 @@ module _ (r : Record) (l m e : List ℕ) (write : Bool) (a i : ℕ) (g : Departu
       ∙ roomed r l m e write a i t g (sentAs (l2SetAt r t) (b .l2) (b .ext)) q ei eg (λ n. refl) es eq
 
 -- what a fetch leaves in external memory
-brought-ext : (u : L2Set) (ch : Choice) (d write : Bool) (a at : ℕ) (m e : List ℕ) (b : Brought) → ch .found ≡ false → b ≡ bring u ch d write a at m e →
+brought-ext : (u : L2Set) (ch : Choice) (d write : Bool) (a at : ℕ) (m e : List ℕ) (b : Brought) → ch .found ≡ false →
+    b ≡ bring u ch d write a at m e →
     b .ext ≡ writeOut d (ch .old .address) at m e
 unfolding bring
 brought-ext u ch d write a at m e b f eb =
@@ -176,7 +183,8 @@ module _ (r : Record) (l m e : List ℕ) (write : Bool) (a : ℕ) where
         = ap (withL1dSet (withL1dSet r i (h₁ .out .set)) j) g₂ ∙ keep-l1d (withL1dSet r i (h₁ .out .set)) j ∙ ap (withL1dSet r i) g₁ ∙ keep-l1d r i in
         let b′ : b ≡ bring (l2SetAt r t) ch d write a at m e = eb ∙ ap (λ (x : List ℕ). bring (l2SetAt r t) ch d write a at x e) (m₂ ∙ m₁) in
         ap (λ (x : Record). state (withL2Set x t (b .set)) l (b .l2) (b .ext)) r₂ ∙ found-ready f b d at b′)
-        (λ f. let c′ : ch ≡ choice true false (l2Victim (l2SetAt r (l2SetOf r a))) (l2Get (l2SetAt r (l2SetOf r a)) (l2Victim (l2SetAt r (l2SetOf r a)))) = rw (et, f) at ec in
+        (λ f. let c′ : ch ≡ choice true false (l2Victim (l2SetAt r (l2SetOf r a)))
+        (l2Get (l2SetAt r (l2SetOf r a)) (l2Victim (l2SetAt r (l2SetOf r a)))) = rw (et, f) at ec in
         let old : ch .old ≡ l2LineAt r t (ch .way) = rw (et, c′) refl in
         let fn : ch .found ≡ false = ap (λ (x : Choice). x .found) c′ in
         fetched-ready f i j h₁ h₂ d b
@@ -203,7 +211,8 @@ module _ (r : Record) (l m e : List ℕ) (at v a : ℕ) (ea : homeIsL2 r a ≡ t
       (λ t. let h = ltb-true a externalBase t in rw t (lt-ltb (l1dLine a) externalBase (omega arith)))
       (λ t. let h = ltb-false a externalBase t in rw t (le-ltb (l1dLine a) externalBase (omega arith)))
 
-  pub line-fetched : (i w : ℕ) → fetchLine (homeOf (homeIsL2 r a) at (l1dLine a)) (l1dData i w) l m e ≡ stored l (l1dData i w) (homeLine v a (state r l m e))
+  pub line-fetched : (i w : ℕ) →
+      fetchLine (homeOf (homeIsL2 r a) at (l1dLine a)) (l1dData i w) l m e ≡ stored l (l1dData i w) (homeLine v a (state r l m e))
   unfolding fetchLine homeOf homeLine memoryPart
   line-fetched i w =
       bool (homeIsL2 r a)
@@ -212,7 +221,8 @@ module _ (r : Record) (l m e : List ℕ) (at v a : ℕ) (ea : homeIsL2 r a ≡ t
 
 -- the server of a read that filled its way
 filled-is : (x n a : ℕ) (y : State) →
-    reply 0 (homeServer a y) (little (readFilled x (homeServer a y) n a (fillL1d x (l2WayFor y a) a (fetchL2 a y)) .bytes)) (readFilled x (homeServer a y) n a (fillL1d x (l2WayFor y a) a (fetchL2 a y)) .next)
+    reply 0 (homeServer a y) (little (readFilled x (homeServer a y) n a (fillL1d x (l2WayFor y a) a (fetchL2 a y)) .bytes))
+    (readFilled x (homeServer a y) n a (fillL1d x (l2WayFor y a) a (fetchL2 a y)) .next)
     ≡ reply 0 (readEmptied x n a y .server) (little (readEmptied x n a y .bytes)) (readEmptied x n a y .next)
 unfolding readEmptied readFilled
 filled-is x n a y = refl
@@ -274,7 +284,8 @@ module _ (z₁ : State) (r : Record) (l m e : List ℕ) (c : Command) (mode : r 
   place : homeIsL2 r a ≡ true → at ≡ l2Data r (l2SetOf r a) v
   place h = ea (sym same-home ∙ h) ∙ rw (mode, len) refl
 
-  read-done : isWrite c ≡ false → served ≡ reply 0 (homeServer a z₁) (little (readFilled w (homeServer a z₁) (c .first) a (fillL1d w v a (fetchL2 a z₁)) .bytes))
+  read-done : isWrite c ≡ false →
+      served ≡ reply 0 (homeServer a z₁) (little (readFilled w (homeServer a z₁) (c .first) a (fillL1d w v a (fetchL2 a z₁)) .bytes))
       (readFilled w (homeServer a z₁) (c .first) a (fillL1d w v a (fetchL2 a z₁)) .next)
   unfolding finish readFilled fillL1d useL1d withL1dLine
   read-done k =
@@ -283,7 +294,8 @@ module _ (z₁ : State) (r : Record) (l m e : List ℕ) (c : Command) (mode : r 
       = ap (λ (b : Bool). fetchLine (homeOf b at (l1dLine a)) (l1dData i w) l m e) (sym same-home) ∙ line-fetched r l m e at v a place i w in
       let z₂ : state r l m e ≡ fetchL2 a z₁ = e₂ ∙ ready-read z₁ a (isWrite c) k in
       let after : served ≡ reply 0 (homeServer a z₁) (little (part (stored l (l1dData i w) (homeLine v a (state r l m e))) (l1dData i w + a % 64) (c .first)))
-      (state (withSets r (set (r .l1d) i (l1dUse (l1dPut (l1dSetAt r i) w (lineOf (l1dLine a) false)) w)) (r .l2)) (stored l (l1dData i w) (homeLine v a (state r l m e))) m e)
+      (state (withSets r (set (r .l1d) i (l1dUse (l1dPut (l1dSetAt r i) w (lineOf (l1dLine a) false)) w)) (r .l2))
+      (stored l (l1dData i w) (homeLine v a (state r l m e))) m e)
       = ap (λ (x : Finished). reply 0 server (x .out .value) (state (withL1dSet r i (x .out .set)) (x .l1d) (x .l2) (x .ext))) n′
       ∙ rw (ek, bytes) refl in
       after
@@ -308,7 +320,8 @@ module _ (z₁ : State) (r : Record) (l m e : List ℕ) (c : Command) (mode : r 
       let hf : homeIsL2 (f .rec) a ≡ true = ap (λ (x : ℕ). cond (ltb a externalBase) false (not (eqb (l2Sets x) 0))) zm ∙ h in
       let tf : l2SetOf (z₁ .rec) a ≡ l2SetOf (f .rec) a = ap (λ (x : ℕ). l2SetIn (l2Sets x) a) (sym zm) in
       let here : state r l (home .l2) (home .ext) ≡ wrote (state r l m e) = rw (h, place (same-home ∙ h)) refl in
-      here ∙ ap wrote q ∙ ap (λ (x : ℕ). wrote (markL2 x v f)) tf ∙ cond-true (homeIsL2 (f .rec) a) (putL2 (l2SetOf (f .rec) a) v a (written c) f) (putMemory a (written c) f) hf
+      here ∙ ap wrote q ∙ ap (λ (x : ℕ). wrote (markL2 x v f)) tf
+      ∙ cond-true (homeIsL2 (f .rec) a) (putL2 (l2SetOf (f .rec) a) v a (written c) f) (putMemory a (written c) f) hf
 
   into-memory : homeIsL2 (z₁ .rec) a ≡ false → state r l (home .l2) (home .ext) ≡ writeHome v a (written c) (fetchL2 a z₁)
   unfolding ready storeHome homeOf writeHome putMemory fetchL2

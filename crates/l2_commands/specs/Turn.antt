@@ -78,7 +78,8 @@ module _ (code : ℕ) (r : Record) (l m e : List ℕ) (t v i j : ℕ) (h₁ h₂
       let out : e₂ ≡ e = q .out ∙ ap (λ (b : Bool). writeOut b (x .address) (l2Data r t v) (h₂ .l2) e) g in
       let bytes : h₂ .l2 ≡ m = ap (λ (h : Taken). h .l2) w ∙ ap (λ (h : Taken). h .l2) o in
       let low = half-dropped r l m e (x .address) i (h₁ .out .set) (q .low) (ap (λ (h : Taken). h .out .set) o) in
-      let high = half-dropped (withL1dSet r i (h₁ .out .set)) l m e (upperHalf (x .address)) j (h₂ .out .set) (q .high) (ap (λ (h : Taken). h .out .set) w) in
+      let high = half-dropped (withL1dSet r i (h₁ .out .set)) l m e (upperHalf (x .address)) j (h₂ .out .set) (q .high)
+      (ap (λ (h : Taken). h .out .set) w) in
       (λ k. state (withSets r rest (putLine (r .l2) t v emptyLine)) l (bytes k) (out k))
       ∙ ap (emptyL2 t v) (high ∙ ap (atL1d emptyL1d (upperHalf (x .address))) low)
 

@@ -35,7 +35,8 @@ bool-bit false = refl
 
 -- ---- lists
 module _ {ℓ κ} {A : Type ℓ} {B : Type κ} (f : A → B) (g : B → A) where
-  map-back : (p : A → Bool) → ((x : A) → p x ≡ true → g (f x) ≡ x) → (i : ℕ) (xs : List A) → allIndexed (λ _ x. p x) i xs ≡ true → map g (map f xs) ≡ xs
+  map-back : (p : A → Bool) → ((x : A) → p x ≡ true → g (f x) ≡ x) → (i : ℕ) (xs : List A) → allIndexed (λ _ x. p x) i xs ≡ true →
+      map g (map f xs) ≡ xs
   unfolding allIndexed
   map-back p h i [] e = refl
   map-back p h i (x ∷ xs) e = let t = both-true (p x) (allIndexed (λ _ y. p y) (suc i) xs) e in rw (h x (t .0), map-back p h (suc i) xs (t .1)) refl
@@ -65,7 +66,8 @@ l2-set-back v e = rw (map-back lineFromC lineToC lineBits line-back 0 (v .lines)
 pub record-back : (c : CRecord) → bitsOnly c ≡ true → recordToC (recordFromC c) ≡ c
 unfolding bitsOnly recordFromC recordToC
 record-back c e =
-    let t = both-true (ltb (c .mar128) 2 && ltb (c .mar129) 2) (allIndexed (λ _ v. l1dSetBits v) 0 (c .l1d) && allIndexed (λ _ v. l2SetBits v) 0 (c .l2)) e in
+    let t = both-true (ltb (c .mar128) 2 && ltb (c .mar129) 2)
+    (allIndexed (λ _ v. l1dSetBits v) 0 (c .l1d) && allIndexed (λ _ v. l2SetBits v) 0 (c .l2)) e in
     let m = both-true (ltb (c .mar128) 2) (ltb (c .mar129) 2) (t .0) in
     let s = both-true (allIndexed (λ _ v. l1dSetBits v) 0 (c .l1d)) (allIndexed (λ _ v. l2SetBits v) 0 (c .l2)) (t .1) in
     rw (

@@ -92,7 +92,8 @@ module _ (z : State) (f : Flat) (m : Matches z f) (n a : ℕ) where
       let long = length-littleBytes v n in
       let g : Fits (f .sram) (f .ext) a (length bs) = rw long (flat-fits v d) in
       let w : Step z (Is f′) (writeAccess a bs z .next) =
-      accepted-write z (Is f) (m .good) n a (Is f′) v (written-same (flatByte f) (flatByte f′) a bs (wrote-memory (f .sram) (f .ext) bs a g sram-below)) d in
+      accepted-write z (Is f) (m .good) n a (Is f′) v
+      (written-same (flatByte f) (flatByte f′) a bs (wrote-memory (f .sram) (f .ext) bs a g sram-below)) d in
       let q = quiet-step z (Is f′) (writeAccess a bs z .next) w in
       let s : sramOf (writeAccess a bs z .next .rec) ≡ sramOf (z .rec) = ap (λ (x : Layout). x .sram) (w .kept .layout) in
       rw (e, flatPut-state a bs f) (
@@ -107,7 +108,8 @@ module _ (z : State) (f : Flat) (m : Matches z f) (n a : ℕ) where
 
 -- ---- a mode change, when everything has gone out
 mode-matches : (z : State) (f : Flat) → Matches z f → (k : ℕ) → isMode k ≡ true → cacheSize k ≤ z .rec .l2len →
-    ((s w : ℕ) → Valid (l1dLevel z) s w → ⊥) → ((t v : ℕ) → Valid (l2Level z) t v → l2LineAt (z .rec) t v .dirty ≡ false) → Matches (newMode k z) (flatMode k f)
+    ((s w : ℕ) → Valid (l1dLevel z) s w → ⊥) → ((t v : ℕ) → Valid (l2Level z) t v → l2LineAt (z .rec) t v .dirty ≡ false) →
+    Matches (newMode k z) (flatMode k f)
 unfolding newMode flatMode
 mode-matches z f m k ok c none clean =
     let n = sramLength (f .l2len) k in
@@ -179,7 +181,8 @@ module _ (z : State) (f : Flat) (m : Matches z f) (a b v : ℕ) where
       (λ t. rw t (record { number = λ _. refl; value = λ _. refl; matches = m; mode = rw t refl })))
 
   quiet-answered : (k : ℕ) → compared (command k a b v) ≡ false → eqb k 10 ≡ false → flatStep (command k a b v) f ≡ flatReply 0 0 f →
-      Quiet z (Is f) (step (command k a b v) z .next) → Answered (command k a b v) (step (command k a b v) z) (flatStep (command k a b v) f) (z .rec .mode)
+      Quiet z (Is f) (step (command k a b v) z .next) →
+      Answered (command k a b v) (step (command k a b v) z) (flatStep (command k a b v) f) (z .rec .mode)
   unfolding modeAfter
   quiet-answered k unseen ne e q =
       rw e (record {
@@ -192,7 +195,8 @@ module _ (z : State) (f : Flat) (m : Matches z f) (a b v : ℕ) where
 listed-below : (k : ℕ) → 12 ≤ k → listedCode k ≡ false
 listed-below k h = rw (lt-leb k 5 (omega arith), ne-eqb k 7 (omega arith), ne-eqb k 10 (omega arith), ne-eqb k 11 (omega arith)) refl
 
-pub step-answered : (c : Command) (z : State) (f : Flat) → Matches z f → listedCode (c .code) ≡ true → Answered c (step c z) (flatStep c f) (z .rec .mode)
+pub step-answered : (c : Command) (z : State) (f : Flat) → Matches z f → listedCode (c .code) ≡ true →
+    Answered c (step c z) (flatStep c f) (z .rec .mode)
 unfolding flatStep
 step-answered c z f m =
     let a = c .first in let b = c .second in let v = c .value in
@@ -226,7 +230,8 @@ settles z z′ f m n u =
       l2Clean = h .l2Clean;
     }
 
-global-settles : (c : Command) (z : State) (f : Flat) → Matches z f → z .rec .mode ≢ 0 → global c ≡ true → Settled (step c z .next) (flatStep c f .next)
+global-settles : (c : Command) (z : State) (f : Flat) → Matches z f → z .rec .mode ≢ 0 → global c ≡ true →
+    Settled (step c z .next) (flatStep c f .next)
 unfolding step commandDue accepted commandState flatStep
 global-settles c z f m n =
     let a = c .first in let b = c .second in let v = c .value in
@@ -236,7 +241,8 @@ global-settles c z f m n =
     (not-global 0 refl) (not-global 1 refl)
     (λ _. settles z (l2WritebackAll z) f m n (l2WritebackAll-good z (Is f) (m .good)))
     (λ _. settles z (l2WritebackInvalidateAll z) f m n (l2WritebackInvalidateAll-good z (Is f) (m .good)))
-    (not-global 4 refl) (not-global 5 refl) (not-global 6 refl) (not-global 7 refl) (not-global 8 refl) (not-global 9 refl) (not-global 10 refl) (not-global 11 refl)
+    (not-global 4 refl) (not-global 5 refl) (not-global 6 refl) (not-global 7 refl) (not-global 8 refl) (not-global 9 refl) (not-global 10 refl)
+    (not-global 11 refl)
     (λ k h. not-global k (rw (ne-eqb k 2 (omega arith), ne-eqb k 3 (omega arith)) refl))
     (c .code)
 
@@ -292,11 +298,13 @@ unfolding freshState freshRecord
 fresh-mode l e = refl
 
 -- ---- an accepted fresh start gives the fresh state, whatever bytes L1D and L2 were lent with
-pub fresh-accepted : (d m e : List ℕ) → freshCall d m e .number ≡ 0 → (legalL2 (length m) ≡ true) × (legalExternal (length e) ≡ true) × (freshCall d m e .next ≡ freshState (length m) e)
+pub fresh-accepted : (d m e : List ℕ) → freshCall d m e .number ≡ 0 →
+    (legalL2 (length m) ≡ true) × (legalExternal (length e) ≡ true) × (freshCall d m e .next ≡ freshState (length m) e)
 unfolding freshCall freshOk
 fresh-accepted d m e =
     let ok = freshOk d m e in
-    cond-elim (λ (r : Reply). r .number ≡ 0 → (legalL2 (length m) ≡ true) × (legalExternal (length e) ≡ true) × (r .next ≡ freshState (length m) e)) ok
+    cond-elim (λ (r : Reply). r .number ≡ 0 → (legalL2 (length m) ≡ true) × (legalExternal (length e) ≡ true) × (r .next ≡ freshState (length m) e))
+    ok
     (carriedOut (freshState (length m) e)) (refused 1 (state (freshRecord 32768 128) d m e))
     (λ t _. let p = both-true (eqb (length d) l1dLength) (legalL2 (length m) && legalExternal (length e)) t in
     let q = both-true (legalL2 (length m)) (legalExternal (length e)) (p .1) in

@@ -118,7 +118,11 @@ after-stable c xs ys h =
     bool (eqb c 1)
     (λ t. let r = three-stable c xs ys (rw t at h) in record { same = rw t (r .same); least = rw t (r .least); most = rw t (r .most) })
     (λ t. bool (eqb c 0 || ((leb 4 c && leb c 8) || eqb c 11))
-    (λ u. let r = two-stable c xs ys (rw (t, u) at h) in record { same = rw (t, u) (r .same); least = rw (t, u) (r .least); most = rw (t, u) (r .most) })
+    (λ u. let r = two-stable c xs ys (rw (t, u) at h) in record {
+      same = rw (t, u) (r .same);
+      least = rw (t, u) (r .least);
+      most = rw (t, u) (r .most);
+    })
     (λ u. bool (eqb c 10)
     (λ v. let r = one-stable c xs ys (rw (t, u, v) at h) in
     record { same = rw (t, u, v) (r .same); least = rw (t, u, v) (r .least); most = rw (t, u, v) (r .most) })
@@ -166,7 +170,8 @@ carried-more : (t : List ℕ) (room turns i k : ℕ) → i < length t → comman
 unfolding carriedFrom
 carried-more t room turns i k h o f = rw (lt-ltb i (length t) h, o, le-leb (k * 10 + 10) room f) refl
 
-whole-from : {u : List ℕ} {cs : List Command} → Whole u cs → (t : List ℕ) (room turns i k : ℕ) → u ≡ drop i t → length t ≤ i + turns → (k + length cs) * 10 ≤ room →
+whole-from : {u : List ℕ} {cs : List Command} → Whole u cs → (t : List ℕ) (room turns i k : ℕ) → u ≡ drop i t → length t ≤ i + turns →
+    (k + length cs) * 10 ≤ room →
     carriedFrom t room turns i k ≡ cs
 whole-from none t room turns i k e n f =
     let l : length (drop i t) ≡ 0 = ap length (sym e) in let d = length-drop i t in

@@ -25,12 +25,14 @@ use Rattle.model.proofs.Sweeps.{each-by, step-refl, step-trans, touched
 
 -- a well-formed state from its parts
 pub well : (z : State) → Tidy z → Sound (L1dPlaced (layoutOf (z .rec))) (l1dLevel z) → Sound (L2Placed (layoutOf (z .rec))) (l2Level z) →
-    ((s w : ℕ) → Valid (l1dLevel z) s w → externalBase ≤ l1dLineAt (z .rec) s w .address → l2SetsOf (z .rec) ≢ 0 → InL2Line (l2Level z) (l1dLineAt (z .rec) s w .address)) →
+    ((s w : ℕ) → Valid (l1dLevel z) s w → externalBase ≤ l1dLineAt (z .rec) s w .address → l2SetsOf (z .rec) ≢ 0 → InL2Line (l2Level z) (l1dLineAt (z .rec) s w .address))
+    →
     Well z
 well z t a b i =
     record {
       tidy = t;
-      inv = record { l1dSound = a; l2Sound = b; inclusion = i; l1dRight = λ _ _ _ _ _. refl; l2Right = λ _ _ _ _ _ _. refl; memoryRight = λ _ _ _ _. refl };
+      inv =
+          record { l1dSound = a; l2Sound = b; inclusion = i; l1dRight = λ _ _ _ _ _. refl; l2Right = λ _ _ _ _ _ _. refl; memoryRight = λ _ _ _ _. refl };
     }
 
 -- ---- L1D lines are dropped: L2 stays

@@ -60,7 +60,8 @@ access-tells s e n a v d =
     let d₂ = first-none (eqb (a % n) 0) 3 (first (unless (placeOk s e n a) 5) (unless (valueOk n v) 6)) (d₁ .1) in
     let d₃ = first-none (placeOk s e n a) 4 (unless (valueOk n v) 6) (d₂ .1) in
     let z = size-elim (λ (k : ℕ). a % k ≡ 0 → (k ≡ suc (k - 1)) × (a % 64 + suc (k - 1) ≤ 64))
-    (λ y. (refl, omega arith)) (λ y. (refl, omega arith)) (λ y. (refl, omega arith)) (λ y. (refl, omega arith)) n (d₁ .0) (eqb-true (a % n) 0 (d₂ .0)) in
+    (λ y. (refl, omega arith)) (λ y. (refl, omega arith)) (λ y. (refl, omega arith)) (λ y. (refl, omega arith)) n (d₁ .0) (eqb-true (a % n) 0 (d₂ .0))
+    in
     let z₀ = z .0 in
     record {
       more = z .0;

@@ -26,7 +26,8 @@ use Rattle.model.proofs.Memory.{memoryByte, memory-low, memory-high, lo
 use Rattle.model.proofs.Good.{layoutOf, l1dLevel, l2Level, memoryOf, Tidy, Good, Kept, kept-refl, kept-trans, l1d-hit, l2-hit, l1d-miss, l2-miss, l2-bounds, home-memory, home-l2, l1d-fits, l2-fits, l2-rest, l1d-replaced, l1d-tidy, l2-replaced, l2-tidy}
 
 -- bytes put into SRAM or external memory, both lists said at once
-pub putMemory-state : (a : ℕ) (bs : List ℕ) (z : State) → putMemory a bs z ≡ state (z .rec) (z .l1d) (lowStored (z .l2) a bs) (highStored (z .ext) a bs)
+pub putMemory-state : (a : ℕ) (bs : List ℕ) (z : State) →
+    putMemory a bs z ≡ state (z .rec) (z .l1d) (lowStored (z .l2) a bs) (highStored (z .ext) a bs)
 unfolding putMemory lowStored highStored
 putMemory-state a bs z = bool (ltb a externalBase) (λ t. rw t refl) (λ t. rw t refl)
 
@@ -53,7 +54,8 @@ module _ (z : State) (F : Allowed) (q : Good z F) where
   l2-keeps-memory p bs h f a l =
       bool (ltb a externalBase)
       (λ t. let b = ltb-true a externalBase t in let c = l .low b in
-      memory-low (stored (z .l2) p bs) (z .ext) a b ∙ stored-elsewhere (z .l2) bs p f a (λ g. absurd (omega arith)) ∙ sym (memory-low (z .l2) (z .ext) a b))
+      memory-low (stored (z .l2) p bs) (z .ext) a b ∙ stored-elsewhere (z .l2) bs p f a (λ g. absurd (omega arith))
+      ∙ sym (memory-low (z .l2) (z .ext) a b))
       (λ t. let b = ltb-false a externalBase t in
       memory-high (stored (z .l2) p bs) (z .ext) a b ∙ sym (memory-high (z .l2) (z .ext) a b))
 
@@ -173,7 +175,9 @@ module _ (z : State) (F : Allowed) (q : Good z F) (s w : ℕ) (hs : s < 128) (hw
       let i₁ : Invariant (layoutOf (z .rec)) (l1dLevel z′) (l2Level z′) (memoryOf z) F =
       l1d-into-l2 (layoutOf (z .rec)) (l1dLevel z) (l2Level z) (memoryOf z) F (q .inv) (l1dLevel z′) s w u₁ k (l2Level z′) t v k₂ (rw e e₂) u₂
       (λ i hi h. half-in (z .l2) (z .l1d) (l2Data (z .rec) t v) (l1dData s w) a (l2LineAt (z .rec) t v .address) f₂ f₁ aligned e₂ i hi (h ∙ e))
-      (λ i hi h. half-out (z .l2) (z .l1d) (l2Data (z .rec) t v) (l1dData s w) a (l2LineAt (z .rec) t v .address) f₂ f₁ aligned e₂ i hi (λ g. h (g ∙ sym e))) in
+      (λ i hi h. half-out (z .l2) (z .l1d) (l2Data (z .rec) t v) (l1dData s w) a (l2LineAt (z .rec) t v .address) f₂ f₁ aligned e₂ i hi
+      (λ g. h (g ∙ sym e)))
+      in
       record {
         left = record {
           good = record {
@@ -234,7 +238,8 @@ pub left-free : (z z′ : State) (F : Allowed) → LinesLeft z z′ F → (n a :
 left-free z z′ F l n a f s w k e = let x = l .fewer s w k in f s w (rw x at k) (rw x at e)
 
 -- a line that was found left: nobody holds it now
-pub evicted-free : (z : State) (F : Allowed) → Good z F → (s w a : ℕ) (z′ : State) → Valid (l1dLevel z) s w → l1dLineAt (z .rec) s w .address ≡ l1dLine a →
+pub evicted-free : (z : State) (F : Allowed) → Good z F → (s w a : ℕ) (z′ : State) → Valid (l1dLevel z) s w →
+    l1dLineAt (z .rec) s w .address ≡ l1dLine a →
     ((s′ w′ : ℕ) → Valid (l1dLevel z′) s′ w′ → l1dLineAt (z′ .rec) s′ w′ ≡ l1dLineAt (z .rec) s′ w′) → l1dLineAt (z′ .rec) s w ≡ emptyLine →
     Free 64 (l1dLevel z′) a
 evicted-free z F q s w a z′ k e fewer gone s′ w′ k′ e′ =
@@ -248,12 +253,14 @@ pub record HalfTaken (z : State) (F : Allowed) (b : ℕ) (z′ : State) : Type 0
   pub left : LinesLeft z z′ F
   pub free : Free 64 (l1dLevel z′) b
 
-pub half-left : (z : State) (F : Allowed) → Good z F → (b : ℕ) → inL1d z b ≡ true → (z′ : State) → L1dEvicted z F (l1dSetOf b) (l1dWay z b) z′ → HalfTaken z F b z′
+pub half-left : (z : State) (F : Allowed) → Good z F → (b : ℕ) → inL1d z b ≡ true → (z′ : State) → L1dEvicted z F (l1dSetOf b) (l1dWay z b) z′ →
+    HalfTaken z F b z′
 half-left z F q b y z′ g =
     let h = l1d-hit z b y in
     record { left = g .left; free = evicted-free z F q (l1dSetOf b) (l1dWay z b) b z′ (h .valid) (h .address) (g .left .fewer) (g .gone) }
 
-pub takeHalf-good : (z : State) (F : Allowed) → Good z F → (t v b : ℕ) → b % 64 ≡ 0 → Valid (l2Level z) t v → l2LineAt (z .rec) t v .address ≡ l2Line b →
+pub takeHalf-good : (z : State) (F : Allowed) → Good z F → (t v b : ℕ) → b % 64 ≡ 0 → Valid (l2Level z) t v →
+    l2LineAt (z .rec) t v .address ≡ l2Line b →
     HalfTaken z F b (takeHalf t v b z)
 unfolding takeHalf
 takeHalf-good z F q t v b al k₂ e₂ =
@@ -293,7 +300,8 @@ takeHalves-good z F q t v b k e =
     let z₁ = takeHalf t v b z in
     let z′ = takeHalf t v (upperHalf b) z₁ in
     let h₁ = takeHalf-good z F q t v b (omega arith) k (e ∙ omega arith) in
-    let h₂ = takeHalf-good z₁ F (h₁ .left .good) t v (upperHalf b) (omega arith) (h₁ .left .valid t v ∙ k) (h₁ .left .address t v ∙ e ∙ omega arith) in
+    let h₂ = takeHalf-good z₁ F (h₁ .left .good) t v (upperHalf b) (omega arith) (h₁ .left .valid t v ∙ k) (h₁ .left .address t v ∙ e ∙ omega arith)
+    in
     record {
       left = left-trans z z₁ z′ F (h₁ .left) (h₂ .left);
       none = halves-none z′ F (h₂ .left .good) b al′ (left-free z₁ z′ F (h₂ .left) 64 b (h₁ .free)) (h₂ .free);

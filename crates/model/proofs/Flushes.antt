@@ -76,7 +76,8 @@ module _ (xs : List L1dSet) where
       (λ v. bool (x .dirty) (λ d. rw (v, d) (put-relined (x .address) (part (z .l1d) (l1dData s w) 64) z)) (λ d. rw (v, d) refl))
       (λ v. rw v refl)
 
-  back-relined : (s w : ℕ) (z : State) → lineIn l1dKind xs s w ≡ l1dLineAt (z .rec) s w → writebackL1d s w (relined xs z) ≡ relined xs (writebackL1d s w z)
+  back-relined : (s w : ℕ) (z : State) → lineIn l1dKind xs s w ≡ l1dLineAt (z .rec) s w →
+      writebackL1d s w (relined xs z) ≡ relined xs (writebackL1d s w z)
   unfolding writebackL1d
   back-relined s w z e = ap (λ (x : Line). written x s w (relined xs z)) e ∙ written-relined (l1dLineAt (z .rec) s w) s w z
 

@@ -132,7 +132,8 @@ pub way-missing : (g : ℕ → Line) (n k b : ℕ) → k + n ≤ wayHolding g n 
 unfolding wayHolding
 way-missing g zero k b = λ h w l u. absurd (omega arith)
 way-missing g (suc n) k b =
-    cond-elim (λ (f : ℕ). k + suc n ≤ f → (w : ℕ) → k ≤ w → w < k + suc n → g w .valid ≡ true → g w .address ≢ b) (holds (g k) b) k (wayHolding g n (suc k) b)
+    cond-elim (λ (f : ℕ). k + suc n ≤ f → (w : ℕ) → k ≤ w → w < k + suc n → g w .valid ≡ true → g w .address ≢ b) (holds (g k) b) k
+    (wayHolding g n (suc k) b)
     (λ _ h. absurd (omega arith))
     (λ t h w l u v a. bool (eqb w k)
     (λ i. let j = eqb-true w k i in false-true (sym t ∙ holds-yes (g k) b (rw j at v) (rw j at a)))
@@ -266,7 +267,10 @@ module _ (z : State) (h : Tidy z) where
 
   pub l2-fits : (t v : ℕ) → t < l2SetsOf (z .rec) → v < 4 → l2Data (z .rec) t v + 128 ≤ length (z .l2)
   l2-fits t v ht hv =
-      let n = h .sizes .l2Length in let b = slot-bound (l2SetsOf (z .rec)) t v hv ht in let c = h .sizes .cacheMost in let c′ = cache-whole (z .rec .mode) in
+      let n = h .sizes .l2Length in
+      let b = slot-bound (l2SetsOf (z .rec)) t v hv ht in
+      let c = h .sizes .cacheMost in
+      let c′ = cache-whole (z .rec .mode) in
       omega arith
 
   -- bytes put into one slot leave the other valid slots as they were
@@ -281,7 +285,8 @@ module _ (z : State) (h : Tidy z) where
       getD (stored (z .l2) (l2Data (z .rec) t v + o) bs) (l2Data (z .rec) t′ v′ + i) 0 ≡ getD (z .l2) (l2Data (z .rec) t′ v′ + i) 0
   l2-rest F q t v o bs ht hv ho t′ v′ n k =
       let b = l2-bounds z F q t′ v′ k in
-      other-slot 128 (z .l2) bs (l2Data (z .rec) t v) (l2Data (z .rec) t′ v′) o (l2-fits t v ht hv) (l2-apart (z .rec) t v t′ v′ ht (b .0) hv (b .1) n) ho
+      other-slot 128 (z .l2) bs (l2Data (z .rec) t v) (l2Data (z .rec) t′ v′) o (l2-fits t v ht hv)
+      (l2-apart (z .rec) t v t′ v′ ht (b .0) hv (b .1) n) ho
 
 -- ---- the lists change, keeping their lengths; and the mode
 pub sizes-new : {l e n : ℕ} {d m x : List ℕ} → Sizes l e n d m x → (n′ : ℕ) → isMode n′ ≡ true → cacheSize n′ ≤ l →
@@ -301,7 +306,8 @@ sizes-new h n′ ok c d′ m′ x′ p q r =
       cacheMost = c;
     }
 
-sizes-with : {l e n : ℕ} {d m x : List ℕ} → Sizes l e n d m x → (d′ m′ x′ : List ℕ) → length d′ ≡ length d → length m′ ≡ length m → length x′ ≡ length x →
+sizes-with : {l e n : ℕ} {d m x : List ℕ} → Sizes l e n d m x → (d′ m′ x′ : List ℕ) → length d′ ≡ length d → length m′ ≡ length m →
+    length x′ ≡ length x →
     Sizes l e n d′ m′ x′
 sizes-with {l} {e} {n} h d′ m′ x′ p q r = sizes-new h n (h .legalMode) (h .cacheMost) d′ m′ x′ p q r
 
@@ -312,7 +318,8 @@ lists-tidy z h d m e a b c = record { sizes = sizes-with (h .sizes) d m e a b c;
 -- ---- one line of the record replaced, and the lists with their lengths kept
 module _ (z : State) (h : Tidy z) (s w : ℕ) (l : Line) (d m e : List ℕ) where
   pub l1d-replaced : s < 128 → w < 2 →
-      ((s′ w′ : ℕ) → Other s w s′ w′ → Valid (l1dLevel z) s′ w′ → (i : ℕ) → i < 64 → getD d (l1dData s′ w′ + i) 0 ≡ getD (z .l1d) (l1dData s′ w′ + i) 0) →
+      ((s′ w′ : ℕ) → Other s w s′ w′ → Valid (l1dLevel z) s′ w′ → (i : ℕ) → i < 64 → getD d (l1dData s′ w′ + i) 0 ≡ getD (z .l1d) (l1dData s′ w′ + i) 0)
+      →
       Replaced 64 (l1dLevel z) (l1dLevel (state (withL1dLine (z .rec) s w l) d m e)) s w l
   unfolding withL1dLine
   l1d-replaced hs hw r = replaced-line l1dKind (z .rec .l1d) s w l (h .l1d .shaped) hs hw 64 l1dData (z .l1d) d r
@@ -332,7 +339,8 @@ module _ (z : State) (h : Tidy z) (s w : ℕ) (l : Line) (d m e : List ℕ) wher
       let c = h .sizes .cacheMost in let c′ = h .sizes .l2Most in
       replaced-line l2Kind (z .rec .l2) s w l (h .l2 .shaped) (omega arith) hw 128 (l2Data (z .rec)) (z .l2) m r
 
-  pub l2-tidy : s < l2SetsOf (z .rec) → (l .valid ≡ false → l ≡ emptyLine) → length d ≡ length (z .l1d) → length m ≡ length (z .l2) → length e ≡ length (z .ext) →
+  pub l2-tidy : s < l2SetsOf (z .rec) → (l .valid ≡ false → l ≡ emptyLine) → length d ≡ length (z .l1d) → length m ≡ length (z .l2) →
+      length e ≡ length (z .ext) →
       Tidy (state (withL2Line (z .rec) s w l) d m e)
   unfolding withL2Line
   l2-tidy hs v a b c =

@@ -157,9 +157,11 @@ module _ (g : Layout) (x y : Level) (mem : ℕ → ℕ) (F : Allowed) (q : Invar
             let j : x .line s w .address + i % 64 ≡ y .line t v .address + i = omega arith in
             carry F (inn i h e′) (rw j at (q .l1dRight s w k (i % 64) (omega arith))))
             (λ e. let n = eqb-false ((y .line t v .address + i) / 64 * 64) (x .line s w .address) e in
-            carry F (out i h n) (q .l2Right t v k₂ i h (replaced-nodirty 64 x x′ s w emptyLine u (y .line t v .address + i) (λ _ _ e′. n (sym e′)) m)))
+            carry F (out i h n)
+            (q .l2Right t v k₂ i h (replaced-nodirty 64 x x′ s w emptyLine u (y .line t v .address + i) (λ _ _ e′. n (sym e′)) m)))
 
-        taken-right : (t′ v′ : ℕ) → Valid y′ t′ v′ → (i : ℕ) → i < 128 → NoDirty 64 x′ (y′ .line t′ v′ .address + i) → F (y′ .line t′ v′ .address + i) (y′ .byte t′ v′ i)
+        taken-right : (t′ v′ : ℕ) → Valid y′ t′ v′ → (i : ℕ) → i < 128 → NoDirty 64 x′ (y′ .line t′ v′ .address + i) →
+            F (y′ .line t′ v′ .address + i) (y′ .byte t′ v′ i)
         taken-right t′ v′ k′ i h m =
             same-slot t v t′ v′
             (λ z. let e = replaced-at 128 y y′ t v (lineOf (y .line t v .address) true) u₂ t′ v′ z in rw (e, z .0, z .1) (here i h (rw e at m)))
@@ -217,9 +219,11 @@ module _ (g : Layout) (x y : Level) (mem : ℕ → ℕ) (F : Allowed) (q : Invar
             let k₀ : Valid x s′ w′ = rw e at k′ in
             let aligned = q .l1dSound .place s′ w′ k₀ .aligned in
             carry F′ (u .bytes s′ w′ z k₀ i h)
-            (rw e (old (x .line s′ w′ .address + i) (λ j. z (q .l1dSound .once s w s′ w′ k k₀ (e₁ ∙ omega arith))) (x .byte s′ w′ i) (q .l1dRight s′ w′ k₀ i h))));
+            (rw e (old (x .line s′ w′ .address + i) (λ j. z (q .l1dSound .once s w s′ w′ k k₀ (e₁ ∙ omega arith))) (x .byte s′ w′ i)
+            (q .l1dRight s′ w′ k₀ i h))));
         l2Right = λ t v k′ i h m.
-            old (y .line t v .address + i) (elsewhere (y .line t v .address + i) m) (y .byte t v i) (q .l2Right t v k′ i h (nodirty-before (y .line t v .address + i) m));
+            old (y .line t v .address + i) (elsewhere (y .line t v .address + i) m) (y .byte t v i)
+            (q .l2Right t v k′ i h (nodirty-before (y .line t v .address + i) m));
         memoryRight = λ b l m m′. old b (elsewhere b m) (mem b) (q .memoryRight b l (nodirty-before b m) m′);
       }
 
@@ -229,7 +233,8 @@ module _ (g : Layout) (x y : Level) (mem : ℕ → ℕ) (F : Allowed) (q : Invar
     (calm : (i : ℕ) → i < 128 → NoDirty 64 x (y .line t v .address + i))
     (inn : (i : ℕ) → i < 128 → mem′ (y .line t v .address + i) ≡ y .byte t v i)
     (out : (a : ℕ) → Inside g a → a / 128 * 128 ≢ y .line t v .address → mem′ a ≡ mem a) where
-  cleaned-right : (t′ v′ : ℕ) → Valid y′ t′ v′ → (i : ℕ) → i < 128 → NoDirty 64 x (y′ .line t′ v′ .address + i) → F (y′ .line t′ v′ .address + i) (y′ .byte t′ v′ i)
+  cleaned-right : (t′ v′ : ℕ) → Valid y′ t′ v′ → (i : ℕ) → i < 128 → NoDirty 64 x (y′ .line t′ v′ .address + i) →
+      F (y′ .line t′ v′ .address + i) (y′ .byte t′ v′ i)
   cleaned-right t′ v′ k′ i h m =
       same-slot t v t′ v′
       (λ z. let e = kept-at 128 y y′ t v false k u t′ v′ z in rw (e, z .0, z .1) (carry F (same i h) (q .l2Right t v k i h (calm i h))))
@@ -249,7 +254,8 @@ module _ (g : Layout) (x y : Level) (mem : ℕ → ℕ) (F : Allowed) (q : Invar
             let j : y .line t v .address + a % 128 ≡ a = omega arith in
             carry F (rw j at (inn (a % 128) (omega arith))) (rw j at (q .l2Right t v k (a % 128) (omega arith) (calm (a % 128) (omega arith)))))
             (λ e. let n = eqb-false (a / 128 * 128) (y .line t v .address) e in
-            carry F (out a l n) (q .memoryRight a l m (replaced-nodirty 128 y y′ t v (lineOf (y .line t v .address) false) u a (λ _ _ e′. n (sym e′)) m′)));
+            carry F (out a l n)
+            (q .memoryRight a l m (replaced-nodirty 128 y y′ t v (lineOf (y .line t v .address) false) u a (λ _ _ e′. n (sym e′)) m′)));
       }
 
 -- ---- (7) a clean L2 line, of which L1D holds nothing, becomes empty
@@ -291,7 +297,8 @@ module _ (g : Layout) (x y : Level) (mem : ℕ → ℕ) (F : Allowed) (q : Invar
         l1dRight = q .l1dRight;
         l2Right = λ t′ v′ k i h m.
             same-slot t v t′ v′
-            (λ z. let e = replaced-at 128 y y′ t v (lineOf b false) u t′ v′ z in rw (e, z .0, z .1) (carry F (inn i h) (fetched-right i h (rw e at m))))
+            (λ z. let e = replaced-at 128 y y′ t v (lineOf b false) u t′ v′ z in rw (e, z .0, z .1)
+            (carry F (inn i h) (fetched-right i h (rw e at m))))
             (λ z. let e = u .others t′ v′ z in carry F (u .bytes t′ v′ z (rw e at k) i h) (rw e (q .l2Right t′ v′ (rw e at k) i h (rw e at m))));
         memoryRight = λ a l m m′. q .memoryRight a l m (replaced-nodirty 128 y y′ t v (lineOf b false) u a (λ k _ _. absurd (room k)) m′);
       }
@@ -323,10 +330,12 @@ module _ (g : Layout) (x y : Level) (mem : ℕ → ℕ) (F : Allowed) (q : Invar
             let k₀ : Valid y t′ v′ = rw e at k′ in
             let aligned = q .l2Sound .place t′ v′ k₀ .aligned in
             carry F′ (u .bytes t′ v′ z k₀ i h)
-            (rw e (old (y .line t′ v′ .address + i) (λ j. z (q .l2Sound .once t v t′ v′ k k₀ (e₂ ∙ omega arith))) (y .byte t′ v′ i) (q .l2Right t′ v′ k₀ i h (rw e at m)))));
+            (rw e (old (y .line t′ v′ .address + i) (λ j. z (q .l2Sound .once t v t′ v′ k k₀ (e₂ ∙ omega arith))) (y .byte t′ v′ i)
+            (q .l2Right t′ v′ k₀ i h (rw e at m)))));
         memoryRight = λ b l m m′.
             let f : b / 128 * 128 ≢ a / 128 * 128 = λ e. m′ t v (rw (u .here) refl) (rw (u .here) refl) (rw (u .here) (e₂ ∙ sym e)) in
-            old b (λ j. f (omega arith)) (mem b) (q .memoryRight b l m (replaced-nodirty 128 y y′ t v (lineOf (y .line t v .address) true) u b (λ _ _ e. f (sym e ∙ e₂)) m′));
+            old b (λ j. f (omega arith)) (mem b)
+            (q .memoryRight b l m (replaced-nodirty 128 y y′ t v (lineOf (y .line t v .address) true) u b (λ _ _ e. f (sym e ∙ e₂)) m′));
       }
 
 -- ---- (10) the memory behind is written, at an address that neither level holds

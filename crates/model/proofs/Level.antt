@@ -66,7 +66,8 @@ module _ (n : ℕ) (x x′ : Level) (s w : ℕ) (l : Line) (u : Replaced n x x�
             same-slot s w s₁ w₁
             (λ k₁. same-slot s w s₂ w₂
             (λ k₂. (k₂ .0 ∙ sym (k₁ .0), k₂ .1 ∙ sym (k₁ .1)))
-            (λ k₂. let t₁ = replaced-at s₁ w₁ k₁ in let t₂ = u .others s₂ w₂ k₂ in absurd (o (rw t₁ at v₁) s₂ w₂ k₂ (rw t₂ at v₂) (sym (rw (t₁, t₂) at e)))))
+            (λ k₂. let t₁ = replaced-at s₁ w₁ k₁ in let t₂ = u .others s₂ w₂ k₂ in absurd
+            (o (rw t₁ at v₁) s₂ w₂ k₂ (rw t₂ at v₂) (sym (rw (t₁, t₂) at e)))))
             (λ k₁. let t₁ = u .others s₁ w₁ k₁ in same-slot s w s₂ w₂
             (λ k₂. let t₂ = replaced-at s₂ w₂ k₂ in absurd (o (rw t₂ at v₂) s₁ w₁ k₁ (rw t₁ at v₁) (rw (t₁, t₂) at e)))
             (λ k₂. let t₂ = u .others s₂ w₂ k₂ in q .once s₁ w₁ s₂ w₂ (rw t₁ at v₁) (rw t₂ at v₂) (rw (t₁, t₂) at e)));

@@ -101,7 +101,8 @@ module _ (m e : List ℕ) (a n : ℕ) (r : Fits m e a n) where
       part-at e (a - externalBase) n j (omega arith) h ∙ sym (memory-high m e (a + j) (omega arith) ∙ rw i refl))
 
 module _ (m e bs : List ℕ) (a : ℕ) (r : Fits m e a (length bs)) where
-  pub memory-in : length m ≤ externalBase → (b : ℕ) → a ≤ b → b < a + length bs → memoryByte (lowStored m a bs) (highStored e a bs) b ≡ getD bs (b - a) 0
+  pub memory-in : length m ≤ externalBase → (b : ℕ) → a ≤ b → b < a + length bs →
+      memoryByte (lowStored m a bs) (highStored e a bs) b ≡ getD bs (b - a) 0
   unfolding lowStored highStored
   memory-in hm b h k =
       bool (ltb a externalBase)
@@ -109,7 +110,8 @@ module _ (m e bs : List ℕ) (a : ℕ) (r : Fits m e a (length bs)) where
       memory-low (lowStored m a bs) (highStored e a bs) b (omega arith) ∙ rw t (stored-at m bs a f b h k))
       (λ t. let l = ltb-false a externalBase t in let f = r .high l in
       let j : b - externalBase - (a - externalBase) ≡ b - a = omega arith in
-      memory-high (lowStored m a bs) (highStored e a bs) b (omega arith) ∙ rw t (stored-at e bs (a - externalBase) (omega arith) (b - externalBase) (omega arith) (omega arith) ∙ rw j refl))
+      memory-high (lowStored m a bs) (highStored e a bs) b (omega arith)
+      ∙ rw t (stored-at e bs (a - externalBase) (omega arith) (b - externalBase) (omega arith) (omega arith) ∙ rw j refl))
 
   pub memory-out : (b : ℕ) → (a ≤ b → a + length bs ≤ b) → memoryByte (lowStored m a bs) (highStored e a bs) b ≡ memoryByte m e b
   unfolding lowStored highStored
@@ -141,7 +143,8 @@ pub record Wrote (F F′ : ℕ → ℕ) (a : ℕ) (bs : List ℕ) : Type 0 where
   pub inside : (c : ℕ) → a ≤ c → c < a + length bs → F′ c ≡ getD bs (c - a) 0
   pub outside : (c : ℕ) → (a ≤ c → a + length bs ≤ c) → F′ c ≡ F c
 
-pub wrote-memory : (m e bs : List ℕ) (a : ℕ) → Fits m e a (length bs) → length m ≤ externalBase → Wrote (memoryByte m e) (memoryByte (lowStored m a bs) (highStored e a bs)) a bs
+pub wrote-memory : (m e bs : List ℕ) (a : ℕ) → Fits m e a (length bs) → length m ≤ externalBase →
+    Wrote (memoryByte m e) (memoryByte (lowStored m a bs) (highStored e a bs)) a bs
 wrote-memory m e bs a r h = record { inside = memory-in m e bs a r h; outside = memory-out m e bs a r }
 
 -- the same of what may stand where
@@ -160,7 +163,8 @@ module _ (F F′ : Allowed) (a : ℕ) (bs : List ℕ) (k : Written F F′ a bs) 
   -- what was right before is right after both were written
   pub written-both : (G G′ : ℕ → ℕ) → Wrote G G′ a bs → (b : ℕ) → F b (G b) → F′ b (G′ b)
   written-both G G′ k′ b e =
-      inside-or-not a b (length bs) (λ h h′. carry F′ (k′ .inside b h h′) (k .inside b h h′)) (λ h. carry F′ (k′ .outside b h) (k .outside b h (G b) e))
+      inside-or-not a b (length bs) (λ h h′. carry F′ (k′ .inside b h h′) (k .inside b h h′))
+      (λ h. carry F′ (k′ .outside b h) (k .outside b h (G b) e))
 
   -- a slot at p of n bytes, with the line at b, which holds a at offset o
   pub written-slot : (m : List ℕ) (p n b o : ℕ) → b + o ≡ a → o + length bs ≤ n → p + n ≤ length m → (i : ℕ) → i < n →

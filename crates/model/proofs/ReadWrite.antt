@@ -78,7 +78,8 @@ module _ (z : State) (F : Allowed) (q : Good z F) (a n : ℕ) (f : AccessFits (l
       let g = evictL1d-good z F q s w (omega arith) hw in
       let z₂ = fetchL2 a z₁ in
       let v = l2WayFor z₁ a in
-      let h = fetchL2-good z₁ F (g .left .good) a n (rw (g .left .kept .layout) f) (λ k. ap (λ (x : Layout). x .mar a) (g .left .kept .layout) ∙ c k) in
+      let h = fetchL2-good z₁ F (g .left .good) a n (rw (g .left .kept .layout) f) (λ k. ap (λ (x : Layout). x .mar a) (g .left .kept .layout) ∙ c k)
+      in
       let kept₂ : Kept z z₂ = kept-trans z z₁ z₂ (g .left .kept) (h .kept) in
       let room : Valid (l1dLevel z₂) s w → ⊥ = λ k. let e = h .fewer s w k in false-true (sym (ap (λ (r : Line). r .valid) (e ∙ g .gone)) ∙ k) in
       let none : Free 64 (l1dLevel z₂) a =
@@ -91,7 +92,8 @@ module _ (z : State) (F : Allowed) (q : Good z F) (a n : ℕ) (f : AccessFits (l
       let ld = homeLine-good z₂ F (h .good) v a (rw (kept₂ .layout) line-fits) none has in
       let k = fillL1d-good z₂ F (h .good) w v a room (rw (kept₂ .layout) (l1d-may-hold z F q a n f c w hw)) none ld held in
       let z₃ = fillL1d w v a z₂ in
-      let r = held-read z₃ F (k .good) w (homeServer a z₁) a (suc n) row (record { way = hw; valid = rw (k .here) refl; address = rw (k .here) refl }) in
+      let r = held-read z₃ F (k .good) w (homeServer a z₁) a (suc n) row (record { way = hw; valid = rw (k .here) refl; address = rw (k .here) refl })
+      in
       record {
         good = r .good;
         kept = kept-trans z z₃ (useL1d s w z₃) (kept-trans z z₂ z₃ kept₂ (k .kept)) (r .kept);
@@ -110,7 +112,8 @@ pub read-good : (z : State) (F : Allowed) → Good z F → (a n : ℕ) → Acces
     ReadGood z F a (suc n) (readAccess (suc n) a z)
 unfolding readAccess memoryPart
 read-good z F q a n f h =
-    cond-elim (ReadGood z F a (suc n)) (cacheable (z .rec) a) (cond (inL1d z a) (readHit (suc n) a z) (readMiss (suc n) a z)) (access 4 (memoryPart a (suc n) z) z)
+    cond-elim (ReadGood z F a (suc n)) (cacheable (z .rec) a) (cond (inL1d z a) (readHit (suc n) a z) (readMiss (suc n) a z))
+    (access 4 (memoryPart a (suc n) z) z)
     (λ t. cacheable-read z F q a n f (cacheable-yes (z .rec) a t) h)
     (λ t. let c = cacheable-no (z .rec) a t in let c₀ = c .0 in
     let m = q .tidy .sizes .l2Length in let e = q .tidy .sizes .extLength in let mx = q .tidy .sizes .l2Most in
@@ -233,7 +236,8 @@ module _ (z : State) (F F′ : Allowed) (q : Good z F) (a n : ℕ) (bs : List �
       let done : (x : State) → Step z₁ F′ x → Step z F′ x = λ x p. record { good = p .good; kept = kept-trans z z₁ x (g .kept) (p .kept) } in
       cond-elim (Step z F′) (homeIsL2 (z₁ .rec) a) (putL2 (l2SetOf (z₁ .rec) a) v a bs z₁) (putMemory a bs z₁)
       (λ d. let h = hit-same z z₁ a v (g .kept .mode) (g .has (sym (home-same z z₁ a (g .kept .mode)) ∙ d)) in
-      done (putL2 (l2SetOf (z₁ .rec) a) v a bs z₁) (putL2-good z₁ F F′ (g .good) a bs wr row-bytes (l2SetOf (z₁ .rec) a) v (h .valid) (h .address) fr))
+      done (putL2 (l2SetOf (z₁ .rec) a) v a bs z₁)
+      (putL2-good z₁ F F′ (g .good) a bs wr row-bytes (l2SetOf (z₁ .rec) a) v (h .valid) (h .address) fr))
       (λ d. done (putMemory a bs z₁)
       (putMemory-good z₁ F F′ (g .good) a bs wr row-bytes (rw (g .kept .layout) bytes-fit) fr (memory-free z₁ F (g .good) a d)))
 

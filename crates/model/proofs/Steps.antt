@@ -57,7 +57,8 @@ quiet-step z F z′ s = record { good = s .good; mode = s .kept .mode; l2len = s
 module _ (z : State) (F : Allowed) (q : Good z F) (a b v : ℕ) where
   -- carried out where its number is 0, else refused
   quiet-unless : (d : ℕ) (z′ : State) → (d ≡ 0 → Quiet z F z′) → Quiet z F (cond (eqb d 0) (carriedOut z′) (refused d z) .next)
-  quiet-unless d z′ h = cond-elim (λ (r : Reply). Quiet z F (r .next)) (eqb d 0) (carriedOut z′) (refused d z) (λ t. h (eqb-true d 0 t)) (λ _. quiet-refl z F q)
+  quiet-unless d z′ h =
+      cond-elim (λ (r : Reply). Quiet z F (r .next)) (eqb d 0) (carriedOut z′) (refused d z) (λ t. h (eqb-true d 0 t)) (λ _. quiet-refl z F q)
 
   pub quiet-2 : Quiet z F (step (command 2 a b v) z .next)
   unfolding step commandDue accepted commandState

@@ -33,7 +33,8 @@ use Rattle.model.proofs.ReadWrite.{Step}
 use Rattle.model.proofs.Flushes.{sweptL1d}
 
 -- ---- a loop over 0 .. n - 1: what holds at first, and is carried from k to k + 1, holds at n
-pub each-by {ℓ} : {A : Type ℓ} (P : ℕ → A → Type 0) (f : ℕ → A → A) (n : ℕ) (z : A) → P 0 z → ((k : ℕ) → k < n → (x : A) → P k x → P (suc k) (f k x)) →
+pub each-by {ℓ} : {A : Type ℓ} (P : ℕ → A → Type 0) (f : ℕ → A → A) (n : ℕ) (z : A) → P 0 z →
+    ((k : ℕ) → k < n → (x : A) → P k x → P (suc k) (f k x)) →
     P n (each f n z)
 unfolding each
 each-by P f zero z p h = p
@@ -103,7 +104,8 @@ flushed z F x ns u =
 
 -- ---- blocks: a step that is good at every line is good over a block
 module _ (z : State) (F : Allowed) (q : Good z F) where
-  pub touched-good : (n : ℕ) (f : ℕ → State → State) → ((a : ℕ) (x : State) → Good x F → Step x F (f a x)) → (b c : ℕ) → Step z F (eachTouched n f b c z)
+  pub touched-good : (n : ℕ) (f : ℕ → State → State) → ((a : ℕ) (x : State) → Good x F → Step x F (f a x)) → (b c : ℕ) →
+      Step z F (eachTouched n f b c z)
   unfolding eachTouched
   touched-good n f h b c =
       each-by (λ _ x. Step z F x) (λ k. f ((b / n + k) * n)) (linesTouched n b c) z (step-refl z F q)
@@ -181,7 +183,8 @@ l1d-empty-next z F k hk x u =
     record {
       step = record { good = l .good; kept = kept-trans z x (evictL1d n m x) (u .step .kept) (l .kept) };
       none = λ s w hw h i. same-slot n m s w
-          (λ e. let y : l1dLineAt (evictL1d n m x .rec) s w ≡ emptyLine = rw (e .0, e .1) (g .gone) in false-true (sym (ap (λ (r : Line). r .valid) y) ∙ i))
+          (λ e. let y : l1dLineAt (evictL1d n m x .rec) s w ≡ emptyLine = rw (e .0, e .1) (g .gone) in false-true
+          (sym (ap (λ (r : Line). r .valid) y) ∙ i))
           (λ e. let y = l .fewer s w i in
           bool (eqb (s * 2 + w) k)
           (λ t. let t′ = eqb-true (s * 2 + w) k t in e (omega arith, omega arith))

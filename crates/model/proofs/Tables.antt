@@ -188,7 +188,8 @@ module _ (k : Kind) (xs : List (k .OneSet)) where
 
     -- the level with that line replaced, its other slots' bytes being as they were
     pub replaced-line : Shaped k xs → s < k .sets → w < k .ways → (n : ℕ) (place : ℕ → ℕ → ℕ) (m m′ : List ℕ) →
-        ((s′ w′ : ℕ) → Other s w s′ w′ → Valid (levelOf k xs place m) s′ w′ → (i : ℕ) → i < n → getD m′ (place s′ w′ + i) 0 ≡ getD m (place s′ w′ + i) 0) →
+        ((s′ w′ : ℕ) → Other s w s′ w′ → Valid (levelOf k xs place m) s′ w′ → (i : ℕ) → i < n → getD m′ (place s′ w′ + i) 0 ≡ getD m (place s′ w′ + i) 0)
+        →
         Replaced n (levelOf k xs place m) (levelOf k (withLine k xs s w x) place m′) s w x
     replaced-line h hs hw n place m m′ r =
         record {
@@ -238,7 +239,8 @@ module _ (k : Kind) (xs : List (k .OneSet)) where
       g (ap (λ (v : k .OneSet). getD (k .lines v) w emptyLine) (List·getD-eq-default xs (k .none) {n = s} (omega arith)) ∙ none-line w))
 
   -- ---- a test that finds no line of the table finds none in any slot
-  pub none-found : (p : Line → Bool) → p emptyLine ≡ false → anyOf (λ (v : k .OneSet). anyOf p (k .lines v)) xs ≡ false → (s w : ℕ) → p (lineIn k xs s w) ≡ false
+  pub none-found : (p : Line → Bool) → p emptyLine ≡ false → anyOf (λ (v : k .OneSet). anyOf p (k .lines v)) xs ≡ false → (s w : ℕ) →
+      p (lineIn k xs s w) ≡ false
   unfolding anyOf
   none-found p e h s w =
       any-none p emptyLine e (k .lines (setIn k xs s))

@@ -71,7 +71,8 @@ differ-makes : (a b : ℕ) → a ≢ b → not (eqb a b) ≡ true
 differ-makes a b n = not-makes (eqb a b) (ne-eqb a b n)
 
 -- ---- tests over lists, element by element
-all-from {ℓ} : {A : Type ℓ} (f : ℕ → A → Bool) (d : A) (xs : List A) (i : ℕ) → allIndexed f i xs ≡ true → (j : ℕ) → j < length xs → f (i + j) (getD xs j d) ≡ true
+all-from {ℓ} : {A : Type ℓ} (f : ℕ → A → Bool) (d : A) (xs : List A) (i : ℕ) → allIndexed f i xs ≡ true → (j : ℕ) → j < length xs →
+    f (i + j) (getD xs j d) ≡ true
 unfolding allIndexed
 all-from f d [] i h j k = absurd (omega arith)
 all-from f d (x ∷ xs) i h zero k = let e : i + 0 ≡ i = omega arith in rw e (both-true (f i x) (allIndexed f (suc i) xs) h .0)
@@ -82,15 +83,18 @@ all-from f d (x ∷ xs) i h (suc j) k =
 all-tells {ℓ} : {A : Type ℓ} (f : ℕ → A → Bool) (d : A) (xs : List A) → allIndexed f 0 xs ≡ true → (j : ℕ) → j < length xs → f j (getD xs j d) ≡ true
 all-tells f d xs h j k = let e : 0 + j ≡ j = omega arith in rw e at (all-from f d xs 0 h j k)
 
-all-build {ℓ} : {A : Type ℓ} (f : ℕ → A → Bool) (d : A) (xs : List A) (i : ℕ) → ((j : ℕ) → j < length xs → f (i + j) (getD xs j d) ≡ true) → allIndexed f i xs ≡ true
+all-build {ℓ} : {A : Type ℓ} (f : ℕ → A → Bool) (d : A) (xs : List A) (i : ℕ) → ((j : ℕ) → j < length xs → f (i + j) (getD xs j d) ≡ true) →
+    allIndexed f i xs ≡ true
 unfolding allIndexed
 all-build f d [] i h = refl
 all-build f d (x ∷ xs) i h =
     let e : i + 0 ≡ i = omega arith in
     makes (f i x) (allIndexed f (suc i) xs ∷ [])
-    ((rw e at (h 0 (omega arith))) and all-build f d xs (suc i) (λ j k. let e′ : suc i + j ≡ i + suc j = omega arith in rw e′ (h (suc j) (omega arith))))
+    ((rw e at (h 0 (omega arith))) and all-build f d xs (suc i) (λ j k. let e′ : suc i + j ≡ i + suc j = omega arith in rw e′
+    (h (suc j) (omega arith))))
 
-all-makes {ℓ} : {A : Type ℓ} (f : ℕ → A → Bool) (d : A) (xs : List A) → ((j : ℕ) → j < length xs → f j (getD xs j d) ≡ true) → allIndexed f 0 xs ≡ true
+all-makes {ℓ} : {A : Type ℓ} (f : ℕ → A → Bool) (d : A) (xs : List A) → ((j : ℕ) → j < length xs → f j (getD xs j d) ≡ true) →
+    allIndexed f 0 xs ≡ true
 all-makes f d xs h = all-build f d xs 0 (λ j k. let e : 0 + j ≡ j = omega arith in rw e (h j k))
 
 any-tells {ℓ} : {A : Type ℓ} (p : A → Bool) (d : A) (xs : List A) → anyOf p xs ≡ true → (j : ℕ) × (p (getD xs j d) ≡ true)
@@ -107,7 +111,8 @@ any-makes p d n (x ∷ xs) (suc j) h = bool (p x) (λ t. rw t refl) (λ t. rw t 
 -- ---- "no line twice", within one set
 abbrev OnceIn : List Line → Type 0
 OnceIn xs =
-    (j k : ℕ) → getD xs j emptyLine .valid ≡ true → getD xs k emptyLine .valid ≡ true → getD xs j emptyLine .address ≡ getD xs k emptyLine .address → k ≡ j
+    (j k : ℕ) → getD xs j emptyLine .valid ≡ true → getD xs k emptyLine .valid ≡ true → getD xs j emptyLine .address ≡ getD xs k emptyLine .address →
+    k ≡ j
 
 twice-no : (x : Line) (xs : List Line) → noneTwice (x ∷ xs) ≡ true → (k : ℕ) → x .valid ≡ true → getD xs k emptyLine .valid ≡ true →
     getD xs k emptyLine .address ≢ x .address
@@ -351,7 +356,8 @@ pub record Shape (r : Record) : Type 0 where
   pub l2 : Shaped l2Kind (r .l2)
 
 -- ---- lengths and mode
-sizes-tell : (z : State) → lentL1d (z .l1d) ≡ true → lentL2 (z .rec) (z .l2) ≡ true → lentExternal (z .rec) (z .ext) ≡ true → legalSizes (z .rec) ≡ true →
+sizes-tell : (z : State) → lentL1d (z .l1d) ≡ true → lentL2 (z .rec) (z .l2) ≡ true → lentExternal (z .rec) (z .ext) ≡ true →
+    legalSizes (z .rec) ≡ true →
     Sizes (z .rec .l2len) (z .rec .extlen) (z .rec .mode) (z .l1d) (z .l2) (z .ext)
 unfolding lentL1d lentL2 lentExternal legalSizes legalL2 legalExternal
 sizes-tell z a b c h =
@@ -376,21 +382,25 @@ sizes-tell z a b c h =
 module _ (l : ℕ) where
   pub legalL2-makes : 32768 ≤ l → l ≤ 262144 → l % 32768 ≡ 0 → legalL2 l ≡ true
   unfolding legalL2
-  legalL2-makes a b c = makes (eqb (l % 32768) 0) (leb 32768 l ∷ leb l 262144 ∷ []) (eq-eqb (l % 32768) 0 c and le-leb 32768 l a and le-leb l 262144 b)
+  legalL2-makes a b c =
+      makes (eqb (l % 32768) 0) (leb 32768 l ∷ leb l 262144 ∷ []) (eq-eqb (l % 32768) 0 c and le-leb 32768 l a and le-leb l 262144 b)
 
   pub legalL2-tells : legalL2 l ≡ true → (32768 ≤ l) × (l ≤ 262144) × (l % 32768 ≡ 0)
   unfolding legalL2
   legalL2-tells h =
-      let p = tells (eqb (l % 32768) 0) (leb 32768 l ∷ leb l 262144 ∷ []) h in (leb-true 32768 l (p 1), leb-true l 262144 (p 2), eqb-true (l % 32768) 0 (p 0))
+      let p = tells (eqb (l % 32768) 0) (leb 32768 l ∷ leb l 262144 ∷ []) h in
+      (leb-true 32768 l (p 1), leb-true l 262144 (p 2), eqb-true (l % 32768) 0 (p 0))
 
   pub legalExternal-makes : 128 ≤ l → l ≤ 33554432 → l % 128 ≡ 0 → legalExternal l ≡ true
   unfolding legalExternal
-  legalExternal-makes a b c = makes (eqb (l % 128) 0) (leb 128 l ∷ leb l 33554432 ∷ []) (eq-eqb (l % 128) 0 c and le-leb 128 l a and le-leb l 33554432 b)
+  legalExternal-makes a b c =
+      makes (eqb (l % 128) 0) (leb 128 l ∷ leb l 33554432 ∷ []) (eq-eqb (l % 128) 0 c and le-leb 128 l a and le-leb l 33554432 b)
 
   pub legalExternal-tells : legalExternal l ≡ true → (128 ≤ l) × (l ≤ 33554432) × (l % 128 ≡ 0)
   unfolding legalExternal
   legalExternal-tells h =
-      let p = tells (eqb (l % 128) 0) (leb 128 l ∷ leb l 33554432 ∷ []) h in (leb-true 128 l (p 1), leb-true l 33554432 (p 2), eqb-true (l % 128) 0 (p 0))
+      let p = tells (eqb (l % 128) 0) (leb 128 l ∷ leb l 33554432 ∷ []) h in
+      (leb-true 128 l (p 1), leb-true l 33554432 (p 2), eqb-true (l % 128) 0 (p 0))
 
 module _ (z : State) (h : Sizes (z .rec .l2len) (z .rec .extlen) (z .rec .mode) (z .l1d) (z .l2) (z .ext)) where
   sizes-lent : (lentL1d (z .l1d) && (lentL2 (z .rec) (z .l2) && lentExternal (z .rec) (z .ext))) ≡ true
@@ -421,7 +431,10 @@ module _ (z : State) (h : Sizes (z .rec .l2len) (z .rec .extlen) (z .rec .mode) 
 module _ (z : State) (shape : Shape (z .rec)) (sizes : Sizes (z .rec .l2len) (z .rec .extlen) (z .rec .mode) (z .l1d) (z .l2) (z .ext))
     (l1d : allIndexed (l1dSetOk (z .rec)) 0 (z .rec .l1d) ≡ true) (l2 : allIndexed (l2SetOk (z .rec)) 0 (z .rec .l2) ≡ true) where
   l1d-set-tests : (s : ℕ) → s < 128 → (i : ℕ) →
-      getD (allIndexed (lineTest (l1dPlace (z .rec)) s) 0 (l1dSetAt (z .rec) s .lines) ∷ noneTwice (l1dSetAt (z .rec) s .lines) ∷ permuted2 (l1dSetAt (z .rec) s .order) ∷ []) i true ≡ true
+      getD
+      (allIndexed (lineTest (l1dPlace (z .rec)) s) 0 (l1dSetAt (z .rec) s .lines) ∷ noneTwice (l1dSetAt (z .rec) s .lines) ∷ permuted2
+      (l1dSetAt (z .rec) s .order) ∷ [])
+      i true ≡ true
   unfolding l1dSetOk l1dLineOk
   l1d-set-tests s hs =
       let v = l1dSetAt (z .rec) s in let n = shape .l1d .sets in
@@ -434,7 +447,8 @@ module _ (z : State) (shape : Shape (z .rec)) (sizes : Sizes (z .rec .l2len) (z 
   unfolding l2SetOk l2LineOk
   l2-set-tests t ht =
       let v = l2SetAt (z .rec) t in let n = shape .l2 .sets in
-      tells (allIndexed (lineTest (l2Place (z .rec)) t) 0 (v .lines)) (noneTwice (v .lines) ∷ permuted4 (v .order) ∷ freshUnlessUsed (z .rec) t (v .order) ∷ [])
+      tells (allIndexed (lineTest (l2Place (z .rec)) t) 0 (v .lines))
+      (noneTwice (v .lines) ∷ permuted4 (v .order) ∷ freshUnlessUsed (z .rec) t (v .order) ∷ [])
       (all-tells (l2SetOk (z .rec)) noL2Set (z .rec .l2) l2 t (omega arith))
 
   l1d-placed : (s w : ℕ) → Valid (l1dLevel z) s w → (s < 128) × (w < 2) × (l1dPlace (z .rec) s (l1dLineAt (z .rec) s w .address) ≡ true)
@@ -443,12 +457,14 @@ module _ (z : State) (shape : Shape (z .rec)) (sizes : Sizes (z .rec .l2len) (z 
   l1d-sound : Sound (L1dPlaced (layoutOf (z .rec))) (l1dLevel z)
   l1d-sound =
       table-sound l1dKind (z .rec .l1d) (shape .l1d) (l1dPlace (z .rec)) (λ s hs. l1d-set-tests s hs 0) (λ s hs. l1d-set-tests s hs 1)
-      (L1dPlaced (layoutOf (z .rec))) (λ s w a hw h. l1d-place-tells (z .rec) s w a hw h) (λ s w s′ w′ a p p′. p′ .ownSet ∙ sym (p .ownSet)) l1dData (z .l1d)
+      (L1dPlaced (layoutOf (z .rec))) (λ s w a hw h. l1d-place-tells (z .rec) s w a hw h) (λ s w s′ w′ a p p′. p′ .ownSet ∙ sym (p .ownSet)) l1dData
+      (z .l1d)
 
   l2-sound : Sound (L2Placed (layoutOf (z .rec))) (l2Level z)
   l2-sound =
       table-sound l2Kind (z .rec .l2) (shape .l2) (l2Place (z .rec)) (λ t ht. l2-set-tests t ht 0) (λ t ht. l2-set-tests t ht 1)
-      (L2Placed (layoutOf (z .rec))) (λ t v a hv h. l2-place-tells (z .rec) t v a hv h) (λ t v t′ v′ a p p′. p′ .ownSet ∙ sym (p .ownSet)) (l2Data (z .rec)) (z .l2)
+      (L2Placed (layoutOf (z .rec))) (λ t v a hv h. l2-place-tells (z .rec) t v a hv h) (λ t v t′ v′ a p p′. p′ .ownSet ∙ sym (p .ownSet))
+      (l2Data (z .rec)) (z .l2)
 
   l2-empty : (t v : ℕ) → l2LineAt (z .rec) t v .valid ≡ false → l2LineAt (z .rec) t v ≡ emptyLine
   l2-empty = table-empty l2Kind (z .rec .l2) (shape .l2) (l2Place (z .rec)) (λ t ht. l2-set-tests t ht 0) (λ t ht. l2-set-tests t ht 1)
@@ -486,7 +502,8 @@ unfolding lentDue wellFormed
 due-well z shape h =
     let p = first-none (lentL1d (z .l1d) && (lentL2 (z .rec) (z .l2) && lentExternal (z .rec) (z .ext))) 0 (unless (wellFormed (z .rec)) 2) h in
     let a = tells (lentL1d (z .l1d)) (lentL2 (z .rec) (z .l2) ∷ lentExternal (z .rec) (z .ext) ∷ []) (p .0) in
-    let b = tells (legalSizes (z .rec)) (allIndexed (l1dSetOk (z .rec)) 0 (z .rec .l1d) ∷ allIndexed (l2SetOk (z .rec)) 0 (z .rec .l2) ∷ []) (unless-none (wellFormed (z .rec)) 1 (p .1)) in
+    let b = tells (legalSizes (z .rec)) (allIndexed (l1dSetOk (z .rec)) 0 (z .rec .l1d) ∷ allIndexed (l2SetOk (z .rec)) 0 (z .rec .l2) ∷ [])
+    (unless-none (wellFormed (z .rec)) 1 (p .1)) in
     tests-well z shape (sizes-tell z (a 0) (a 1) (a 2) (b 0)) (b 1) (b 2)
 
 -- ---- and the other way: a well-formed state passes checks 1 and 2
@@ -508,7 +525,8 @@ module _ (z : State) (h : Well z) where
   l2-passes =
       all-makes (l2SetOk (z .rec)) noL2Set (z .rec .l2)
       (λ t k. let n = h .tidy .l2 .shaped .sets in let v = l2SetAt (z .rec) t in
-      makes (allIndexed (lineTest (l2Place (z .rec)) t) 0 (v .lines)) (noneTwice (v .lines) ∷ permuted4 (v .order) ∷ freshUnlessUsed (z .rec) t (v .order) ∷ [])
+      makes (allIndexed (lineTest (l2Place (z .rec)) t) 0 (v .lines))
+      (noneTwice (v .lines) ∷ permuted4 (v .order) ∷ freshUnlessUsed (z .rec) t (v .order) ∷ [])
       (table-lines l2Kind (z .rec .l2) (h .tidy .l2) (l2Place (z .rec))
       (λ t′ w i. l2-place-makes (z .rec) t′ w (l2LineAt (z .rec) t′ w .address) (h .inv .l2Sound .place t′ w i)) t
       and once-makes (v .lines) (λ w w′ i i′ e. h .inv .l2Sound .once t w t w′ i i′ e .1)

@@ -199,7 +199,8 @@ fillL2-good z F q t v b room p none =
     let i₁ : Invariant (layoutOf (z .rec)) (l1dLevel z) (l2Level z′) (memoryOf z) F =
     l2-filled (layoutOf (z .rec)) (l1dLevel z) (l2Level z) (memoryOf z) F (q .inv) (l2Level z′) t v b u room p none
     (λ i h. let j : b - externalBase + i ≡ b + i - externalBase = omega arith in
-    copied-in (z .l2) (z .ext) (l2Data (z .rec) t v) (b - externalBase) 128 f₂ fe i h ∙ rw j (sym (memory-high (z .l2) (z .ext) (b + i) (omega arith)))) in
+    copied-in (z .l2) (z .ext) (l2Data (z .rec) t v) (b - externalBase) 128 f₂ fe i h
+    ∙ rw j (sym (memory-high (z .l2) (z .ext) (b + i) (omega arith)))) in
     record {
       good = record {
         tidy = l2-tidy z (q .tidy) t v l (z .l1d) m′ (z .ext) ht (λ x. false-true (sym x)) refl (length-stored (z .l2) bs (l2Data (z .rec) t v)) refl;

@@ -50,7 +50,8 @@ homeLine v a z =
 
 unfoldable pub fillL1d : ℕ → ℕ → ℕ → State → State
 fillL1d w v a z =
-    state (withL1dLine (z .rec) (l1dSetOf a) w (lineOf (l1dLine a) false)) (stored (z .l1d) (l1dData (l1dSetOf a) w) (homeLine v a z)) (z .l2) (z .ext)
+    state (withL1dLine (z .rec) (l1dSetOf a) w (lineOf (l1dLine a) false))
+    (stored (z .l1d) (l1dData (l1dSetOf a) w) (homeLine v a z)) (z .l2) (z .ext)
 
 -- The way w is chosen first and stays chosen. Its parts, last first: the bytes of the filled way (server k); the line fetched into the emptied way; the whole.
 unfoldable pub readFilled : ℕ → ℕ → ℕ → ℕ → State → Access

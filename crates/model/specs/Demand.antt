@@ -38,7 +38,8 @@ modeAfter c r mode = cond (eqb (c .code) 10 && eqb (r .number) 0) (c .first) mod
 -- ---- external memory is settled: the same in both, and no line of it is dirty in either cache (L2 holds lines of external memory only)
 pub record Settled (z : State) (f : Flat) : Type 0 where
   pub same : z .ext ≡ f .ext
-  pub l1dClean : (s w : ℕ) → l1dLineAt (z .rec) s w .valid ≡ true → externalBase ≤ l1dLineAt (z .rec) s w .address → l1dLineAt (z .rec) s w .dirty ≡ false
+  pub l1dClean : (s w : ℕ) → l1dLineAt (z .rec) s w .valid ≡ true → externalBase ≤ l1dLineAt (z .rec) s w .address →
+      l1dLineAt (z .rec) s w .dirty ≡ false
   pub l2Clean : (t v : ℕ) → l2LineAt (z .rec) t v .valid ≡ true → l2LineAt (z .rec) t v .dirty ≡ false
 
 -- ---- what agrees at one place of the list, the chip being in state z and flat memory in state f before the call

@@ -88,7 +88,9 @@ pub stored-none : (m : List ℕ) (a : ℕ) → stored m a [] ≡ m
 unfolding stored splice
 stored-none m a =
     bool (leb (a + length {A = ℕ} []) (length m))
-    (λ e. let h = leb-true (a + length {A = ℕ} []) (length m) e in let z : a + length {A = ℕ} [] ≡ a = omega arith in rw (e, z) (take-append-drop a m))
+    (λ e. let h = leb-true (a + length {A = ℕ} []) (length m) e in
+    let z : a + length {A = ℕ} [] ≡ a = omega arith in
+    rw (e, z) (take-append-drop a m))
     (λ e. rw e refl)
 
 -- ---- what each byte is after bytes were put into a memory, and in a part of it

@@ -19,7 +19,10 @@ unfoldable pub carriedFrom : List ℕ → ℕ → ℕ → ℕ → ℕ → List C
 carriedFrom t room zero i k = []
 carriedFrom t room (suc turns) i k =
     cond (ltb i (length t))
-    (cond (commandAt t i .ok) (cond (leb (k * 10 + 10) room) (commandAt t i .found ∷ carriedFrom t room turns (i + commandAt t i .used) (suc k)) []) []) []
+    (cond (commandAt t i .ok)
+    (cond (leb (k * 10 + 10) room) (commandAt t i .found ∷ carriedFrom t room turns (i + commandAt t i .used) (suc k)) [])
+    [])
+    []
 
 unfoldable pub carried : List ℕ → ℕ → List Command
 carried t room = carriedFrom t room (length t) 0 0
@@ -37,7 +40,8 @@ flatAfter (c ∷ cs) f = flatAfter cs (flatStep c f .next)
 pub data AnswersAre (o : List ℕ) : ℕ → List Command → State → Type 0 where
   end : {k : ℕ} {z : State} → AnswersAre o k [] z
   next : {k : ℕ} {c : Command} {cs : List Command} {z : State} →
-      part o (k * 10) 10 ≡ call c z .number ∷ call c z .server ∷ littleBytes (call c z .value) 8 → AnswersAre o (suc k) cs (call c z .next) → AnswersAre o k (c ∷ cs) z
+      part o (k * 10) 10 ≡ call c z .number ∷ call c z .server ∷ littleBytes (call c z .value) 8 → AnswersAre o (suc k) cs (call c z .next) →
+      AnswersAre o k (c ∷ cs) z
 
 pub record RunIsCalls (trace answers : List ℕ) (z : State) : Type 0 where
   pub next : runCall trace answers z .next ≡ after (carried trace (length answers)) z

@@ -150,7 +150,8 @@ number-small limit t p a e o = rw e (go (rw e at o))
     go : cond (groups (drop p t) .ok && ltb (groups (drop p t) .value) limit) (groups (drop p t)) noNumber .ok ≡ true →
         cond (groups (drop p t) .ok && ltb (groups (drop p t) .value) limit) (groups (drop p t)) noNumber .value < limit
     go = bool (groups (drop p t) .ok)
-        (λ q. bool (ltb (groups (drop p t) .value) limit) (λ l. rw (q, l) (λ _. ltb-true (groups (drop p t) .value) limit l)) (λ l. rw (q, l) (λ o. false-true o)))
+        (λ q. bool (ltb (groups (drop p t) .value) limit) (λ l. rw (q, l) (λ _. ltb-true (groups (drop p t) .value) limit l))
+        (λ l. rw (q, l) (λ o. false-true o)))
         (λ q. rw q (λ o. false-true o))
 
 -- ---- what the widths have in common: a limit of m * 128 ^ k leaves room for the groups before the last

@@ -25,7 +25,8 @@ module _ (sets i w : ℕ) (x : Line) (l m e : List ℕ) where
       (λ v. rw v refl)
 
   pub all-inside : (u : L2Set) (sram t : ℕ) → goesInside sets x ≡ true →
-      sendHome u sram sets t i w x l m e ≡ sentAs (sendInside u sram sets t i w (x .address) l m .set) (sendInside u sram sets t i w (x .address) l m .l2) e
+      sendHome u sram sets t i w x l m e ≡ sentAs (sendInside u sram sets t i w (x .address) l m .set)
+      (sendInside u sram sets t i w (x .address) l m .l2) e
   unfolding goesInside sendInside homed sendHome sendBytes
   all-inside u sram t g =
       bool (x .valid)

@@ -78,7 +78,8 @@ frontOut s i due cached c l e =
     cond (eqb due 0)
     (cond cached
     (cond (ltb (l1dFind s (l1dLine (c .second))) 2)
-    (frontAs (ended (hit s i (l1dFind s (l1dLine (c .second))) c l .out .set) (answer 0 1 (hit s i (l1dFind s (l1dLine (c .second))) c l .out .value)))
+    (frontAs (ended (hit s i (l1dFind s (l1dLine (c .second))) c l .out .set)
+    (answer 0 1 (hit s i (l1dFind s (l1dLine (c .second))) c l .out .value)))
     (hit s i (l1dFind s (l1dLine (c .second))) c l .l1d) e)
     (frontAs (record { done = false; set = s; answer = answer 0 0 0 }) l e))
     (frontAs (ended s (answer 0 4 (direct c e .value))) l (direct c e .ext)))
@@ -182,7 +183,8 @@ takeHalf s on b to l m =
     cond on
     (cond (ltb (l1dFind s (l1dLine b)) 2)
     (cond (l1dGet s (l1dFind s (l1dLine b)) .dirty)
-    (takenAs (half (l1dPut s (l1dFind s (l1dLine b)) emptyLine) true) (stored m (to + b % 128) (part l (l1dData (l1dSetOf b) (l1dFind s (l1dLine b))) 64)))
+    (takenAs (half (l1dPut s (l1dFind s (l1dLine b)) emptyLine) true)
+    (stored m (to + b % 128) (part l (l1dData (l1dSetOf b) (l1dFind s (l1dLine b))) 64)))
     (takenAs (half (l1dPut s (l1dFind s (l1dLine b)) emptyLine) false) m))
     (takenAs (half s false) m))
     (takenAs (half s false) m)
@@ -246,7 +248,8 @@ finishedAs o l m e = record { out = o; l1d = l; l2 = m; ext = e }
 unfoldable pub finish : L1dSet → ℕ → ℕ → Bool → ℕ → Command → List ℕ → List ℕ → List ℕ → Finished
 finish s i w h at c l m e =
     cond (isWrite c)
-    (finishedAs (served s 0) l (storeHome (homeOf h at (c .second)) (c .first) (c .value) m e .l2) (storeHome (homeOf h at (c .second)) (c .first) (c .value) m e .ext))
+    (finishedAs (served s 0) l (storeHome (homeOf h at (c .second)) (c .first) (c .value) m e .l2)
+    (storeHome (homeOf h at (c .second)) (c .first) (c .value) m e .ext))
     (finishedAs
     (served (l1dUse (l1dPut s w (lineOf (l1dLine (c .second)) false)) w)
     (little (part (fetchLine (homeOf h at (l1dLine (c .second))) (l1dData i w) l m e) (l1dData i w + c .second % 64) (c .first))))

@@ -39,6 +39,8 @@ unfolding freshOk legalL2 legalExternal
 fresh-lengths d m e h =
     let p = both-true (eqb (length d) 16384) (legalL2 (length m) && legalExternal (length e)) h .1 in
     let q = both-true (legalL2 (length m)) (legalExternal (length e)) p in
-    let l = both-true (leb 32768 (length m)) (leb (length m) 262144) (both-true (eqb (length m % 32768) 0) (leb 32768 (length m) && leb (length m) 262144) (q .0) .1) in
-    let x = both-true (leb 128 (length e)) (leb (length e) 33554432) (both-true (eqb (length e % 128) 0) (leb 128 (length e) && leb (length e) 33554432) (q .1) .1) in
+    let l = both-true (leb 32768 (length m)) (leb (length m) 262144)
+    (both-true (eqb (length m % 32768) 0) (leb 32768 (length m) && leb (length m) 262144) (q .0) .1) in
+    let x = both-true (leb 128 (length e)) (leb (length e) 33554432)
+    (both-true (eqb (length e % 128) 0) (leb 128 (length e) && leb (length e) 33554432) (q .1) .1) in
     (leb-true (length m) 262144 (l .1), leb-true (length e) 33554432 (x .1))

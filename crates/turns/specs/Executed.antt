@@ -156,7 +156,8 @@ pub record Going (end at k : ℕ) (d : Next) (o : List ℕ) : Type 0 where
   pub up : k + 1 ≤ at + d .used
   pub room : k * 10 + 10 ≤ length o
 
-pub goes-on : (single : Bool) (c : Command) (t : List ℕ) (end at k : ℕ) (d : Next) (o : List ℕ) (s : ℕ) → end ≡ endOf single t → NextAt single c t at d → at < end → k ≤ at →
+pub goes-on : (single : Bool) (c : Command) (t : List ℕ) (end at k : ℕ) (d : Next) (o : List ℕ) (s : ℕ) → end ≡ endOf single t →
+    NextAt single c t at d → at < end → k ≤ at →
     s ≡ stopOf (d .ok) (length o) k → s ≡ 0 → Going end at k d o
 goes-on single c t end at k d o s ee n h le es z =
     let none : stopOf (d .ok) (length o) k ≡ 0 = sym es ∙ z in

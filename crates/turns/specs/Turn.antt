@@ -103,7 +103,8 @@ roomState q n = state (roomRecord q n) (q .f .l1d) (n .m₁) (n .e₁)
 module _ (q : Asked) where
   -- ---- refused, direct, or a hit
   pub front-of : q .f .out .done ≡ true →
-      reply (q .f .out .answer .number) (q .f .out .answer .server) (q .f .out .answer .value) (state (withL1dSet (q .r) (q .i) (q .f .out .set)) (q .f .l1d) (q .m) (q .f .ext))
+      reply (q .f .out .answer .number) (q .f .out .answer .server) (q .f .out .answer .value)
+      (state (withL1dSet (q .r) (q .i) (q .f .out .set)) (q .f .l1d) (q .m) (q .f .ext))
       ≡ step (q .c) (state (q .r) (q .l) (q .m) (q .e))
   front-of dn = front-done (q .r) (q .l) (q .m) (q .e) (q .c) (q .i) (q .due) (q .cached) (q .f) (q .two) (q .ei) (q .ed) (q .ec) (q .ef) dn
 
@@ -116,14 +117,16 @@ module _ (q : Asked) where
     pub inside-of : (th : ℕ) (n : Inside) → goesInside (q .sets) (g .line) ≡ true → (q .sets ≢ 0 → th ≡ l2SetIn (q .sets) (g .line .address)) →
         n ≡ sendInside (l2SetAt (q .r) th) (q .sram) (q .sets) th (q .i) (g .way) (g .line .address) (q .f .l1d) (q .m) →
         b ≡ sendBelow (q .sets) (q .i) (g .way) (g .line) (q .f .l1d) (n .l2) (q .f .ext) →
-        state (withL1dSet (withL2Set (q .r) th (n .set)) (q .i) x) (q .f .l1d) (b .l2) (b .ext) ≡ room (q .write) (q .c .second) (state (q .r) (q .f .l1d) (q .m) (q .f .ext))
+        state (withL1dSet (withL2Set (q .r) th (n .set)) (q .i) x) (q .f .l1d) (b .l2) (b .ext) ≡ room (q .write) (q .c .second)
+        (state (q .r) (q .f .l1d) (q .m) (q .f .ext))
     inside-of th n k et en eb =
         room-inside (q .r) (q .f .l1d) (q .m) (q .f .ext) (q .write) (q .c .second) (q .i) g x b (q .ei) eg ex th n (rw (q .es) at k)
         (λ z. rw (q .es) at (et (λ o. z (sym (q .es) ∙ o)))) (rw (q .es, q .er) at en) (rw (q .es) at eb)
 
     pub below-of : goesInside (q .sets) (g .line) ≡ false → b ≡ sendBelow (q .sets) (q .i) (g .way) (g .line) (q .f .l1d) (q .m) (q .f .ext) →
         state (withL1dSet (q .r) (q .i) x) (q .f .l1d) (b .l2) (b .ext) ≡ room (q .write) (q .c .second) (state (q .r) (q .f .l1d) (q .m) (q .f .ext))
-    below-of k eb = room-below (q .r) (q .f .l1d) (q .m) (q .f .ext) (q .write) (q .c .second) (q .i) g x b (q .ei) eg ex (rw (q .es) at k) (rw (q .es) at eb)
+    below-of k eb =
+        room-below (q .r) (q .f .l1d) (q .m) (q .f .ext) (q .write) (q .c .second) (q .i) g x b (q .ei) eg ex (rw (q .es) at k) (rw (q .es) at eb)
 
   module _ (n : Roomed q) where
     abbrev a : ℕ
@@ -180,7 +183,8 @@ module _ (q : Asked) where
           state (withL2Set (withL1dSet (withL1dSet (roomRecord q n) x (h₁ .out .set)) y (h₂ .out .set)) t (b .set)) (q .f .l1d) (b .l2) (b .ext)
           ≡ ready (q .write) a (roomState q n)
       homed-of x y up h₁ h₂ d b ex e₁ eu ey e₂ eg eb =
-          homed-ready (roomRecord q n) (q .f .l1d) (n .m₁) (n .e₁) (q .write) a t ch set-is home-true ech at x y up h₁ h₂ d b place-is ex e₁ eu ey e₂ eg eb
+          homed-ready (roomRecord q n) (q .f .l1d) (n .m₁) (n .e₁) (q .write) a t ch set-is home-true ech at x y up h₁ h₂ d b place-is ex e₁ eu ey e₂
+          eg eb
 
       pub server-homed : (s : ℕ) → s ≡ serverOf ch a → s ≡ homeServer a (roomState q n)
       server-homed s es = es ∙ server-is (roomState q n) a t ch (λ _. set-is) choice-is
@@ -193,7 +197,8 @@ module _ (q : Asked) where
         state r₂ (q .f .l1d) m₂ e₂ ≡ ready (q .write) a (roomState q n) → (at k : ℕ) →
         (homeIsL2 (roomRecord q n) a ≡ true → at ≡ l2Data (roomRecord q n) (l2SetOf (roomRecord q n) a) (l2WayFor (roomState q n) a)) →
         k ≡ homeServer a (roomState q n) → (x : Finished) → x ≡ finish (l1dSetAt r₂ (q .i)) (q .i) (n .g .way) h at (q .c) (q .f .l1d) m₂ e₂ →
-        reply 0 k (x .out .value) (state (withL1dSet r₂ (q .i) (x .out .set)) (x .l1d) (x .l2) (x .ext)) ≡ step (q .c) (state (q .r) (q .l) (q .m) (q .e))
+        reply 0 k (x .out .value) (state (withL1dSet r₂ (q .i) (x .out .set)) (x .l1d) (x .l2) (x .ext)) ≡ step (q .c)
+        (state (q .r) (q .l) (q .m) (q .e))
     unfolding leaving
     miss-of h eh r₂ m₂ e₂ md ln rd at k pl ek x en =
         let o = missed (n .dn) in
@@ -201,7 +206,8 @@ module _ (q : Asked) where
         let same : z₀ ≡ state (q .r) (q .l) (q .m) (q .e) = λ j. state (q .r) (o .l1d j) (q .m) (o .ext j) in
         let mi : inL1d z₀ a ≡ false = ap (λ (y : State). inL1d y a) same ∙ o .miss in
         let way : isWrite (q .c) ≡ false → n .g .way ≡ victimOf a z₀ = λ w.
-        ap (λ (y : Departure). y .way) (n .eg) ∙ ap (λ (b : Bool). leaving (l1dSetAt (q .r) (q .i)) b .way) (q .ew ∙ w) ∙ ap (λ (i : ℕ). l1dVictim (l1dSetAt (q .r) i)) (q .ei) in
+        ap (λ (y : Departure). y .way) (n .eg) ∙ ap (λ (b : Bool). leaving (l1dSetAt (q .r) (q .i)) b .way) (q .ew ∙ w)
+        ∙ ap (λ (i : ℕ). l1dVictim (l1dSetAt (q .r) i)) (q .ei) in
         miss-done (roomState q n) r₂ (q .f .l1d) m₂ e₂ (q .c) md ln (q .i) (n .g .way) at k x (q .ei) pl ek
         (rd ∙ ap (λ (b : Bool). ready b a (roomState q n)) (q .ew))
         (en ∙ ap (λ (b : Bool). finish (l1dSetAt r₂ (q .i)) (q .i) (n .g .way) b at (q .c) (q .f .l1d) m₂ e₂) (home-is h eh))
@@ -211,4 +217,5 @@ module _ (q : Asked) where
     -- what it needs: a size that is one of the four
     pub size-of : sizeOk (q .c .first) ≡ true
     size-of =
-        size-known (sramOf (q .r)) (q .r .extlen) (q .c .first) a (checked (q .c)) (access-due (q .c) (state (q .r) (q .l) (q .m) (q .e)) (q .two) ∙ missed (n .dn) .due)
+        size-known (sramOf (q .r)) (q .r .extlen) (q .c .first) a (checked (q .c))
+        (access-due (q .c) (state (q .r) (q .l) (q .m) (q .e)) (q .two) ∙ missed (n .dn) .due)

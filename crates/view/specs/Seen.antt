@@ -33,7 +33,8 @@ view-tells r m e a h =
     let b = both-true (lentL2 r m) (lentExternal r e) (first-none (lentL2 r m && lentExternal r e) 0 (unless (wellFormed r) 2) (p .0) .0) in
     let l = eqb-true (length m) (r .l2len) (both-true (legalL2 (length m)) (eqb (length m) (r .l2len)) (b .0) .1) in
     let x = eqb-true (length e) (r .extlen) (both-true (legalExternal (length e)) (eqb (length e) (r .extlen)) (b .1) .1) in
-    let k = unless-none (placeOk (sramOf r) (r .extlen) 64 a) 4 (first-none (eqb (a % 64) 0) 3 (unless (placeOk (sramOf r) (r .extlen) 64 a) 5) (p .1) .1) in
+    let k = unless-none (placeOk (sramOf r) (r .extlen) 64 a) 4
+    (first-none (eqb (a % 64) 0) 3 (unless (placeOk (sramOf r) (r .extlen) 64 a) 5) (p .1) .1) in
     record {
       low = λ g. let f = leb-true (a + 64) (sramOf r) (rw (lt-ltb a externalBase g) at k) in omega arith;
       high = λ g. let f = leb-true (a + 64) (externalBase + r .extlen) (rw (le-ltb a externalBase g) at k) in omega arith;
@@ -54,7 +55,13 @@ module _ (r : Record) (m e : List ℕ) (a : ℕ) where
   unfolding viewCall memoryPart
   view-external h g p q =
       let f = view-tells r m e a h .high g in
-      rw (q, eq-eqb (viewDue r m e a) 0 h, le-ltb a externalBase g, part-inside e (a - externalBase) 64 f, add-sub-cancel-left (a - externalBase) 64) refl
+      rw (
+        q,
+        eq-eqb (viewDue r m e a) 0 h,
+        le-ltb a externalBase g,
+        part-inside e (a - externalBase) 64 f,
+        add-sub-cancel-left (a - externalBase) 64,
+      ) refl
 
 -- where an address lies, by the code's test
 pub is-low : (a : ℕ) → ltb a externalBase ≡ true → a < externalBase

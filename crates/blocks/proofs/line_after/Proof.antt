@@ -11,13 +11,22 @@ div-result : tie.Need-div-result
 div-result c = search needs
 
 add-result : tie.Need-add-result
-add-result c = let a = c .args in let b : a .base < 4294967296 = omega arith in let t = number-small (a .length) (a .base) (a .count) (c .pre .0) b (a .k) (c .pre .1) in omega arith
+add-result c =
+    let a = c .args in
+    let b : a .base < 4294967296 = omega arith in
+    let t = number-small (a .length) (a .base) (a .count) (c .pre .0) b (a .k) (c .pre .1) in omega arith
 
 mul-result : tie.Need-mul-result
-mul-result c = let a = c .args in let b : a .base < 4294967296 = omega arith in let t = touched-small (a .length) (a .base) (a .count) (c .pre .0) b (a .k) (c .pre .1) in omega arith
+mul-result c =
+    let a = c .args in
+    let b : a .base < 4294967296 = omega arith in
+    let t = touched-small (a .length) (a .base) (a .count) (c .pre .0) b (a .k) (c .pre .1) in omega arith
 
 cast-result : tie.Need-cast-result
-cast-result c = let a = c .args in let b : a .base < 4294967296 = omega arith in let t = touched-small (a .length) (a .base) (a .count) (c .pre .0) b (a .k) (c .pre .1) in omega arith
+cast-result c =
+    let a = c .args in
+    let b : a .base < 4294967296 = omega arith in
+    let t = touched-small (a .length) (a .base) (a .count) (c .pre .0) b (a .k) (c .pre .1) in omega arith
 
 returns : tie.Need-returns
 returns c = search needs

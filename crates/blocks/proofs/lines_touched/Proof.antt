@@ -18,7 +18,11 @@ block-end-requires : tie.Need-block-end-requires
 block-end-requires c κs = search needs
 
 sub-result : tie.Need-sub-result
-sub-result c = let a = c .before .before .args in let e = c .block-end .ensures in let b : a .base < 4294967296 = omega arith in let p = end-bounds (a .base) (a .count) b (c .before .if1 .left) in omega arith
+sub-result c =
+    let a = c .before .before .args in
+    let e = c .block-end .ensures in
+    let b : a .base < 4294967296 = omega arith in
+    let p = end-bounds (a .base) (a .count) b (c .before .if1 .left) in omega arith
 
 div-result : tie.Need-div-result
 div-result c = search needs
@@ -30,13 +34,21 @@ sub-result-2 : tie.Need-sub-result-2
 sub-result-2 c =
     let p-if1 = c .before in
     let p-args = p-if1 .before in
-    let a = p-args .args in let e = c .block-end .ensures in let b : a .base < 4294967296 = omega arith in let p = end-bounds (a .base) (a .count) b (p-if1 .if1 .left) in let f = first-last (a .length) (a .base) (a .count) (p-args .pre) b (c .block-end .result) (p-if1 .if1 .left) e in f .0
+    let a = p-args .args in
+    let e = c .block-end .ensures in
+    let b : a .base < 4294967296 = omega arith in
+    let p = end-bounds (a .base) (a .count) b (p-if1 .if1 .left) in
+    let f = first-last (a .length) (a .base) (a .count) (p-args .pre) b (c .block-end .result) (p-if1 .if1 .left) e in f .0
 
 add-result : tie.Need-add-result
 add-result c =
     let p-if1 = c .before in
     let p-args = p-if1 .before in
-    let a = p-args .args in let e = c .block-end .ensures in let b : a .base < 4294967296 = omega arith in let p = end-bounds (a .base) (a .count) b (p-if1 .if1 .left) in let f = first-last (a .length) (a .base) (a .count) (p-args .pre) b (c .block-end .result) (p-if1 .if1 .left) e in omega arith
+    let a = p-args .args in
+    let e = c .block-end .ensures in
+    let b : a .base < 4294967296 = omega arith in
+    let p = end-bounds (a .base) (a .count) b (p-if1 .if1 .left) in
+    let f = first-last (a .length) (a .base) (a .count) (p-args .pre) b (c .block-end .result) (p-if1 .if1 .left) e in omega arith
 
 returns-2 : tie.Need-returns-2
 unfolding linesTouched

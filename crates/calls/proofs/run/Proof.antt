@@ -29,7 +29,8 @@ returns : tie.Need-returns
 returns c =
     let p-lent-due = c .before in
     let a = at-start p-lent-due .args in
-    run-refused (state (a .r) (a .l1d .now) (a .l2 .now) (a .ext .now)) (p-lent-due .lent-due .result) (p-lent-due .lent-due .ensures) (a .trace .now) (a .answers .now) (c .if1 .taken)
+    run-refused (state (a .r) (a .l1d .now) (a .l2 .now) (a .ext .now)) (p-lent-due .lent-due .result) (p-lent-due .lent-due .ensures) (a .trace .now)
+    (a .answers .now) (c .if1 .taken)
 
 execute-requires : tie.Need-execute-requires
 execute-requires c κs = search needs
@@ -56,7 +57,8 @@ returns-2 c =
     run-done (state (a .r) (a .l1d .now) (a .l2 .now) (a .ext .now)) (p-lent-due .lent-due .result) (p-lent-due .lent-due .ensures)
     (record { code = 0; first = 0; second = 0; value = 0 }) (a .trace .now) (a .answers .now)
     (executedAs (p-execute .execute .result) (p-execute .execute .last .1 .1 .1 .1 .0) (p-execute .execute .last .1 .1 .1 .1 .1 .0)
-    (p-execute .execute .last .1 .1 .1 .1 .1 .1 .0) (p-execute .execute .last .1 .1 .1 .1 .1 .1 .1 .0)) (p-if1 .if1 .left) (p-execute .execute .ensures)
+    (p-execute .execute .last .1 .1 .1 .1 .1 .1 .0) (p-execute .execute .last .1 .1 .1 .1 .1 .1 .1 .0)) (p-if1 .if1 .left) (p-execute .execute
+    .ensures)
 
 pub run-spec : {M : Type 1} → statement M
 run-spec =

@@ -51,7 +51,8 @@ returns-2 c =
     let p-l2-sweep = c .before .before .before .before in
     let p-if2 = p-l2-sweep .before .before .before in
     let o = p-if2 .before .before in let k = p-if2 .if2 .taken in
-    carried (asked o) (before o) (above o) (none-due o) (λ e. absurd (omega arith)) _ (p-l2-sweep .l2-sweep .ensures ∙ swept-l2 (asked o) (before o) (above o) k)
+    carried (asked o) (before o) (above o) (none-due o) (λ e. absurd (omega arith)) _
+    (p-l2-sweep .l2-sweep .ensures ∙ swept-l2 (asked o) (before o) (above o) k)
 
 l1d-sweep-requires : tie.Need-l1d-sweep-requires
 l1d-sweep-requires c κs = search needs
@@ -106,7 +107,8 @@ returns-5 c =
     let p-if5 = c .before in
     let p-if3 = p-if5 .before .before in
     let o = p-if3 .before .before .before .before in let z = before o in
-    mar-set (asked o) z (above o) (none-due o) (p-if5 .if5 .taken) _ (c .change-mar .ensures (z .l1d) (z .l2) (z .ext) ∙ changed-mar (asked o) z (is-mar p-if3))
+    mar-set (asked o) z (above o) (none-due o) (p-if5 .if5 .taken) _
+    (c .change-mar .ensures (z .l1d) (z .l2) (z .ext) ∙ changed-mar (asked o) z (is-mar p-if3))
 
 holds-range-requires : tie.Need-holds-range-requires
 holds-range-requires c κs = search needs

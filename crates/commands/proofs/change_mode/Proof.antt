@@ -38,8 +38,10 @@ returns c =
     let p-sram = p-sram2 .before in
     let p-flush-l2 = p-sram .before .before .before in
     let p-args = p-flush-l2 .before .before .before .before .before in
-    λ d. changed (p-args .args .mode) (p-args .args .r) (p-flush-l2 .flush-l2 .result) (c .new-record .result) d (p-args .args .l2 .now) (p-clear-from .clear-from .last .0) (p-args .args .ext .now) (p-flush-l2 .flush-l2 .last .1 .1 .0) (p-smaller .smaller .result)
-    (p-flush-l2 .flush-l2 .ensures .0 d) (p-smaller .smaller .ensures ∙ (λ i. smaller (p-sram .sram .ensures .0 i) (p-sram2 .sram2 .ensures .0 i))) (p-clear-from .clear-from .ensures) (c .new-record .ensures)
+    λ d. changed (p-args .args .mode) (p-args .args .r) (p-flush-l2 .flush-l2 .result) (c .new-record .result) d (p-args .args .l2 .now)
+    (p-clear-from .clear-from .last .0) (p-args .args .ext .now) (p-flush-l2 .flush-l2 .last .1 .1 .0) (p-smaller .smaller .result)
+    (p-flush-l2 .flush-l2 .ensures .0 d) (p-smaller .smaller .ensures ∙ (λ i. smaller (p-sram .sram .ensures .0 i) (p-sram2 .sram2 .ensures .0 i)))
+    (p-clear-from .clear-from .ensures) (c .new-record .ensures)
 
 pub change-mode-spec : {M : Type 1} → statement M
 change-mode-spec =

@@ -138,7 +138,8 @@ source c =
 abbrev whole : tie.At-loop Inv-loop μ-loop → Executed
 whole c =
     let a = at-start c .args in
-    executes (source c) (endAt c) (endAt c) 0 (state (a .r0) (a .l1d .now) (a .l2 .now) (a .ext .now)) 0 (a .answers .now) (at-none c .no-answer .result)
+    executes (source c) (endAt c) (endAt c) 0 (state (a .r0) (a .l1d .now) (a .l2 .now) (a .ext .now)) 0 (a .answers .now)
+    (at-none c .no-answer .result)
 
 -- what a call leaves in a memory that it is lent as its parameter n (from 0) is `.last`, n times `.1`, `.0`; that the length is kept, the same of `.kept`
 abbrev frontL1d : tie.After-front Inv-loop μ-loop → List ℕ
@@ -178,7 +179,8 @@ going c =
     let p-next = p-stop-of .before in
     let p-loop = at-loop c in
     let l = p-loop .loop in let a = at-start p-loop .args in
-    goes-on (a .single) (a .given) (a .trace .now) (endAt p-loop) (l .at) (l .count) (found c) (l .answers) (p-stop-of .stop-of .result) (p-loop .before .end-of .ensures) (p-next .next .ensures)
+    goes-on (a .single) (a .given) (a .trace .now) (endAt p-loop) (l .at) (l .count) (found c) (l .answers) (p-stop-of .stop-of .result)
+    (p-loop .before .end-of .ensures) (p-next .next .ensures)
     (p-next .before .loop-test .taken) (l .inv .counted) (p-stop-of .stop-of .ensures) (c .if1 .left)
 
 at-fits : (c : tie.Else1 Inv-loop μ-loop) → Fits w64 (at-loop c .loop .at + found c .used)
@@ -195,13 +197,16 @@ nearer c = let g = going c in let more = g .more in let to = g .to in omega arit
 -- a command carried out: the rest gives the whole
 onward : (c : tie.Else1 Inv-loop μ-loop) →
     let p-loop = at-loop c in let l = p-loop .loop in
-    (x : Reply) → x ≡ step (found c .command) (here p-loop) → (o : List ℕ) → o ≡ putAnswer (l .answers) (l .count) (x .number) (x .server) (x .value) →
-    executes (source p-loop) (endAt p-loop) (endAt p-loop - (l .count + 1)) (l .at + found c .used) (x .next) (l .count + 1) o (answerOf x) ≡ whole p-loop
+    (x : Reply) → x ≡ step (found c .command) (here p-loop) → (o : List ℕ) →
+    o ≡ putAnswer (l .answers) (l .count) (x .number) (x .server) (x .value) →
+    executes (source p-loop) (endAt p-loop) (endAt p-loop - (l .count + 1)) (l .at + found c .used) (x .next) (l .count + 1) o (answerOf x) ≡ whole
+    p-loop
 onward c x ex o eo =
     let p-next = c .before .before in
     let p-loop = at-loop c in
     let l = p-loop .loop in
-    turn (source p-loop) (endAt p-loop) (l .at) (l .count) (here p-loop) (l .answers) (l .last) (whole p-loop) (p-next .before .loop-test .taken) (l .inv .counted)
+    turn (source p-loop) (endAt p-loop) (l .at) (l .count) (here p-loop) (l .answers) (l .last) (whole p-loop) (p-next .before .loop-test .taken)
+    (l .inv .counted)
     (found c) (p-next .next .ensures .same) (going c .none) x ex o eo (l .inv .rest)
 
 -- a read or write, once the front is done
@@ -262,7 +267,8 @@ inside-arm c w =
       l2Long = ap length l2Is ∙ sent .kept .1 .1 .1 .1 .1 .1 .1 .1 .0;
       made = (λ j. state (withL1dSet (rIs j) (q .i) (c .emptied .result)) (q .f .l1d) (belowL2 p-below) (belowExt p-below))
           ∙ inside-of q g (c .emptied .result) (belowAs (belowL2 p-below) (belowExt p-below)) (p-leaving .leaving .ensures .0) (c .emptied .ensures) (set .result)
-          (insideAs (sent .result) (sent .last .1 .1 .1 .1 .1 .1 .1 .1 .0)) (sym (p-goes-inside .goes-inside .ensures) ∙ test .taken) (set .ensures .0) (sent .ensures)
+          (insideAs (sent .result) (sent .last .1 .1 .1 .1 .1 .1 .1 .1 .0)) (sym (p-goes-inside .goes-inside .ensures) ∙ test .taken)
+          (set .ensures .0) (sent .ensures)
           (p-below .send-below .ensures ∙ (λ j. sendBelow (q .sets) (q .i) (g .way) (g .line) (q .f .l1d) (l2Is j) (q .f .ext)));
     }
 
@@ -339,9 +345,14 @@ homed-arm c w =
           ∙ homed-of q n h eh (test .taken) (set .result) (chosen .result) (set .ensures .0) (chosen .ensures .0) (place .result) (place .ensures .0)
           (lowSet .result) (highSet .result) (upper .result) lowAs highAs (out .result) inL2
           (lowSet .ensures .0) (low .ensures) (upper .ensures) (highSet .ensures .0) (high .ensures) (out .ensures) (brought .ensures);
-      placed = λ t. placeIs ∙ place-homed q n h eh (test .taken) (set .result) (chosen .result) (set .ensures .0) (chosen .ensures .0) (place .result) (place .ensures .0) t;
+      placed =
+          λ t. placeIs
+          ∙ place-homed q n h eh (test .taken) (set .result) (chosen .result) (set .ensures .0) (chosen .ensures .0) (place .result)
+          (place .ensures .0) t;
       small = rw placeIs (place .ensures .1);
-      served = server-homed q n h eh (test .taken) (set .result) (chosen .result) (set .ensures .0) (chosen .ensures .0) (place .result) (place .ensures .0)
+      served =
+          server-homed q n h eh (test .taken) (set .result) (chosen .result) (set .ensures .0) (chosen .ensures .0) (place .result)
+          (place .ensures .0)
           (c .if5 .server) (serverIs ∙ server .ensures);
     }
 
@@ -422,8 +433,10 @@ returns c =
     let p-loop-test = p-next .before in
     let p-loop = p-loop-test .before in
     let l = p-loop .loop in
-    stopped (source p-loop) (endAt p-loop) (l .at) (l .count) (here p-loop) (l .answers) (l .last) (whole p-loop) (p-loop-test .loop-test .taken) (l .inv .counted)
-    (p-next .next .result) (p-next .next .ensures .same) (p-stop-of .stop-of .result) (p-stop-of .stop-of .ensures) (c .if1 .taken) (l .inv .rest) ∙ whole-is p-loop
+    stopped (source p-loop) (endAt p-loop) (l .at) (l .count) (here p-loop) (l .answers) (l .last) (whole p-loop) (p-loop-test .loop-test .taken)
+    (l .inv .counted)
+    (p-next .next .result) (p-next .next .ensures .same) (p-stop-of .stop-of .result) (p-stop-of .stop-of .ensures) (c .if1 .taken) (l .inv .rest)
+    ∙ whole-is p-loop
 
 -- ---- a command on the whole record
 carry-out-requires : tie.Need-carry-out-requires Inv-loop μ-loop
@@ -465,7 +478,10 @@ loop-again c =
       sramIs = p-sram2 .sram2 .ensures .0;
       setsSmall = p-sets2 .sets2 .ensures .1;
       sramSmall = p-sram2 .sram2 .ensures .1;
-      rest = onward p-turn (reply (o .number) 0 0 (state (o .«record») (l .l1d) (p-carry-out .carry-out .last .1 .1 .1 .0) (p-carry-out .carry-out .last .1 .1 .1 .1 .0)))
+      rest =
+          onward p-turn
+          (reply (o .number) 0 0 (state (o .«record») (l .l1d) (p-carry-out .carry-out .last .1 .1 .1 .0)
+          (p-carry-out .carry-out .last .1 .1 .1 .1 .0)))
           (p-carry-out .carry-out .ensures) (p-put-answer .put-answer .last .0) (p-put-answer .put-answer .ensures);
     }
 
@@ -709,20 +725,30 @@ loop-again-3 c =
     let p-below = at-below p-room in
     let p-front = front-of-room p-room in
     let p-turn = turn-missed (p-put-answer3 .before) in
-    let l = at-loop p-turn .loop in let g = going p-turn in let m = room-made p-room in let y = ready-made p-ready in let j = p-ready .if5 in let v = p-finish .finish .result in
+    let l = at-loop p-turn .loop in
+    let g = going p-turn in
+    let m = room-made p-room in
+    let y = ready-made p-ready in
+    let j = p-ready .if5 in
+    let v = p-finish .finish .result in
     let mode = y .mode ∙ m .mode in let l2len = y .l2len ∙ m .l2len in
-    let x = finishedAs v (p-finish .finish .last .1 .1 .1 .1 .1 .1 .0) (p-finish .finish .last .1 .1 .1 .1 .1 .1 .1 .0) (p-finish .finish .last .1 .1 .1 .1 .1 .1 .1 .1 .0) in
+    let x = finishedAs v (p-finish .finish .last .1 .1 .1 .1 .1 .1 .0) (p-finish .finish .last .1 .1 .1 .1 .1 .1 .1 .0)
+    (p-finish .finish .last .1 .1 .1 .1 .1 .1 .1 .1 .0) in
     record {
       counted = g .up;
       l1dLong = p-finish .finish .kept .1 .1 .1 .1 .1 .1 .0 ∙ p-front .front .kept .1 .1 .1 .1 .1 .0 ∙ l .inv .l1dLong;
       l2Long = p-finish .finish .kept .1 .1 .1 .1 .1 .1 .1 .0 ∙ y .l2Long ∙ p-below .send-below .kept .1 .1 .1 .1 .1 .0 ∙ m .l2Long ∙ l .inv .l2Long;
-      extLong = p-finish .finish .kept .1 .1 .1 .1 .1 .1 .1 .1 .0 ∙ y .extLong ∙ p-below .send-below .kept .1 .1 .1 .1 .1 .1 .0 ∙ p-front .front .kept .1 .1 .1 .1 .1 .1 .0 ∙ l .inv .extLong;
+      extLong =
+          p-finish .finish .kept .1 .1 .1 .1 .1 .1 .1 .1 .0 ∙ y .extLong ∙ p-below .send-below .kept .1 .1 .1 .1 .1 .1 .0
+          ∙ p-front .front .kept .1 .1 .1 .1 .1 .1 .0 ∙ l .inv .extLong;
       answersLong = p-put-answer3 .put-answer3 .kept .0 ∙ l .inv .answersLong;
       setsAre = l .inv .setsAre ∙ ap l2Sets (sym mode);
       sramIs = l .inv .sramIs ∙ (λ i. sramLength (sym l2len i) (sym mode i));
       setsSmall = l .inv .setsSmall;
       sramSmall = l .inv .sramSmall;
-      rest = onward p-turn (reply 0 (j .server) (v .value) (state (withL1dSet (j .r) (at-set p-front .set-of .result) (v .set)) (x .l1d) (x .l2) (x .ext)))
+      rest =
+          onward p-turn
+          (reply 0 (j .server) (v .value) (state (withL1dSet (j .r) (at-set p-front .set-of .result) (v .set)) (x .l1d) (x .l2) (x .ext)))
           (miss-of (asked p-front) (roomed p-room) (p-homed .homed .result) (p-homed .homed .ensures) (j .r) (j .l2) (j .ext)
           (y .mode) (y .l2len) (y .made) (j .place) (j .server) (y .placed) (y .served) x (p-finish .finish .ensures))
           (p-put-answer3 .put-answer3 .last .0) (p-put-answer3 .put-answer3 .ensures);
@@ -745,7 +771,9 @@ returns-2 : tie.Need-returns-2 Inv-loop μ-loop
 returns-2 c =
     let p-loop = c .before in
     let l = p-loop .loop in
-    at-end (source p-loop) (endAt p-loop) (l .at) (l .count) (here p-loop) (l .answers) (l .last) (whole p-loop) (endAt p-loop - l .count) (c .loop-test .left) (l .inv .rest) ∙ whole-is p-loop
+    at-end (source p-loop) (endAt p-loop) (l .at) (l .count) (here p-loop) (l .answers) (l .last) (whole p-loop) (endAt p-loop - l .count)
+    (c .loop-test .left) (l .inv .rest)
+    ∙ whole-is p-loop
 
 pub execute-spec : {M : Type 1} → statement M
 execute-spec =

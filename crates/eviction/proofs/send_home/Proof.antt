@@ -23,7 +23,8 @@ returns c =
     let p-args = p-goes-inside .before .before .before .before in
     let a = p-args .args in let x = a .x in
     ap (λ (n : Inside). sentAs (n .set) (n .l2) (a .ext .now)) (p-send-inside .send-inside .ensures)
-    ∙ sym (all-inside (a .sets) (a .i) (a .w) x (a .l1d .now) (a .l2 .now) (a .ext .now) (a .u) (a .sram) (a .t) (sym (p-goes-inside .goes-inside .ensures) ∙ p-if1 .if1 .taken))
+    ∙ sym (all-inside (a .sets) (a .i) (a .w) x (a .l1d .now) (a .l2 .now) (a .ext .now) (a .u) (a .sram) (a .t)
+    (sym (p-goes-inside .goes-inside .ensures) ∙ p-if1 .if1 .taken))
 
 send-below-requires : tie.Need-send-below-requires
 send-below-requires c κs = search needs
@@ -42,7 +43,8 @@ returns-2 c =
     let p-args = p-goes-inside .before .before .before .before in
     let a = p-args .args in let x = a .x in
     ap (λ (b : Below). sentAs (a .u) (b .l2) (b .ext)) (p-send-below .send-below .ensures)
-    ∙ sym (all-below (a .sets) (a .i) (a .w) x (a .l1d .now) (a .l2 .now) (a .ext .now) (a .u) (a .sram) (a .t) (sym (p-goes-inside .goes-inside .ensures) ∙ p-if1 .if1 .left))
+    ∙ sym (all-below (a .sets) (a .i) (a .w) x (a .l1d .now) (a .l2 .now) (a .ext .now) (a .u) (a .sram) (a .t)
+    (sym (p-goes-inside .goes-inside .ensures) ∙ p-if1 .if1 .left))
 
 pub send-home-spec : {M : Type 1} → statement M
 send-home-spec =

@@ -58,7 +58,18 @@ returns-2 c =
     let p-if1 = p-data-at .before .before in
     let p-l2-find = p-if1 .before in
     let p-line-of = p-l2-find .before in
-    rw (← p-line-of .line-of .ensures, ← p-l2-find .l2-find .ensures .0, lt-ltb _ _ (p-if1 .if1 .left), c .l2-put .ensures, p-line-at .line-at .ensures, p-l2-get .l2-get .ensures, p-move64 .move64 .ensures, p-data-at .data-at .ensures .0, p-offset-of .offset-of .ensures .0, p-data-at2 .data-at2 .ensures .0) refl
+    rw (
+      ← p-line-of .line-of .ensures,
+      ← p-l2-find .l2-find .ensures .0,
+      lt-ltb _ _ (p-if1 .if1 .left),
+      c .l2-put .ensures,
+      p-line-at .line-at .ensures,
+      p-l2-get .l2-get .ensures,
+      p-move64 .move64 .ensures,
+      p-data-at .data-at .ensures .0,
+      p-offset-of .offset-of .ensures .0,
+      p-data-at2 .data-at2 .ensures .0,
+    ) refl
 
 pub send-inside-spec : {M : Type 1} → statement M
 send-inside-spec =

@@ -1,16 +1,23 @@
 -- `eviction::take_half` meets its contract: each way through it is a case of `takeHalf`.
 use Rattle.stages.specs.Stages.{takeHalf}
 use borrow.Author.Tests.{not-true, not-false, lt-ltb, le-ltb}
-use mathlib.Core.Path.{refl}
+use mathlib.Core.Bool.{true}
+use mathlib.Core.Path.{_≡_, refl}
 use borrow.Author.Needs.{needs}
 use Rattle.eviction.proofs.take_half.Statement.{statement}
 use Rattle.eviction.proofs.take_half.Tie as tie
 
+-- ---- the way back, and what the first test leaves: a line is leaving
+abbrev at-start : tie.Else1 → tie.Start
+at-start c = c .before .before .before
+
+on : (c : tie.Else1) → at-start c .args .on ≡ true
+on c = not-false (at-start c .args .on) (c .if1 .left)
+
+-- ---- the needs
 returns : tie.Need-returns
 unfolding takeHalf
-returns c =
-    let p-args = c .before .before .before in
-    rw (not-true (p-args .args .on) (c .if1 .taken)) refl
+returns c = rw (not-true (c .before .before .before .args .on) (c .if1 .taken)) refl
 
 line-of-requires : tie.Need-line-of-requires
 line-of-requires c κs = search needs
@@ -23,9 +30,7 @@ unfolding takeHalf
 returns-2 c =
     let p-l1d-find = c .before in
     let p-line-of = p-l1d-find .before in
-    let p-if1 = p-line-of .before in
-    let p-args = p-if1 .before .before .before in
-    rw (not-false (p-args .args .on) (p-if1 .if1 .left), ← p-line-of .line-of .ensures, ← p-l1d-find .l1d-find .ensures .0, le-ltb _ _ (c .if2 .taken)) refl
+    rw (on (p-line-of .before), ← p-line-of .line-of .ensures, ← p-l1d-find .l1d-find .ensures .0, le-ltb _ _ (c .if2 .taken)) refl
 
 l1d-get-requires : tie.Need-l1d-get-requires
 l1d-get-requires c κs = search needs
@@ -45,9 +50,16 @@ returns-3 c =
     let p-if2 = p-l1d-get .before in
     let p-l1d-find = p-if2 .before in
     let p-line-of = p-l1d-find .before in
-    let p-if1 = p-line-of .before in
-    let p-args = p-if1 .before .before .before in
-    rw (not-false (p-args .args .on) (p-if1 .if1 .left), ← p-line-of .line-of .ensures, ← p-l1d-find .l1d-find .ensures .0, lt-ltb _ _ (p-if2 .if2 .left), ← p-l1d-get .l1d-get .ensures, not-true (p-l1d-get .l1d-get .result .dirty) (c .if3 .taken), p-l1d-put .l1d-put .ensures, p-empty-line .empty-line .ensures) refl
+    rw (
+      on (p-line-of .before),
+      ← p-line-of .line-of .ensures,
+      ← p-l1d-find .l1d-find .ensures .0,
+      lt-ltb _ _ (p-if2 .if2 .left),
+      ← p-l1d-get .l1d-get .ensures,
+      not-true (p-l1d-get .l1d-get .result .dirty) (c .if3 .taken),
+      p-l1d-put .l1d-put .ensures,
+      p-empty-line .empty-line .ensures,
+    ) refl
 
 offset-of-requires : tie.Need-offset-of-requires
 offset-of-requires c κs = search needs
@@ -81,9 +93,20 @@ returns-4 c =
     let p-if2 = p-l1d-get .before in
     let p-l1d-find = p-if2 .before in
     let p-line-of = p-l1d-find .before in
-    let p-if1 = p-line-of .before in
-    let p-args = p-if1 .before .before .before in
-    rw (not-false (p-args .args .on) (p-if1 .if1 .left), ← p-line-of .line-of .ensures, ← p-l1d-find .l1d-find .ensures .0, lt-ltb _ _ (p-if2 .if2 .left), ← p-l1d-get .l1d-get .ensures, not-false (p-l1d-get .l1d-get .result .dirty) (p-if3 .if3 .left), p-l1d-put .l1d-put .ensures, p-empty-line .empty-line .ensures, p-move64 .move64 .ensures, p-offset-of .offset-of .ensures .0, p-data-at .data-at .ensures .0, p-set-of .set-of .ensures .0) refl
+    rw (
+      on (p-line-of .before),
+      ← p-line-of .line-of .ensures,
+      ← p-l1d-find .l1d-find .ensures .0,
+      lt-ltb _ _ (p-if2 .if2 .left),
+      ← p-l1d-get .l1d-get .ensures,
+      not-false (p-l1d-get .l1d-get .result .dirty) (p-if3 .if3 .left),
+      p-l1d-put .l1d-put .ensures,
+      p-empty-line .empty-line .ensures,
+      p-move64 .move64 .ensures,
+      p-offset-of .offset-of .ensures .0,
+      p-data-at .data-at .ensures .0,
+      p-set-of .set-of .ensures .0,
+    ) refl
 
 pub take-half-spec : {M : Type 1} → statement M
 take-half-spec =

@@ -144,11 +144,14 @@ loop-again-2 c =
     let l = p-loop .loop in let a = at-start p-loop .args in
     let g = sets-now (l .q) (a .r0) (l .inv .mode) (p-sets .sets .ensures .0) in
     let p = p-l1d-target .l1d-target .result in let w = p-l1d-way .l1d-way .result in
-    let s = sentAs (p-send-home .send-home .result) (p-send-home .send-home .last .1 .1 .1 .1 .1 .1 .1 .1 .0) (p-send-home .send-home .last .1 .1 .1 .1 .1 .1 .1 .1 .1 .0) in
+    let s = sentAs (p-send-home .send-home .result) (p-send-home .send-home .last .1 .1 .1 .1 .1 .1 .1 .1 .0)
+    (p-send-home .send-home .last .1 .1 .1 .1 .1 .1 .1 .1 .1 .0) in
     let v = c .l1d-put .result in let j = p-set-of .set-of .result in let x = p-sent-line .sent-line .result in
     let e = l1d-on (a .code) (a .base) (l .k) (l .q) (a .l1d .now) (l .l2) (l .ext) p w (p-l1d-target .l1d-target .ensures .0) (p-l1d-way .l1d-way .ensures .0)
-    (p-sram .sram .result) (p-sets .sets .result) j x s v (p-if1 .if1 .left) (sram-now (l .q) (a .r0) (l .inv .mode) (l .inv .l2len) (p-sram .sram .ensures .0)) g
-    (p-sent-line .sent-line .ensures ∙ ap (sentLine (a .code)) (p-l1d-get .l1d-get .ensures)) (p-set-of .set-of .ensures .0) (p-send-home .send-home .ensures)
+    (p-sram .sram .result) (p-sets .sets .result) j x s v (p-if1 .if1 .left)
+    (sram-now (l .q) (a .r0) (l .inv .mode) (l .inv .l2len) (p-sram .sram .ensures .0)) g
+    (p-sent-line .sent-line .ensures ∙ ap (sentLine (a .code)) (p-l1d-get .l1d-get .ensures)) (p-set-of .set-of .ensures .0)
+    (p-send-home .send-home .ensures)
     (c .l1d-put .ensures ∙ ap (l1dPut _ w) (p-empty-line .empty-line .ensures)) in
     kept-next (l .inv) (p-loop-test .loop-test .taken) (withL1dSet (withL2Set (l .q) j (s .set)) (p .set) v) (s .l2) (s .ext)
     (p-send-home .send-home .kept .1 .1 .1 .1 .1 .1 .1 .1 .0) (p-send-home .send-home .kept .1 .1 .1 .1 .1 .1 .1 .1 .1 .0) refl refl e

@@ -17,7 +17,10 @@ set-of-requires c κs = search needs
 
 returns : tie.Need-returns
 unfolding l1dTarget
-returns c = (rw (le-leb _ _ (c .before .before .if1 .taken), c .set-of .ensures .0, c .before .line-after .ensures) refl, (c .set-of .ensures .1, omega arith))
+returns c = (
+  rw (le-leb _ _ (c .before .before .if1 .taken), c .set-of .ensures .0, c .before .line-after .ensures) refl,
+  (c .set-of .ensures .1, omega arith),
+)
 
 returns-2 : tie.Need-returns-2
 unfolding l1dTurns l1dTarget

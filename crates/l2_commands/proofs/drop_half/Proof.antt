@@ -25,7 +25,13 @@ returns c =
     let p-if1 = p-empty-line .before in
     let p-l1d-find = p-if1 .before in
     let p-line-of = p-l1d-find .before in
-    rw (← p-line-of .line-of .ensures, ← p-l1d-find .l1d-find .ensures .0, lt-ltb _ _ (p-if1 .if1 .taken), c .l1d-put .ensures, p-empty-line .empty-line .ensures) refl
+    rw (
+      ← p-line-of .line-of .ensures,
+      ← p-l1d-find .l1d-find .ensures .0,
+      lt-ltb _ _ (p-if1 .if1 .taken),
+      c .l1d-put .ensures,
+      p-empty-line .empty-line .ensures,
+    ) refl
 
 returns-2 : tie.Need-returns-2
 unfolding dropHalf

@@ -102,10 +102,13 @@ loop-again c =
     let l = p-loop .loop in let a = p-args .args in
     let i = l .inv [] in let g = sets-now (l .q) (a .r0) (i .mode) (p-sets .sets .ensures .0) in
     let e₂ = p-write-out .write-out .last .1 .1 .1 .1 .0 in let u = c .l2-put .result in
-    λ d. kept-next (l .inv d) (p-loop-test .loop-test .taken) (withL2Set (l .q) (l .k / 4) u) (a .l2 .now) e₂ refl (p-write-out .write-out .kept .1 .1 .1 .1 .0) refl refl
-    (flushed (l .q) d (a .l2 .now) (l .ext) (l .k / 4) (l .k % 4) (p-l2-get .l2-get .result) (p-data-at .data-at .result) (p-goes-out .goes-out .result) e₂ (p-cleaned .cleaned .result) u
+    λ d. kept-next (l .inv d) (p-loop-test .loop-test .taken) (withL2Set (l .q) (l .k / 4) u) (a .l2 .now) e₂ refl
+    (p-write-out .write-out .kept .1 .1 .1 .1 .0) refl refl
+    (flushed (l .q) d (a .l2 .now) (l .ext) (l .k / 4) (l .k % 4) (p-l2-get .l2-get .result) (p-data-at .data-at .result)
+    (p-goes-out .goes-out .result) e₂ (p-cleaned .cleaned .result) u
     (p-l2-get .l2-get .ensures)
-    (data-now (l .q) (p-sram .sram .result) (p-sets .sets .result) (l .k / 4) (l .k % 4) (p-data-at .data-at .ensures .0) (sram-now (l .q) (a .r0) (i .mode) (i .l2len) (p-sram .sram .ensures .0)) g)
+    (data-now (l .q) (p-sram .sram .result) (p-sets .sets .result) (l .k / 4) (l .k % 4) (p-data-at .data-at .ensures .0)
+    (sram-now (l .q) (a .r0) (i .mode) (i .l2len) (p-sram .sram .ensures .0)) g)
     (p-goes-out .goes-out .ensures) (p-write-out .write-out .ensures) (p-cleaned .cleaned .ensures) (c .l2-put .ensures))
 
 same-length : tie.Need-same-length Inv-loop μ-loop

@@ -86,7 +86,8 @@ loop-again c =
     let p-loop = p-loop-test .before in
     let l = p-loop .loop in let a = at-start p-loop .args in
     kept-next (l .inv) (p-loop-test .loop-test .taken) (l .q) (l .l2) (l .ext) refl refl refl refl
-    (l2-off (a .code) (a .base) (l .k) (p-loop .before .before .before .sets .result) (l .q) (a .l1d .now) (l .l2) (l .ext) (p-l2-target .l2-target .result) (p-l2-way .l2-way .result)
+    (l2-off (a .code) (a .base) (l .k) (p-loop .before .before .before .sets .result) (l .q) (a .l1d .now) (l .l2) (l .ext)
+    (p-l2-target .l2-target .result) (p-l2-way .l2-way .result)
     (sets-are p-loop) (p-l2-target .l2-target .ensures .0) (p-l2-way .l2-way .ensures .0) (c .if1 .taken))
 
 l2-get-requires : tie.Need-l2-get-requires Inv-loop μ-loop
@@ -195,7 +196,8 @@ loop-again-2 c =
     let q′ = withSets (l .q) (set (set (l .q .l1d) i (h₁ .out .set)) j (h₂ .out .set)) (set (l .q .l2) (p .set) u) in
     let s = swept (a .code) (l .q) (a .l1d .now) (l .l2) (l .ext) (p .set) v (p-l2-get .l2-get .result) (p-data-at .data-at .result) (p-upper-half .upper-half .result) i j h₁ h₂
     (p-goes .goes .result) e₂ (p-left-line .left-line .result) u (p-l2-get .l2-get .ensures)
-    (data-now (l .q) (p-sram .sram .result) (p-sets .sets .result) (p .set) v (p-data-at .data-at .ensures .0) (sram-now (l .q) (a .r0) (l .inv .mode) (l .inv .l2len) (p-sram .sram .ensures .0)) g)
+    (data-now (l .q) (p-sram .sram .result) (p-sets .sets .result) (p .set) v (p-data-at .data-at .ensures .0)
+    (sram-now (l .q) (a .r0) (l .inv .mode) (l .inv .l2len) (p-sram .sram .ensures .0)) g)
     (p-upper-half .upper-half .ensures)
     (record {
       low = p-set-of .set-of .ensures .0;
@@ -208,8 +210,10 @@ loop-again-2 c =
       put = c .l2-put .ensures;
     }) in
     kept-next (l .inv) (p-loop-test .loop-test .taken) q′ (h₂ .l2) e₂
-    (p-release2 .release2 .kept .1 .1 .1 .1 .1 .1 .0 ∙ p-release .release .kept .1 .1 .1 .1 .1 .1 .0) (p-write-out .write-out .kept .1 .1 .1 .1 .0) refl refl
-    (l2-on (a .code) (a .base) (l .k) (p-sets .sets .result) (l .q) (a .l1d .now) (l .l2) (l .ext) p v g (p-l2-target .l2-target .ensures .0) (p-l2-way .l2-way .ensures .0)
+    (p-release2 .release2 .kept .1 .1 .1 .1 .1 .1 .0 ∙ p-release .release .kept .1 .1 .1 .1 .1 .1 .0) (p-write-out .write-out .kept .1 .1 .1 .1 .0)
+    refl refl
+    (l2-on (a .code) (a .base) (l .k) (p-sets .sets .result) (l .q) (a .l1d .now) (l .l2) (l .ext) p v g (p-l2-target .l2-target .ensures .0)
+    (p-l2-way .l2-way .ensures .0)
     (state q′ (a .l1d .now) (h₂ .l2) e₂) (p-if1 .if1 .left) s)
 
 same-length : tie.Need-same-length Inv-loop μ-loop

@@ -14,7 +14,8 @@ use Rattle.mar.proofs.l2_holds.Statement.{statement}
 use Rattle.mar.proofs.l2_holds.Tie as tie
 
 abbrev Inv-loop : tie.InvT-loop
-Inv-loop n r t₀ t = (t ≤ 512) × (anyOf (λ (v : L2Set). anyOf (inRange n) (v .lines)) (drop t (r .l2)) ≡ anyOf (λ (v : L2Set). anyOf (inRange n) (v .lines))
+Inv-loop n r t₀ t =
+    (t ≤ 512) × (anyOf (λ (v : L2Set). anyOf (inRange n) (v .lines)) (drop t (r .l2)) ≡ anyOf (λ (v : L2Set). anyOf (inRange n) (v .lines))
     (r .l2))
 
 abbrev μ-loop : tie.MeasureT-loop

@@ -1,81 +1,60 @@
--- `memory::load` meets its contract: each return is a case of the definition, by the tests on its way and what its callees ensure.
+-- `memory::load` meets its contract: 0 where the bytes do not lie in the memory, else by the size.
 use Rattle.memory.specs.Values.{load-none, size-eight, size-small}
 use lib.ListN.{length}
 use borrow.Author.Tests.{not-true, not-false, leb-true}
 use native.Mathlib.Omega.{arith}
 use mathlib.Core.Path.{_≡_, sym, _∙_}
-use Prim.Native.Nat.{ℕ, _+_}
+use Prim.Native.Nat.{ℕ, _+_, _≤_}
 use Rattle.memory.proofs.load.Statement.{statement}
 use Rattle.memory.proofs.load.Tie as tie
 
+-- ---- the way back to the arguments
+abbrev at-start : tie.After-fits2 → tie.Start
+at-start c = c .before .before
+
+-- ---- behind the first test all bytes lie in the memory; behind the others the size is 8
+inside : (c : tie.Else1) → let a = at-start (c .before) .args in a .a + a .n ≤ length (a .m .now)
+inside c =
+    let a = at-start (c .before) .args in
+    leb-true (a .a + a .n) (length (a .m .now)) (sym (c .before .fits2 .ensures) ∙ not-false _ (c .if1 .left))
+
+eight : (c : tie.Else4) → _≡_ {A = ℕ} (at-start (c .before .before .before .before) .args .n) 8
+eight c =
+    let p-if3 = c .before in
+    let p-if2 = p-if3 .before in
+    let start = at-start (p-if2 .before .before) in
+    size-eight (start .args .n) (start .pre) (p-if2 .if2 .left) (p-if3 .if3 .left) (c .if4 .left)
+
+-- ---- the needs
 fits-requires : tie.Need-fits-requires
-fits-requires c κs = let p = c .before .pre in let s = size-small (c .before .args .n) p in omega arith
+fits-requires c κs = let s = size-small (c .before .args .n) (c .before .pre) in omega arith
 
 returns : tie.Need-returns
-returns c =
-    let p-fits2 = c .before in
-    let p-args = p-fits2 .before .before in
-    let a = p-args .args in load-none (a .m .now) (a .a) (a .n) (sym (p-fits2 .fits2 .ensures) ∙ not-true _ (c .if1 .taken))
+returns c = let a = at-start (c .before) .args in load-none (a .m .now) (a .a) (a .n) (sym (c .before .fits2 .ensures) ∙ not-true _ (c .if1 .taken))
 
 load4-requires : tie.Need-load4-requires
-load4-requires c κs =
-    let p-if1 = c .before in
-    let p-fits2 = p-if1 .before in
-    let p-args = p-fits2 .before .before in
-    let h = leb-true (p-args .args .a + p-args .args .n) (length (p-args .args .m .now)) (sym (p-fits2 .fits2 .ensures) ∙ not-false _ (p-if1 .if1 .left)) in
-    let e : _≡_ {A = ℕ} (p-args .args .n) 4 = c .if2 .taken in omega arith
+load4-requires c κs = let h = inside (c .before) in let e = c .if2 .taken in omega arith
 
 returns-2 : tie.Need-returns-2
-returns-2 c =
-    let p-if2 = c .before in
-    let p-args = p-if2 .before .before .before .before in
-    let e : _≡_ {A = ℕ} (p-args .args .n) 4 = p-if2 .if2 .taken in rw e (c .load4 .ensures .0)
+returns-2 c = rw (c .before .if2 .taken) (c .load4 .ensures .0)
 
 load1-requires : tie.Need-load1-requires
-load1-requires c κs =
-    let p-if1 = c .before .before in
-    let p-fits2 = p-if1 .before in
-    let p-args = p-fits2 .before .before in
-    let h = leb-true (p-args .args .a + p-args .args .n) (length (p-args .args .m .now)) (sym (p-fits2 .fits2 .ensures) ∙ not-false _ (p-if1 .if1 .left)) in
-    let e : _≡_ {A = ℕ} (p-args .args .n) 1 = c .if3 .taken in omega arith
+load1-requires c κs = let h = inside (c .before .before) in let e = c .if3 .taken in omega arith
 
 returns-3 : tie.Need-returns-3
-returns-3 c =
-    let p-if3 = c .before in
-    let p-args = p-if3 .before .before .before .before .before in
-    let e : _≡_ {A = ℕ} (p-args .args .n) 1 = p-if3 .if3 .taken in rw e (c .load1 .ensures .0)
+returns-3 c = rw (c .before .if3 .taken) (c .load1 .ensures .0)
 
 load2-requires : tie.Need-load2-requires
-load2-requires c κs =
-    let p-if1 = c .before .before .before in
-    let p-fits2 = p-if1 .before in
-    let p-args = p-fits2 .before .before in
-    let h = leb-true (p-args .args .a + p-args .args .n) (length (p-args .args .m .now)) (sym (p-fits2 .fits2 .ensures) ∙ not-false _ (p-if1 .if1 .left)) in
-    let e : _≡_ {A = ℕ} (p-args .args .n) 2 = c .if4 .taken in omega arith
+load2-requires c κs = let h = inside (c .before .before .before) in let e = c .if4 .taken in omega arith
 
 returns-4 : tie.Need-returns-4
-returns-4 c =
-    let p-if4 = c .before in
-    let p-args = p-if4 .before .before .before .before .before .before in
-    let e : _≡_ {A = ℕ} (p-args .args .n) 2 = p-if4 .if4 .taken in rw e (c .load2 .ensures .0)
+returns-4 c = rw (c .before .if4 .taken) (c .load2 .ensures .0)
 
 load8-requires : tie.Need-load8-requires
-load8-requires c κs =
-    let p-if3 = c .before in
-    let p-if2 = p-if3 .before in
-    let p-if1 = p-if2 .before in
-    let p-fits2 = p-if1 .before in
-    let p-args = p-fits2 .before .before in
-    let h = leb-true (p-args .args .a + p-args .args .n) (length (p-args .args .m .now)) (sym (p-fits2 .fits2 .ensures) ∙ not-false _ (p-if1 .if1 .left)) in
-    let e : _≡_ {A = ℕ} (p-args .args .n) 8 = size-eight (p-args .args .n) (p-args .pre) (p-if2 .if2 .left) (p-if3 .if3 .left) (c .if4 .left) in omega arith
+load8-requires c κs = let h = inside (c .before .before .before) in let e = eight c in omega arith
 
 returns-5 : tie.Need-returns-5
-returns-5 c =
-    let p-if4 = c .before in
-    let p-if3 = p-if4 .before in
-    let p-if2 = p-if3 .before in
-    let p-args = p-if2 .before .before .before .before in
-    let e : _≡_ {A = ℕ} (p-args .args .n) 8 = size-eight (p-args .args .n) (p-args .pre) (p-if2 .if2 .left) (p-if3 .if3 .left) (p-if4 .if4 .left) in rw e (c .load8 .ensures)
+returns-5 c = rw (eight (c .before)) (c .load8 .ensures)
 
 pub load-spec : {M : Type 1} → statement M
 load-spec =

@@ -42,7 +42,8 @@ loop-again c =
 returns : tie.Need-returns Inv-loop μ-loop
 returns c =
     let e : c .before .loop .i ≡ 64 = omega arith in
-    c .before .loop .inv .2 ∙ ap (copied (replicate 64 0) (c .before .before .args .src .now)) e ∙ filled (replicate 64 0) (c .before .before .args .src .now) 64 (length-replicate {A = ℕ} 64 0)
+    c .before .loop .inv .2 ∙ ap (copied (replicate 64 0) (c .before .before .args .src .now)) e
+    ∙ filled (replicate 64 0) (c .before .before .args .src .now) 64 (length-replicate {A = ℕ} 64 0)
 
 pub load64-spec : {M : Type 1} → statement M
 load64-spec =

@@ -26,7 +26,9 @@ returns c =
     let p-store1 = p-store12 .before .before .before .before in
     let p-pre = p-store1 .before .before .before in
     let h = p-pre .pre in
-    p-store12 .store12 .ensures ∙ ap (λ (r : List ℕ). stored r (p-pre .args .a + 1) (littleBytes (p-pre .args .v / 256) 1)) (p-store1 .store1 .ensures) ∙ store-both (p-pre .args .m .now) (p-pre .args .a) (p-pre .args .v) 1 1 h
+    p-store12 .store12 .ensures
+    ∙ ap (λ (r : List ℕ). stored r (p-pre .args .a + 1) (littleBytes (p-pre .args .v / 256) 1)) (p-store1 .store1 .ensures)
+    ∙ store-both (p-pre .args .m .now) (p-pre .args .a) (p-pre .args .v) 1 1 h
 
 pub store2-spec : {M : Type 1} → statement M
 store2-spec = tie.close (tie.spec store1-requires add-store1 store1-requires-2 same-length returns)

@@ -26,7 +26,9 @@ returns c =
     let p-store2 = p-store22 .before .before .before .before in
     let p-pre = p-store2 .before .before .before in
     let h = p-pre .pre in
-    p-store22 .store22 .ensures ∙ ap (λ (r : List ℕ). stored r (p-pre .args .a + 2) (littleBytes (p-pre .args .v / 65536) 2)) (p-store2 .store2 .ensures) ∙ store-both (p-pre .args .m .now) (p-pre .args .a) (p-pre .args .v) 2 2 h
+    p-store22 .store22 .ensures
+    ∙ ap (λ (r : List ℕ). stored r (p-pre .args .a + 2) (littleBytes (p-pre .args .v / 65536) 2)) (p-store2 .store2 .ensures)
+    ∙ store-both (p-pre .args .m .now) (p-pre .args .a) (p-pre .args .v) 2 2 h
 
 pub store4-spec : {M : Type 1} → statement M
 store4-spec = tie.close (tie.spec store2-requires add-store2 store2-requires-2 same-length returns)

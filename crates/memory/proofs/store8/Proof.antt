@@ -26,7 +26,9 @@ returns c =
     let p-store4 = p-store42 .before .before .before .before in
     let p-pre = p-store4 .before .before .before in
     let h = p-pre .pre in
-    p-store42 .store42 .ensures ∙ ap (λ (r : List ℕ). stored r (p-pre .args .a + 4) (littleBytes (p-pre .args .v / 4294967296) 4)) (p-store4 .store4 .ensures) ∙ store-both (p-pre .args .m .now) (p-pre .args .a) (p-pre .args .v) 4 4 h
+    p-store42 .store42 .ensures
+    ∙ ap (λ (r : List ℕ). stored r (p-pre .args .a + 4) (littleBytes (p-pre .args .v / 4294967296) 4)) (p-store4 .store4 .ensures)
+    ∙ store-both (p-pre .args .m .now) (p-pre .args .a) (p-pre .args .v) 4 4 h
 
 pub store8-spec : {M : Type 1} → statement M
 store8-spec = tie.close (tie.spec store4-requires add-store4 store4-requires-2 same-length returns)

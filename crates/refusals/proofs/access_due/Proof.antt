@@ -28,7 +28,8 @@ by-value c =
     let p-if2 = c .before in
     let p-if1 = p-if2 .before in
     let p-value-ok = p-if1 .before in
-    access-last (asked p-value-ok) (sized p-if1) (multiple-is p-if1 ∙ p-if2 .if2 .taken) (sym (p-value-ok .before .place-ok .ensures) ∙ c .if3 .taken) _ (p-value-ok .value-ok .ensures)
+    access-last (asked p-value-ok) (sized p-if1) (multiple-is p-if1 ∙ p-if2 .if2 .taken) (sym (p-value-ok .before .place-ok .ensures) ∙ c .if3 .taken)
+    _ (p-value-ok .value-ok .ensures)
 
 size-ok-requires : tie.Need-size-ok-requires
 size-ok-requires c κs = search needs
@@ -54,7 +55,8 @@ returns-3 : tie.Need-returns-3
 returns-3 c =
     let p-if2 = c .before in
     let p-if1 = p-if2 .before in
-    access-five (asked (p-if1 .before)) (sized p-if1) (multiple-is p-if1 ∙ p-if2 .if2 .taken) (sym (p-if1 .before .before .place-ok .ensures) ∙ c .if3 .left)
+    access-five (asked (p-if1 .before)) (sized p-if1) (multiple-is p-if1 ∙ p-if2 .if2 .taken)
+    (sym (p-if1 .before .before .place-ok .ensures) ∙ c .if3 .left)
 
 returns-4 : tie.Need-returns-4
 returns-4 c = sym (by-value (c .before) ∙ rw (c .if4 .taken) refl)

@@ -63,7 +63,17 @@ returns-2 c =
     let p-line-of = p-external-place .before .before .before in
     let p-write-out = p-line-of .before .before .before in
     let p-if1 = p-write-out .before .before .before in
-    rw (p-if1 .if1 .left, c .marked2 .ensures, p-l2-use2 .l2-use2 .ensures, p-l2-put .l2-put .ensures, p-line-at .line-at .ensures, p-move128 .move128 .ensures, p-external-place .external-place .ensures .0, p-line-of .line-of .ensures, p-write-out .write-out .ensures) refl
+    rw (
+      p-if1 .if1 .left,
+      c .marked2 .ensures,
+      p-l2-use2 .l2-use2 .ensures,
+      p-l2-put .l2-put .ensures,
+      p-line-at .line-at .ensures,
+      p-move128 .move128 .ensures,
+      p-external-place .external-place .ensures .0,
+      p-line-of .line-of .ensures,
+      p-write-out .write-out .ensures,
+    ) refl
 
 pub bring-spec : {M : Type 1} → statement M
 bring-spec =

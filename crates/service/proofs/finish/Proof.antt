@@ -29,7 +29,10 @@ returns c =
     let p-is-write = p-if1 .before in
     let p-args = p-is-write .before .before .before .before in
     let a = p-args .args in
-    rw ((sym (p-is-write .is-write .ensures) ∙ p-if1 .if1 .taken), ← p-home-of .home-of .ensures) (ap (λ (x : Stored). finishedAs (served (a .s) 0) (a .l1d .now) (x .l2) (x .ext)) (p-store-home .store-home .ensures))
+    rw (
+      (sym (p-is-write .is-write .ensures) ∙ p-if1 .if1 .taken),
+      ← p-home-of .home-of .ensures,
+    ) (ap (λ (x : Stored). finishedAs (served (a .s) 0) (a .l1d .now) (x .l2) (x .ext)) (p-store-home .store-home .ensures))
 
 data-at-requires : tie.Need-data-at-requires
 data-at-requires c κs = search needs
@@ -83,7 +86,18 @@ returns-2 c =
     let p-data-at = p-line-of .before in
     let p-if1 = p-data-at .before in
     let p-is-write = p-if1 .before in
-    rw ((sym (p-is-write .is-write .ensures) ∙ p-if1 .if1 .left), c .l1d-use .ensures, p-l1d-put .l1d-put .ensures, p-line-at .line-at .ensures, p-load .load .ensures, p-fetch-line .fetch-line .ensures, p-home-of2 .home-of2 .ensures, p-data-at .data-at .ensures .0, p-offset-of .offset-of .ensures .0, p-line-of .line-of .ensures) refl
+    rw (
+      (sym (p-is-write .is-write .ensures) ∙ p-if1 .if1 .left),
+      c .l1d-use .ensures,
+      p-l1d-put .l1d-put .ensures,
+      p-line-at .line-at .ensures,
+      p-load .load .ensures,
+      p-fetch-line .fetch-line .ensures,
+      p-home-of2 .home-of2 .ensures,
+      p-data-at .data-at .ensures .0,
+      p-offset-of .offset-of .ensures .0,
+      p-line-of .line-of .ensures,
+    ) refl
 
 pub finish-spec : {M : Type 1} → statement M
 finish-spec =

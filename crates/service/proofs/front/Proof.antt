@@ -27,7 +27,10 @@ returns-2 c =
     let p-if1 = p-if2 .before in
     let p-args = p-if1 .before .before .before in
     let a = p-args .args in
-    rw (eq-eqb _ _ (p-if1 .if1 .left), not-true (p-args .args .cached) (p-if2 .if2 .taken)) (ap (λ (d : Direct). frontAs (ended (a .s) (answer 0 4 (d .value))) (a .l1d .now) (d .ext)) (p-direct .direct .ensures))
+    rw (
+      eq-eqb _ _ (p-if1 .if1 .left),
+      not-true (p-args .args .cached) (p-if2 .if2 .taken),
+    ) (ap (λ (d : Direct). frontAs (ended (a .s) (answer 0 4 (d .value))) (a .l1d .now) (d .ext)) (p-direct .direct .ensures))
 
 line-of-requires : tie.Need-line-of-requires
 line-of-requires c κs = search needs
@@ -47,7 +50,14 @@ returns-3 c =
     let p-if2 = p-line-of .before in
     let p-if1 = p-if2 .before in
     let p-args = p-if1 .before .before .before in
-    rw (eq-eqb _ _ (p-if1 .if1 .left), not-false (p-args .args .cached) (p-if2 .if2 .left), ← p-line-of .line-of .ensures, ← p-l1d-find .l1d-find .ensures .0, le-ltb _ _ (p-if3 .if3 .taken), c .no-answer .ensures) refl
+    rw (
+      eq-eqb _ _ (p-if1 .if1 .left),
+      not-false (p-args .args .cached) (p-if2 .if2 .left),
+      ← p-line-of .line-of .ensures,
+      ← p-l1d-find .l1d-find .ensures .0,
+      le-ltb _ _ (p-if3 .if3 .taken),
+      c .no-answer .ensures,
+    ) refl
 
 hit-requires : tie.Need-hit-requires
 hit-requires c κs =
@@ -70,7 +80,13 @@ returns-4 c =
     let p-if1 = p-if2 .before in
     let p-args = p-if1 .before .before .before in
     let a = p-args .args in
-    rw (eq-eqb _ _ (p-if1 .if1 .left), not-false (p-args .args .cached) (p-if2 .if2 .left), ← p-line-of .line-of .ensures, ← p-l1d-find .l1d-find .ensures .0, lt-ltb _ _ (p-if3 .if3 .left))
+    rw (
+      eq-eqb _ _ (p-if1 .if1 .left),
+      not-false (p-args .args .cached) (p-if2 .if2 .left),
+      ← p-line-of .line-of .ensures,
+      ← p-l1d-find .l1d-find .ensures .0,
+      lt-ltb _ _ (p-if3 .if3 .left),
+    )
     (ap (λ (h : Hit). frontAs (ended (h .out .set) (answer 0 1 (h .out .value))) (h .l1d) (a .ext .now)) (p-hit .hit .ensures))
 
 pub front-spec : {M : Type 1} → statement M

@@ -46,7 +46,16 @@ returns c =
     let p-is-write = p-if1 .before in
     let p-offset-of = p-is-write .before in
     let p-data-at = p-offset-of .before in
-    rw ((sym (p-is-write .is-write .ensures) ∙ p-if1 .if1 .taken), c .l1d-use .ensures, p-l1d-put .l1d-put .ensures, p-line-at .line-at .ensures, p-l1d-get .l1d-get .ensures, p-store .store .ensures, p-data-at .data-at .ensures .0, p-offset-of .offset-of .ensures .0) refl
+    rw (
+      (sym (p-is-write .is-write .ensures) ∙ p-if1 .if1 .taken),
+      c .l1d-use .ensures,
+      p-l1d-put .l1d-put .ensures,
+      p-line-at .line-at .ensures,
+      p-l1d-get .l1d-get .ensures,
+      p-store .store .ensures,
+      p-data-at .data-at .ensures .0,
+      p-offset-of .offset-of .ensures .0,
+    ) refl
 
 load-requires : tie.Need-load-requires
 load-requires c κs = search needs
@@ -65,7 +74,13 @@ returns-2 c =
     let p-is-write = p-if1 .before in
     let p-offset-of = p-is-write .before in
     let p-data-at = p-offset-of .before in
-    rw ((sym (p-is-write .is-write .ensures) ∙ p-if1 .if1 .left), c .l1d-use2 .ensures, p-load .load .ensures, p-data-at .data-at .ensures .0, p-offset-of .offset-of .ensures .0) refl
+    rw (
+      (sym (p-is-write .is-write .ensures) ∙ p-if1 .if1 .left),
+      c .l1d-use2 .ensures,
+      p-load .load .ensures,
+      p-data-at .data-at .ensures .0,
+      p-offset-of .offset-of .ensures .0,
+    ) refl
 
 pub hit-spec : {M : Type 1} → statement M
 hit-spec =

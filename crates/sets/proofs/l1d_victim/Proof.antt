@@ -28,8 +28,11 @@ unfolding l1dVictim lowestInvalid
 returns-2 c =
     let p-is-valid2 = c .before in
     let p-if1 = p-is-valid2 .before .before in
-    let p-is-valid = p-if1 .before in
-    (rw (sym (p-is-valid .is-valid .ensures) ∙ not-false _ (p-if1 .if1 .left), sym (p-is-valid2 .is-valid2 .ensures) ∙ not-true _ (c .if2 .taken)) refl, omega arith)
+    let p-is-valid = p-if1 .before in (
+      rw (sym (p-is-valid .is-valid .ensures) ∙ not-false _ (p-if1 .if1 .left), sym (p-is-valid2 .is-valid2 .ensures) ∙ not-true _ (c .if2 .taken))
+          refl,
+      omega arith,
+    )
 
 cast-result : tie.Need-cast-result
 cast-result c = search needs
@@ -40,8 +43,11 @@ returns-3 c =
     let p-if2 = c .before .before in
     let p-is-valid2 = p-if2 .before in
     let p-if1 = p-is-valid2 .before .before in
-    let p-is-valid = p-if1 .before in
-    (rw (sym (p-is-valid .is-valid .ensures) ∙ not-false _ (p-if1 .if1 .left), sym (p-is-valid2 .is-valid2 .ensures) ∙ not-false _ (p-if2 .if2 .left)) refl, omega arith)
+    let p-is-valid = p-if1 .before in (
+      rw (sym (p-is-valid .is-valid .ensures) ∙ not-false _ (p-if1 .if1 .left), sym (p-is-valid2 .is-valid2 .ensures) ∙ not-false _ (p-if2 .if2 .left))
+          refl,
+      omega arith,
+    )
 
 pub l1d-victim-spec : {M : Type 1} → statement M
 l1d-victim-spec =

@@ -30,8 +30,17 @@ returns-2 c =
     let p-l2-find = p-if2 .before in
     let p-line-of = p-l2-find .before in
     let p-if1 = p-line-of .before in
-    let p-args = p-if1 .before in
-    (rw (not-false (p-args .args .homed) (p-if1 .if1 .left), ← p-line-of .line-of .ensures, ← p-l2-find .l2-find .ensures .0, lt-ltb _ _ (p-if2 .if2 .taken), c .empty-line2 .ensures) refl, p-if2 .if2 .taken)
+    let p-args = p-if1 .before in (
+      rw (
+        not-false (p-args .args .homed) (p-if1 .if1 .left),
+        ← p-line-of .line-of .ensures,
+        ← p-l2-find .l2-find .ensures .0,
+        lt-ltb _ _
+            (p-if2 .if2 .taken),
+        c .empty-line2 .ensures,
+      ) refl,
+      p-if2 .if2 .taken,
+    )
 
 l2-victim-requires : tie.Need-l2-victim-requires
 l2-victim-requires c κs = search needs
@@ -47,8 +56,18 @@ returns-3 c =
     let p-l2-find = p-if2 .before in
     let p-line-of = p-l2-find .before in
     let p-if1 = p-line-of .before in
-    let p-args = p-if1 .before in
-    (rw (not-false (p-args .args .homed) (p-if1 .if1 .left), ← p-line-of .line-of .ensures, ← p-l2-find .l2-find .ensures .0, le-ltb _ _ (p-if2 .if2 .left), c .l2-get .ensures, p-l2-victim .l2-victim .ensures .0) refl, p-l2-victim .l2-victim .ensures .1)
+    let p-args = p-if1 .before in (
+      rw (
+        not-false (p-args .args .homed) (p-if1 .if1 .left),
+        ← p-line-of .line-of .ensures,
+        ← p-l2-find .l2-find .ensures .0,
+        le-ltb _ _
+            (p-if2 .if2 .left),
+        c .l2-get .ensures,
+        p-l2-victim .l2-victim .ensures .0,
+      ) refl,
+      p-l2-victim .l2-victim .ensures .1,
+    )
 
 pub choose-spec : {M : Type 1} → statement M
 choose-spec =

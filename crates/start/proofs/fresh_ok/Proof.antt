@@ -15,7 +15,8 @@ legal-l2-requires c κs = search needs
 
 returns-2 : tie.Need-returns-2
 unfolding freshOk
-returns-2 c = rw (eq-eqb _ _ (c .before .before .if1 .left), sym (c .before .legal-l2 .ensures) ∙ not-true (c .before .legal-l2 .result) (c .if2 .taken)) refl
+returns-2 c =
+    rw (eq-eqb _ _ (c .before .before .if1 .left), sym (c .before .legal-l2 .ensures) ∙ not-true (c .before .legal-l2 .result) (c .if2 .taken)) refl
 
 legal-external-requires : tie.Need-legal-external-requires
 legal-external-requires c κs = search needs
@@ -26,7 +27,10 @@ returns-3 c =
     let p-if2 = c .before in
     let p-legal-l2 = p-if2 .before in
     let p-if1 = p-legal-l2 .before in
-    rw (eq-eqb _ _ (p-if1 .if1 .left), sym (p-legal-l2 .legal-l2 .ensures) ∙ not-false (p-legal-l2 .legal-l2 .result) (p-if2 .if2 .left)) (c .legal-external .ensures)
+    rw (
+      eq-eqb _ _ (p-if1 .if1 .left),
+      sym (p-legal-l2 .legal-l2 .ensures) ∙ not-false (p-legal-l2 .legal-l2 .result) (p-if2 .if2 .left),
+    ) (c .legal-external .ensures)
 
 pub fresh-ok-spec : {M : Type 1} → statement M
 fresh-ok-spec =

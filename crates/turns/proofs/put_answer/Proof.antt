@@ -32,7 +32,8 @@ returns : tie.Need-returns
 returns c =
     let p-store8 = c .before .before in
     let p-args = p-store8 .before .before .before in
-    answered (p-args .args .answers .now) (p-args .args .count) (p-args .args .a .number) (p-args .args .a .server) (p-args .args .a .value) (p-args .pre) _ (p-store8 .store8 .ensures)
+    answered (p-args .args .answers .now) (p-args .args .count) (p-args .args .a .number) (p-args .args .a .server) (p-args .args .a .value)
+    (p-args .pre) _ (p-store8 .store8 .ensures)
 
 pub put-answer-spec : {M : Type 1} → statement M
 put-answer-spec =

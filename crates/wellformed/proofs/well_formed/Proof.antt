@@ -51,7 +51,8 @@ tested : (c : tie.After-cache-size Inv-loop μ-loop Inv-loop2 μ-loop2) →
     let p-legal-external = c .before .before in
     let p-legal-l2 = p-legal-external .before in
     let r = p-legal-l2 .before .args .t1 in
-    ((p-legal-l2 .legal-l2 .result && p-legal-external .legal-external .result) && (c .before .is-mode .result && leb (c .cache-size .result) (r .l2len)))
+    ((p-legal-l2 .legal-l2 .result && p-legal-external .legal-external .result) &&
+    (c .before .is-mode .result && leb (c .cache-size .result) (r .l2len)))
     ≡ legalSizes r
 tested c =
     let p-legal-external = c .before .before in
@@ -74,7 +75,8 @@ l1d-tested c =
     let p-loop = at-loop c in
     let p-sram-length = p-loop .before in
     let r = rec p-loop in
-    l1d-turn r (p-loop .loop .s) (l1dSetAt r (p-loop .loop .s)) (p-sram-length .before .cache-size2 .result / 512) (p-sram-length .sram-length .result)
+    l1d-turn r (p-loop .loop .s) (l1dSetAt r (p-loop .loop .s)) (p-sram-length .before .cache-size2 .result / 512)
+    (p-sram-length .sram-length .result)
     (p-l2-index .l2-index .result) (p-l2-index2 .l2-index2 .result) (p-l2-covers .l2-covers .result) (p-l2-covers2 .l2-covers2 .result)
     (c .l1d-set-ok .result) (sets-known p-loop) (p-sram-length .sram-length .ensures)
     (p-l2-index .l2-index .ensures .0) (p-l2-index2 .l2-index2 .ensures .0) (p-l2-covers .l2-covers .ensures) (p-l2-covers2 .l2-covers2 .ensures)
@@ -205,7 +207,8 @@ l1d-set-ok-requires c κs = search needs
 returns-2 : tie.Need-returns-2 Inv-loop μ-loop Inv-loop2 μ-loop2
 returns-2 c =
     let p-loop = at-loop (c .before) in
-    l1d-stop (rec p-loop) (p-loop .loop .s) (wellFormed (rec p-loop)) (p-loop .loop .inv) (in-l1d (in-turn (c .before))) (sym (l1d-tested (c .before)) ∙ c .if2 .left)
+    l1d-stop (rec p-loop) (p-loop .loop .s) (wellFormed (rec p-loop)) (p-loop .loop .inv) (in-l1d (in-turn (c .before)))
+    (sym (l1d-tested (c .before)) ∙ c .if2 .left)
 
 add-s : tie.Need-add-s Inv-loop μ-loop Inv-loop2 μ-loop2
 add-s c = search needs
@@ -216,7 +219,8 @@ loop-less c = search needs
 loop-again : tie.Need-loop-again Inv-loop μ-loop Inv-loop2 μ-loop2
 loop-again c =
     let p-loop = at-loop (c .before) in
-    l1d-next (rec p-loop) (p-loop .loop .s) (wellFormed (rec p-loop)) (p-loop .loop .inv) (in-l1d (in-turn (c .before))) (sym (l1d-tested (c .before)) ∙ c .if2 .taken)
+    l1d-next (rec p-loop) (p-loop .loop .s) (wellFormed (rec p-loop)) (p-loop .loop .inv) (in-l1d (in-turn (c .before)))
+    (sym (l1d-tested (c .before)) ∙ c .if2 .taken)
 
 loop2-holds : tie.Need-loop2-holds Inv-loop μ-loop Inv-loop2 μ-loop2
 loop2-holds c =
@@ -237,7 +241,8 @@ returns-3 : tie.Need-returns-3 Inv-loop μ-loop Inv-loop2 μ-loop2
 returns-3 c =
     let p-in-loop2 = c .before .before .before .before in
     let p-loop2 = p-in-loop2 .before in
-    l2-stop (rec2 p-loop2) (p-loop2 .loop2 .t) (wellFormed (rec2 p-loop2)) (p-loop2 .loop2 .inv) (in-l2 p-in-loop2) (sym (used-tested (c .before)) ∙ c .if4 .left)
+    l2-stop (rec2 p-loop2) (p-loop2 .loop2 .t) (wellFormed (rec2 p-loop2)) (p-loop2 .loop2 .inv) (in-l2 p-in-loop2)
+    (sym (used-tested (c .before)) ∙ c .if4 .left)
 
 fresh-set-requires : tie.Need-fresh-set-requires Inv-loop μ-loop Inv-loop2 μ-loop2
 fresh-set-requires c κs = search needs
@@ -246,7 +251,8 @@ returns-4 : tie.Need-returns-4 Inv-loop μ-loop Inv-loop2 μ-loop2
 returns-4 c =
     let p-in-loop2 = c .before .before .before .before in
     let p-loop2 = p-in-loop2 .before in
-    l2-stop (rec2 p-loop2) (p-loop2 .loop2 .t) (wellFormed (rec2 p-loop2)) (p-loop2 .loop2 .inv) (in-l2 p-in-loop2) (sym (idle-tested (c .before)) ∙ c .if5 .left)
+    l2-stop (rec2 p-loop2) (p-loop2 .loop2 .t) (wellFormed (rec2 p-loop2)) (p-loop2 .loop2 .inv) (in-l2 p-in-loop2)
+    (sym (idle-tested (c .before)) ∙ c .if5 .left)
 
 add-t : tie.Need-add-t Inv-loop μ-loop Inv-loop2 μ-loop2
 add-t c = search needs
@@ -262,8 +268,10 @@ loop2-again c =
     -- an arm: whether the set is in use, the test of the set, and that it passed
     let passed : l2SetOk r (p-loop2 .loop2 .t) (l2SetAt r (p-loop2 .loop2 .t)) ≡ true =
     ⊎-elim
-    (λ w. let used = w .0 in let set = w .1 in let pass = w .2 in sym (used-tested (record { before = record { before = c .before; if3 = used }; l2-set-ok = set })) ∙ pass .taken)
-    (λ w. let idle = w .0 in let set = w .1 in let pass = w .2 in sym (idle-tested (record { before = record { before = c .before; if3 = idle }; fresh-set = set })) ∙ pass .taken)
+    (λ w. let used = w .0 in let set = w .1 in let pass = w .2 in sym (used-tested
+    (record { before = record { before = c .before; if3 = used }; l2-set-ok = set })) ∙ pass .taken)
+    (λ w. let idle = w .0 in let set = w .1 in let pass = w .2 in sym (idle-tested
+    (record { before = record { before = c .before; if3 = idle }; fresh-set = set })) ∙ pass .taken)
     (c .if3 .came) in
     l2-next r (p-loop2 .loop2 .t) (wellFormed r) (p-loop2 .loop2 .inv) (in-l2 p-in-loop2) passed
 

@@ -12,7 +12,8 @@ mul-c : tie.Need-mul-c
 mul-c c = search needs
 
 returns : tie.Need-returns
-returns c = let e = cache-sets (c .before .before .args .mode) in let f = c .before .sets .ensures .0 in let l = c .if1 .taken in (omega arith, omega arith)
+returns c =
+    let e = cache-sets (c .before .before .args .mode) in let f = c .before .sets .ensures .0 in let l = c .if1 .taken in (omega arith, omega arith)
 
 returns-2 : tie.Need-returns-2
 returns-2 c = let e = cache-sets (c .before .before .args .mode) in let f = c .before .sets .ensures .0 in (omega arith, omega arith)
