@@ -12,8 +12,9 @@ use oracle::gen::{encode, hot, trace, Mix, Rng, TRACE_KINDS};
 use oracle::geometry::EXTERNAL_BASE;
 use oracle::Command;
 
-use crate::report::{hex, trace_words};
-use crate::shrink::shorten;
+use crate::plant;
+use crate::report::{hex, left, trace_words};
+use crate::shrink::{shorten, Size};
 
 /// How many inputs the program is run on. The first is the worked example.
 pub const INPUTS: u64 = 401;
@@ -36,13 +37,25 @@ const EXAMPLE: ([u8; 28], &str) = (
 pub fn compare(program: &Path, seed: u64, number: u64) -> Result<Option<String>, String> {
     if number == 0 {
         let (input, expected) = EXAMPLE;
-        return one(program, &input, expected, 0);
+        return smallest(program, input.to_vec(), expected, 0);
     }
     let mut rng = Rng::new(seed ^ (number - 1).wrapping_mul(0x9E37_79B9));
     let input = input_of(&mut rng, number - 1);
     // Now and then the bytes come in pieces.
     let piece = if number % 40 == 0 { 1 + rng.below(700) as usize } else { 0 };
-    let found = one(program, &input, &bench_trace(&input), piece)?;
+    let expected = bench_trace(&input);
+    smallest(program, input, &expected, piece)
+}
+
+/// A difference on this input, or on a smaller one that has a difference from
+/// the reference model.
+fn smallest(
+    program: &Path,
+    input: Vec<u8>,
+    expected: &str,
+    piece: usize,
+) -> Result<Option<String>, String> {
+    let found = one(program, &input, expected, piece)?;
     Ok(match found {
         Some(_) => smaller(program, input, piece).or(found),
         None => None,
@@ -68,9 +81,14 @@ fn smaller(program: &Path, input: Vec<u8>, piece: usize) -> Option<String> {
             _ => false,
         }
     };
-    let input = if fails(&short, 0) { short } else { input };
-    shorten(input, fails);
-    last
+    let mut input = if fails(&short, 0) { short } else { input };
+    loop {
+        let before = input.len();
+        input = shorten(input, &mut fails);
+        if input.len() == before {
+            return last;
+        }
+    }
 }
 
 /// The input of this number: empty, random, damaged or long.
@@ -147,14 +165,16 @@ fn one(
             thread::sleep(Duration::from_millis(1));
         }
     });
-    let output = child.wait_with_output().map_err(|error| failed("cannot be read", error))?;
+    let mut output = child.wait_with_output().map_err(|error| failed("cannot be read", error))?;
     writer.join().expect("the writer ends");
+    plant::bench(&mut output);
     if output.stdout == expected.as_bytes() && output.status.success() {
         return Ok(None);
     }
     let shown = &input[..input.len().min(4_096)];
     let mut text = format!(
-        "{}, {}\ninput of {} bytes: {}",
+        "{}\n{}, {}\ninput of {} bytes: {}",
+        left(&Size { trace_bytes: input.len(), ..Size::default() }),
         output_difference(&String::from_utf8_lossy(&output.stdout), expected),
         output.status,
         input.len(),

@@ -5,6 +5,7 @@ mod bench;
 mod boundary;
 mod now;
 mod pair;
+mod plant;
 mod report;
 mod sections;
 mod shrink;
@@ -17,6 +18,7 @@ use std::time::Instant;
 use oracle::gen::Rng;
 
 use pair::Met;
+use plant::{Planted, PLANTS};
 use report::report;
 use sections::{Section, SECTIONS};
 use shrink::shrink;
@@ -31,14 +33,15 @@ compare: the calls of the boundary against the reference model
   --group K            only group K of that section
   --input K            nothing but input K of bench-trace
   --now PATH           a file that says which group is being run
+  --plant NAME         with a difference that is planted, to test compare itself
   --help               this text
 
 Equal seeds give equal calls. Exit status: 0 no difference; 1 a difference or a
 panic, which is made smaller and printed, or something that should be met was
 not; 2 bad usage, or a program or file that cannot be run or written.";
 
-const OPTIONS: [&str; 7] =
-    ["--calls", "--seed", "--bench-trace", "--section", "--group", "--input", "--now"];
+const OPTIONS: [&str; 8] =
+    ["--calls", "--seed", "--bench-trace", "--section", "--group", "--input", "--now", "--plant"];
 
 struct Arguments {
     calls: u64,
@@ -48,6 +51,14 @@ struct Arguments {
     group: Option<u64>,
     input: Option<u64>,
     now: Option<PathBuf>,
+    plant: Option<&'static Planted>,
+}
+
+impl Arguments {
+    /// The words that plant the same difference again.
+    fn planted(&self) -> String {
+        self.plant.map_or(String::new(), |planted| format!(" --plant {}", planted.name))
+    }
 }
 
 /// The arguments; `None` if help was asked for.
@@ -60,6 +71,7 @@ fn arguments(mut words: impl Iterator<Item = String>) -> Result<Option<Arguments
         group: None,
         input: None,
         now: None,
+        plant: None,
     };
     while let Some(word) = words.next() {
         if word == "--help" {
@@ -78,6 +90,7 @@ fn arguments(mut words: impl Iterator<Item = String>) -> Result<Option<Arguments
             "--group" => found.group = Some(number()?),
             "--input" => found.input = Some(number()?),
             "--now" => found.now = Some(PathBuf::from(&value)),
+            "--plant" => found.plant = Some(plant::find(&value)?),
             "--bench-trace" => {
                 let path = PathBuf::from(&value);
                 if !path.is_file() {
@@ -114,7 +127,10 @@ fn main() -> ExitCode {
             return ExitCode::from(2);
         }
         Ok(None) => {
-            println!("{HELP}");
+            println!("{HELP}\n\nDifferences that can be planted:");
+            for planted in &PLANTS {
+                println!("  {:20} {}", planted.name, planted.about);
+            }
             return ExitCode::SUCCESS;
         }
         Ok(Some(arguments)) => arguments,
@@ -138,6 +154,9 @@ fn main() -> ExitCode {
 /// Whether all is well; an error is something that could not be run.
 fn run(arguments: &Arguments) -> Result<bool, String> {
     let started = Instant::now();
+    if let Some(planted) = arguments.plant {
+        plant::choose(planted);
+    }
     let mut met = Met::default();
     if arguments.input.is_none() && !run_sections(arguments, &mut met)? {
         return Ok(false);
@@ -209,7 +228,8 @@ fn run_group(
     let (seed, name) = (arguments.seed, section.name);
     let place = format!(
         "section {name}, group {group}, seed {seed}\n\
-         again: compare --seed {seed} --section {name} --group {group}"
+         again: compare --seed {seed} --section {name} --group {group}{}",
+        arguments.planted()
     );
     now::enter(arguments.now.as_deref(), place.clone())?;
     let salt = (number + 1) << 48 | group;
@@ -233,8 +253,9 @@ fn run_bench(arguments: &Arguments) -> Result<bool, String> {
     for input in inputs.clone() {
         let place = format!(
             "bench-trace, input {input}, seed {seed}\n\
-             again: compare --seed {seed} --bench-trace {} --input {input}",
-            program.display()
+             again: compare --seed {seed} --bench-trace {} --input {input}{}",
+            program.display(),
+            arguments.planted()
         );
         now::enter(arguments.now.as_deref(), place.clone())?;
         if let Some(difference) = bench::compare(program, seed, input)? {

@@ -14,6 +14,7 @@ use oracle::{Answer, Command, Record, RunResult};
 
 use crate::boundary::{self, record_difference, record_of, same_record, CRecord, Lent};
 use crate::now;
+use crate::plant;
 
 /// A byte of C's record that stands for a bool, and a value put there.
 #[derive(Clone, Copy, PartialEq, Eq, Debug)]
@@ -137,7 +138,8 @@ pub struct Wrong {
     what: String,
 }
 
-/// A difference, and the call after which it was seen.
+/// A difference, and the call after which it was seen; it is the number of all
+/// calls if that was at the end.
 #[derive(Clone, Debug)]
 pub struct Difference {
     pub op: usize,
@@ -147,7 +149,7 @@ pub struct Difference {
 
 /// Memories up to this length are compared whole after every call. Of longer
 /// ones the lines that a call names are, and all of it now and then.
-const SMALL: usize = 1 << 20;
+pub const SMALL: usize = 1 << 20;
 
 /// Every so many calls a long memory is compared whole.
 const WHOLE_EVERY: usize = 256;
@@ -176,7 +178,8 @@ pub fn compare(start: &Start, ops: &[Op], met: &mut Met) -> Option<Difference> {
     Some(Difference { op, kind, what })
 }
 
-/// Makes the calls; `reached` is the number of the present one.
+/// Makes the calls; `reached` is the number of the present one, and that of
+/// all of them at the end.
 fn make(start: &Start, ops: &[Op], met: &mut Met, reached: &mut usize) -> Result<(), Wrong> {
     let mut record = record_of(&start.setup.record);
     for odd in &start.odd {
@@ -198,6 +201,7 @@ fn make(start: &Start, ops: &[Op], met: &mut Met, reached: &mut usize) -> Result
         let whole = op % WHOLE_EVERY == WHOLE_EVERY - 1 || op + 1 == ops.len();
         pair.memories(call, whole)?;
     }
+    *reached = ops.len();
     pair.end()
 }
 
@@ -320,13 +324,15 @@ impl Pair<'_> {
         let (record, number) =
             fresh_start(&mut self.theirs.l1d, &mut self.theirs.l2, &mut self.theirs.ext);
         let (_, lent) = self.lent();
-        let called = boundary::fresh(lent);
+        let mut called = boundary::fresh(lent);
+        plant::fresh(&mut called);
         self.met.calls += 1;
         self.met.numbers[number as usize] += 1;
         let ours = Answer { number: called.number, server: called.server, value: called.value };
-        expect_answer("answer", ours, Answer::refused(number))?;
+        expect_answer("answer of a fresh start", ours, Answer::refused(number))?;
         if !same_record(&called.record, &record) {
-            let what = record_difference(&called.record, &record_of(&record));
+            let difference = record_difference(&called.record, &record_of(&record));
+            let what = format!("record of a fresh start: {difference}");
             return Err(Wrong { kind: Kind::Record, what });
         }
         if number == 0 {
@@ -347,7 +353,8 @@ impl Pair<'_> {
             self.theirs.call(command)
         };
         let (record, lent) = self.lent();
-        let called = boundary::direct(record, command, lent);
+        let mut called = boundary::direct(record, command, lent);
+        plant::direct(command, &mut called, self.lent().1);
         self.count(command, &theirs);
         let ours = Answer { number: called.number, server: called.server, value: called.value };
         expect_answer("answer", ours, theirs)?;
@@ -389,16 +396,24 @@ impl Pair<'_> {
         Ok(())
     }
 
+    /// What flat memory says of a call's answer.
+    fn flat_answer(&mut self, command: &Command, ours: &Answer) -> Result<(), Wrong> {
+        let said = self.flat.as_mut().and_then(|flat| flat.apply(command));
+        let Some((mut number, mut value)) = said else { return Ok(()) };
+        plant::flat_answer(command, &mut number, &mut value);
+        expect(Kind::Number, "number, by flat memory,", ours.number, number)?;
+        expect(Kind::Value, "value, by flat memory,", ours.value, value)?;
+        self.met.flat_reads += 1;
+        Ok(())
+    }
+
     /// What flat memory says of a call.
     fn flat(&mut self, command: &Command, ours: &Answer) -> Result<(), Wrong> {
+        self.flat_answer(command, ours)?;
         let Some(flat) = &mut self.flat else { return Ok(()) };
-        if let Some((number, value)) = flat.apply(command) {
-            expect(Kind::Number, "number, by flat memory,", ours.number, number)?;
-            expect(Kind::Value, "value, by flat memory,", ours.value, value)?;
-            self.met.flat_reads += 1;
-        }
         let global = matches!(command, Command::L2WritebackAll | Command::L2WritebackInvalidateAll);
         if global && ours.number == 0 && self.record.mode != 0 {
+            plant::flat_writeback(flat);
             expect_bytes("external memory, by flat memory,", &self.ext, &flat.ext)?;
             self.met.flat_memories += 1;
         }
@@ -415,7 +430,8 @@ impl Pair<'_> {
             self.theirs.run(trace, &mut expected)
         };
         let (record, lent) = self.lent();
-        let run = boundary::run(record, trace, lent, &mut answers);
+        let mut run = boundary::run(record, trace, lent, &mut answers);
+        plant::run(&mut run, &mut answers);
         self.met.calls += 1;
         self.met.runs += 1;
         self.met.odd += u64::from(self.odd);
@@ -433,13 +449,7 @@ impl Pair<'_> {
                 let value = u64::from_le_bytes(answer[2..].try_into().expect("eight bytes"));
                 let ours = Answer { number: answer[0], server: answer[1], value };
                 // The memories stand as they are after the whole run.
-                if let Some((number, value)) =
-                    self.flat.as_mut().and_then(|flat| flat.apply(&command))
-                {
-                    expect(Kind::Number, "number, by flat memory,", ours.number, number)?;
-                    expect(Kind::Value, "value, by flat memory,", ours.value, value)?;
-                    self.met.flat_reads += 1;
-                }
+                self.flat_answer(&command, &ours)?;
             }
         }
         Ok(answers)
@@ -460,7 +470,9 @@ impl Pair<'_> {
         while !refused && place < trace.len() && (count + 1) * ANSWER_BYTES <= answer_bytes {
             let Some((command, length)) = decode(&trace[place..]) else { break };
             let lent = Lent { l1d: &mut l1d, l2: &mut l2, ext: &mut ext };
-            let called = boundary::direct(&record, &command, lent);
+            let mut called = boundary::direct(&record, &command, lent);
+            let lent = Lent { l1d: &mut l1d, l2: &mut l2, ext: &mut ext };
+            plant::direct(&command, &mut called, lent);
             self.met.calls += 1;
             self.met.numbers[called.number as usize] += 1;
             self.met.servers[called.server as usize] += 1;
@@ -503,10 +515,12 @@ impl Pair<'_> {
         self.met.calls += 2;
         self.met.views += 1;
         self.met.numbers[number as usize] += 1;
-        let ours = boundary::view(&self.record, address, &self.l2, &self.ext, &mut seen);
+        let mut ours = boundary::view(&self.record, address, &self.l2, &self.ext, &mut seen);
+        plant::view(&mut ours, &mut seen);
         expect(Kind::Number, "number of the view", ours, expected_number)?;
         expect_bytes("viewed bytes", &seen, &expected)?;
-        let ours = boundary::view_number(&self.record, address, &self.l2, &self.ext);
+        let mut ours = boundary::view_number(&self.record, address, &self.l2, &self.ext);
+        plant::view_number(&mut ours);
         expect(Kind::Number, "view's number", ours, number)
     }
 
@@ -539,7 +553,8 @@ impl Pair<'_> {
             return Ok(());
         }
         self.direct(&Command::Mode { mode: 0 })?;
-        let flat = self.flat.as_ref().expect("seen just now");
+        let flat = self.flat.as_mut().expect("seen just now");
+        plant::flat_end(flat);
         expect_bytes("external memory at the end, by flat memory,", &self.ext, &flat.ext)?;
         expect_bytes("SRAM at the end, by flat memory,", &self.l2, &flat.sram)
     }

@@ -6,15 +6,25 @@ use oracle::trace::decode;
 use oracle::Command;
 
 use crate::pair::Op;
-use crate::shrink::Case;
+use crate::shrink::{Case, Size};
 
 /// Bytes in hexadecimal.
 pub fn hex(bytes: &[u8]) -> String {
     bytes.iter().map(|byte| format!("{byte:#04x}")).collect::<Vec<_>>().join(" ")
 }
 
+/// How much is left of a case that was made smaller: the line that tests/compare
+/// reads.
+pub fn left(size: &Size) -> String {
+    format!(
+        "left: calls {}, trace bytes {}, answer bytes {}, lines {}",
+        size.calls, size.trace_bytes, size.answer_bytes, size.lines
+    )
+}
+
 /// Prints a case.
 pub fn report(case: &Case) {
+    println!("{}", left(&case.size()));
     let setup = &case.start.setup;
     println!(
         "memories: L1D {} L2 {} external {} bytes",
@@ -36,7 +46,11 @@ pub fn report(case: &Case) {
     for (number, op) in case.ops.iter().enumerate() {
         report_op(number, op);
     }
-    println!("after call {}: {}", case.difference.op, case.difference.what);
+    if case.difference.op < case.ops.len() {
+        println!("after call {}: {}", case.difference.op, case.difference.what);
+    } else {
+        println!("after a last change to mode 0: {}", case.difference.what);
+    }
 }
 
 fn report_record(record: &Record) {

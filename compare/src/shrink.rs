@@ -4,7 +4,8 @@
 
 use std::time::{Duration, Instant};
 
-use oracle::record::{L1dSet, L2Set, Line};
+use oracle::calls::fresh_start;
+use oracle::record::{L1dSet, L2Set, Line, Record};
 use oracle::trace::{decode, ANSWER_BYTES};
 
 use crate::pair::{compare, Difference, Met, Op, Start};
@@ -21,6 +22,34 @@ pub struct Case {
     pub difference: Difference,
 }
 
+/// What is to become smaller.
+#[derive(Clone, Copy, PartialEq, Eq, Default)]
+pub struct Size {
+    pub calls: usize,
+    pub trace_bytes: usize,
+    pub answer_bytes: usize,
+    pub odd_bytes: usize,
+    /// Lines of the record to begin with.
+    pub lines: usize,
+    pub external: usize,
+}
+
+impl Case {
+    pub fn size(&self) -> Size {
+        let setup = &self.start.setup;
+        let l1d = setup.record.l1d.iter().flat_map(|set| set.lines);
+        let l2 = setup.record.l2.iter().flat_map(|set| set.lines);
+        Size {
+            calls: self.ops.len(),
+            trace_bytes: self.ops.iter().filter_map(run_of).map(|(trace, _)| trace.len()).sum(),
+            answer_bytes: self.ops.iter().filter_map(run_of).map(|(_, bytes)| bytes).sum(),
+            odd_bytes: self.start.odd.len(),
+            lines: l1d.chain(l2).filter(|line| *line != Line::EMPTY).count(),
+            external: setup.ext.len(),
+        }
+    }
+}
+
 struct Shrinker {
     case: Case,
     tries: usize,
@@ -31,39 +60,28 @@ struct Shrinker {
 pub fn shrink(case: Case) -> Case {
     let mut shrinker = Shrinker { case, tries: 0, begun: Instant::now() };
     // Nothing after the difference matters.
-    let kept = shrinker.case.ops[..=shrinker.case.difference.op].to_vec();
+    let mut kept = shrinker.case.ops.clone();
+    kept.truncate(shrinker.case.difference.op + 1);
     shrinker.try_ops(kept);
-    shrinker.start_with_the_last_record();
-    shrinker.shorten_external();
-    shrinker.clear_memories();
     loop {
-        let before = shrinker.size();
+        let before = shrinker.case.size();
+        shrinker.start_before_the_last_call();
+        shrinker.shorten_external();
+        shrinker.clear_memories();
         shrinker.drop_ops();
+        shrinker.make_calls_plain();
         shrinker.shorten_traces();
         shrinker.shorten_answers();
         shrinker.drop_odd_bytes();
         shrinker.empty_sets();
         shrinker.empty_ways();
-        shrinker.shorten_external();
-        if shrinker.size() == before || shrinker.is_over() {
+        if shrinker.case.size() == before || shrinker.is_over() {
             return shrinker.case;
         }
     }
 }
 
 impl Shrinker {
-    /// What is to become smaller.
-    fn size(&self) -> [usize; 6] {
-        let ops = &self.case.ops;
-        let traces = ops.iter().filter_map(run_of).map(|(trace, _)| trace.len()).sum();
-        let answers = ops.iter().filter_map(run_of).map(|(_, bytes)| bytes).sum();
-        let setup = &self.case.start.setup;
-        let l1d = setup.record.l1d.iter().flat_map(|set| set.lines);
-        let l2 = setup.record.l2.iter().flat_map(|set| set.lines);
-        let ways = l1d.chain(l2).filter(|line| *line != Line::EMPTY).count();
-        [ops.len(), traces, answers, self.case.start.odd.len(), ways, setup.ext.len()]
-    }
-
     fn is_over(&self) -> bool {
         self.tries >= TRIES || self.begun.elapsed() >= LIMIT
     }
@@ -92,31 +110,53 @@ impl Shrinker {
         self.try_case(start, self.case.ops.clone())
     }
 
-    /// Begins with the record that was put in place last, over the first
-    /// memories.
-    fn start_with_the_last_record(&mut self) {
-        let found = self.case.ops.iter().rposition(|op| matches!(op, Op::Record(_)));
-        let Some(place) = found else { return };
-        let Op::Record(record) = &self.case.ops[place] else { return };
-        let mut start = self.case.start.clone();
-        start.setup.record = record.clone();
-        start.odd.clear();
-        self.try_case(start, self.case.ops[place + 1..].to_vec());
-    }
-
-    /// Tries a smaller E, which makes all further tries quicker too.
-    fn shorten_external(&mut self) {
-        let setup = &self.case.start.setup;
-        if u32::try_from(setup.ext.len()) != Ok(setup.record.e) {
+    /// Begins with what the calls before the difference leave behind, by the
+    /// reference model. That is not enough where an earlier call made it.
+    fn start_before_the_last_call(&mut self) {
+        let Case { start, ops, difference } = &self.case;
+        // Flat memory has to begin with a fresh start. A record with a byte that
+        // is no bool stays as it is.
+        if start.flat || !start.odd.is_empty() || difference.op == 0 {
             return;
         }
+        let mut setup = start.setup.clone();
+        for op in &ops[..difference.op] {
+            match op {
+                Op::Fresh => {
+                    let (record, number) =
+                        fresh_start(&mut setup.l1d, &mut setup.l2, &mut setup.ext);
+                    if number == 0 {
+                        setup.record = record;
+                    }
+                }
+                Op::Record(record) => setup.record = record.clone(),
+                Op::Direct(command) => {
+                    setup.call(command);
+                }
+                Op::Run { trace, answer_bytes } | Op::RunAndSingleCalls { trace, answer_bytes } => {
+                    setup.run(trace, &mut vec![0; *answer_bytes]);
+                }
+                Op::View { .. } => {}
+            }
+        }
+        let last = ops[difference.op..].to_vec();
+        self.try_case(Start { setup, odd: Vec::new(), flat: false }, last);
+    }
+
+    /// Tries shorter external memories, which make all further tries quicker too,
+    /// with an E that is like the length if it was so before.
+    fn shorten_external(&mut self) {
+        let setup = &self.case.start.setup;
+        let alike = u32::try_from(setup.ext.len()) == Ok(setup.record.e);
         for e in [128, 256, 8_192, 65_536, 16_777_216, 16_777_216 + 128, 16_777_216 + 65_536] {
-            if e >= self.case.start.setup.record.e {
+            if e as usize >= self.case.start.setup.ext.len() {
                 return;
             }
             let mut start = self.case.start.clone();
-            start.setup.record.e = e;
             start.setup.ext.truncate(e as usize);
+            if alike {
+                start.setup.record.e = e;
+            }
             if self.try_start(start) {
                 return;
             }
@@ -126,6 +166,10 @@ impl Shrinker {
     /// Makes the bytes of each memory 0.
     fn clear_memories(&mut self) {
         for memory in 0..3 {
+            let setup = &self.case.start.setup;
+            if [&setup.l1d, &setup.l2, &setup.ext][memory].iter().all(|&byte| byte == 0) {
+                continue;
+            }
             let mut start = self.case.start.clone();
             let setup = &mut start.setup;
             [&mut setup.l1d, &mut setup.l2, &mut setup.ext][memory].fill(0);
@@ -146,6 +190,29 @@ impl Shrinker {
                 }
             }
             length /= 2;
+        }
+    }
+
+    /// Tries a run alone where single calls come after it, and a view's buffer
+    /// that is just long enough.
+    fn make_calls_plain(&mut self) {
+        let mut op = 0;
+        while let Some(call) = self.case.ops.get(op) {
+            let plain = match call {
+                Op::RunAndSingleCalls { trace, answer_bytes } => {
+                    Some(Op::Run { trace: trace.clone(), answer_bytes: *answer_bytes })
+                }
+                Op::View { address, buffer: 65.. } => {
+                    Some(Op::View { address: *address, buffer: 64 })
+                }
+                _ => None,
+            };
+            if let Some(plain) = plain {
+                let mut ops = self.case.ops.clone();
+                ops[op] = plain;
+                self.try_ops(ops);
+            }
+            op += 1;
         }
     }
 
@@ -206,22 +273,18 @@ impl Shrinker {
 
     /// Makes sets of the record fresh, many at once first.
     fn empty_sets(&mut self) {
-        if self.case.start.flat {
-            return;
-        }
         let mut length = 256;
         while length > 0 {
             for from in (0..640).step_by(length) {
-                let mut start = self.case.start.clone();
-                let record = &mut start.setup.record;
-                for set in from..(from + length).min(640) {
-                    if set < 128 {
-                        record.l1d[set] = L1dSet::FRESH;
-                    } else {
-                        record.l2[set - 128] = L2Set::FRESH;
+                self.try_record(|record| {
+                    for set in from..(from + length).min(640) {
+                        if set < 128 {
+                            record.l1d[set] = L1dSet::FRESH;
+                        } else {
+                            record.l2[set - 128] = L2Set::FRESH;
+                        }
                     }
-                }
-                self.try_if_changed(start);
+                });
             }
             length /= 4;
         }
@@ -230,33 +293,32 @@ impl Shrinker {
     /// Makes single ways of the sets that are left empty, and their orders
     /// fresh.
     fn empty_ways(&mut self) {
-        if self.case.start.flat {
-            return;
-        }
         for set in 0..128 {
             for way in 0..2 {
-                let mut start = self.case.start.clone();
-                start.setup.record.l1d[set].lines[way] = Line::EMPTY;
-                self.try_if_changed(start);
+                self.try_record(|record| record.l1d[set].lines[way] = Line::EMPTY);
             }
-            let mut start = self.case.start.clone();
-            start.setup.record.l1d[set].order = L1dSet::FRESH.order;
-            self.try_if_changed(start);
+            self.try_record(|record| record.l1d[set].order = L1dSet::FRESH.order);
         }
         for set in 0..512 {
             for way in 0..4 {
-                let mut start = self.case.start.clone();
-                start.setup.record.l2[set].lines[way] = Line::EMPTY;
-                self.try_if_changed(start);
+                self.try_record(|record| record.l2[set].lines[way] = Line::EMPTY);
             }
-            let mut start = self.case.start.clone();
-            start.setup.record.l2[set].order = L2Set::FRESH.order;
-            self.try_if_changed(start);
+            self.try_record(|record| record.l2[set].order = L2Set::FRESH.order);
         }
     }
 
-    fn try_if_changed(&mut self, start: Start) {
-        if start.setup.record != self.case.start.setup.record {
+    /// Tries another record to begin with, if the change makes it another. The
+    /// memories, which may be long, are copied only then.
+    fn try_record(&mut self, change: impl FnOnce(&mut Record)) {
+        // Flat memory begins with a fresh record.
+        if self.case.start.flat {
+            return;
+        }
+        let mut record = self.case.start.setup.record.clone();
+        change(&mut record);
+        if record != self.case.start.setup.record {
+            let mut start = self.case.start.clone();
+            start.setup.record = record;
             self.try_start(start);
         }
     }
@@ -322,5 +384,64 @@ fn with_run(op: &Op, trace: Vec<u8>, answer_bytes: usize) -> Op {
     match op {
         Op::RunAndSingleCalls { .. } => Op::RunAndSingleCalls { trace, answer_bytes },
         _ => Op::Run { trace, answer_bytes },
+    }
+}
+
+#[cfg(test)]
+mod tests {
+    use super::{command_ends, shorten};
+
+    /// MAR 128 bit 1, L2 writeback all, mode 4, read of 4 bytes at 8, mode 1.
+    const TRACE: [u8; 12] = [11, 0x80, 1, 1, 2, 10, 4, 0, 4, 8, 10, 1];
+
+    #[test]
+    fn commands_end_where_the_next_begins() {
+        assert_eq!(command_ends(&[]), [0]);
+        assert_eq!(command_ends(&TRACE), [0, 4, 5, 7, 10, 12]);
+    }
+
+    #[test]
+    fn bytes_with_which_no_command_begins_stand_alone() {
+        // Unknown codes, and an end inside a command.
+        assert_eq!(command_ends(&[12, 255, 9]), [0, 1, 2, 3]);
+        assert_eq!(command_ends(&[9, 0, 0x84]), [0, 1, 2, 3]);
+        // An overlong number, in which a read of 2 bytes at 2 begins.
+        assert_eq!(command_ends(&[10, 0x80, 0, 2, 2]), [0, 1, 2, 5]);
+    }
+
+    fn holds(trace: &[u8], part: &[u8]) -> bool {
+        trace.windows(part.len()).any(|window| window == part)
+    }
+
+    #[test]
+    fn what_does_not_matter_goes() {
+        assert_eq!(shorten(TRACE.to_vec(), |left, _| holds(left, &[10, 4])), [10, 4]);
+        assert_eq!(shorten(TRACE.to_vec(), |left, _| holds(left, &[2])), [2]);
+        assert_eq!(shorten(TRACE.to_vec(), |_, _| true), []);
+    }
+
+    #[test]
+    fn what_matters_stays_wherever_it_stands() {
+        let ends = |left: &[u8], _| left.starts_with(&[11]) && left.ends_with(&[1]);
+        assert_eq!(shorten(TRACE.to_vec(), ends), [11, 1]);
+        assert_eq!(shorten(TRACE.to_vec(), |_, _| false), TRACE);
+        let long = [TRACE.repeat(100), vec![10, 6], TRACE.repeat(57)].concat();
+        assert_eq!(shorten(long, |left, _| holds(left, &[10, 6])), [10, 6]);
+    }
+
+    #[test]
+    fn commands_that_are_gone_are_counted() {
+        let (mut now, mut all_gone) = (TRACE.to_vec(), 0);
+        shorten(TRACE.to_vec(), |left, gone| {
+            assert!(left.len() < now.len());
+            let taken = holds(left, &[0, 4, 8]);
+            if taken {
+                assert_eq!(gone, command_ends(&now).len() - command_ends(left).len());
+                now = left.to_vec();
+                all_gone += gone;
+            }
+            taken
+        });
+        assert_eq!((&now[..], all_gone), (&[0, 4, 8][..], 4));
     }
 }

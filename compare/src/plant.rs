@@ -1,0 +1,210 @@
+//! Planted differences, to test the comparison itself: `--plant NAME` picks one,
+//! and what came back is changed by it before it is compared. The library, the
+//! reference model and bench-trace stay as they are.
+
+use std::os::unix::process::ExitStatusExt;
+use std::process::{ExitStatus, Output};
+use std::sync::OnceLock;
+
+use oracle::flat::Flat;
+use oracle::geometry::L1d;
+use oracle::machine::{SERVER_L1D, SERVER_L2};
+use oracle::trace::ANSWER_BYTES;
+use oracle::Command;
+
+use crate::boundary::{CCalled, CRun, Lent};
+use crate::pair::SMALL;
+
+/// The planted differences; `PLANTS` says what each does.
+#[derive(Clone, Copy, PartialEq, Eq, Debug)]
+enum Plant {
+    ReadValue,
+    ReadOrder,
+    WriteNumber,
+    NoBool,
+    L1dByte,
+    L2Byte,
+    ExternalByte,
+    ExternalFar,
+    Panic,
+    FreshNumber,
+    FreshRecord,
+    RunCounts,
+    RunAnswer,
+    RunLater,
+    RunRecord,
+    ViewNumber,
+    ViewBytes,
+    ViewNumberAlone,
+    FlatNumber,
+    FlatValue,
+    FlatWriteback,
+    FlatEnd,
+    FlatSram,
+    BenchOutput,
+    BenchStatus,
+}
+
+/// A planted difference with its name and what it does.
+pub struct Planted {
+    plant: Plant,
+    pub name: &'static str,
+    pub about: &'static str,
+}
+
+const fn planted(plant: Plant, name: &'static str, about: &'static str) -> Planted {
+    Planted { plant, name, about }
+}
+
+pub const PLANTS: [Planted; 25] = [
+    planted(Plant::ReadValue, "read-value", "a 4-byte read from L2 cache gets 1 more"),
+    planted(Plant::ReadOrder, "read-order", "a read hit in L1D turns its set's order around"),
+    planted(Plant::WriteNumber, "write-number", "a write refused with 6 gets 5"),
+    planted(Plant::NoBool, "no-bool", "a valid byte of L1D that is no bool comes back as 1"),
+    planted(Plant::L1dByte, "l1d-byte", "L1D invalidate all changes L1D's last byte"),
+    planted(Plant::L2Byte, "l2-byte", "a call refused with 9 changes L2's first byte"),
+    planted(Plant::ExternalByte, "external-byte", "L2 block writeback changes external memory"),
+    planted(Plant::ExternalFar, "external-far", "a write hit changes external memory at 1 MiB"),
+    planted(Plant::Panic, "panic", "a change to mode 2 panics"),
+    planted(Plant::FreshNumber, "fresh-number", "a fresh start refused with 1 gets 2"),
+    planted(Plant::FreshRecord, "fresh-record", "a fresh start sets MAR 129's bit"),
+    planted(Plant::RunCounts, "run-counts", "a run stopped by 12 has consumed 1 byte more"),
+    planted(Plant::RunAnswer, "run-answer", "a run's third answer has another server"),
+    planted(Plant::RunLater, "run-later", "a run stopped by 11 changes a later answer byte"),
+    planted(Plant::RunRecord, "run-record", "a run with two answers changes MAR 129's bit"),
+    planted(Plant::ViewNumber, "view-number", "a view refused with 5 gets 4"),
+    planted(Plant::ViewBytes, "view-bytes", "the last byte of an accepted view is wrong"),
+    planted(Plant::ViewNumberAlone, "view-number-alone", "the second call gets 4 for a 5"),
+    planted(Plant::FlatNumber, "flat-number", "a write refused with 6 gets 5 by flat memory"),
+    planted(Plant::FlatValue, "flat-value", "a 2-byte read gets 1 more by flat memory"),
+    planted(Plant::FlatWriteback, "flat-writeback", "a global writeback changes flat memory"),
+    planted(Plant::FlatEnd, "flat-end", "the end of a list changes flat external memory"),
+    planted(Plant::FlatSram, "flat-sram", "the end of a list changes flat SRAM"),
+    planted(Plant::BenchOutput, "bench-output", "bench-trace prints a line more after an 8"),
+    planted(Plant::BenchStatus, "bench-status", "bench-trace fails after a 7"),
+];
+
+static CHOSEN: OnceLock<Plant> = OnceLock::new();
+
+/// The planted difference of this name.
+pub fn find(name: &str) -> Result<&'static Planted, String> {
+    let found = PLANTS.iter().find(|planted| planted.name == name);
+    found.ok_or(format!("there is no planted difference '{name}'"))
+}
+
+/// From here on this difference is planted.
+pub fn choose(planted: &Planted) {
+    CHOSEN.set(planted.plant).expect("one difference is planted at most");
+}
+
+/// Makes a byte one more, if there is one: two changes are no way back.
+fn change(byte: Option<&mut u8>) {
+    if let Some(byte) = byte {
+        *byte = byte.wrapping_add(1);
+    }
+}
+
+/// What a direct call gave back, and the memories after it.
+pub fn direct(command: &Command, called: &mut CCalled, lent: Lent) {
+    let Some(plant) = CHOSEN.get() else { return };
+    let accepted = called.number == 0;
+    match (plant, *command) {
+        (Plant::ReadValue, Command::Read { size: 4, .. }) if called.server == SERVER_L2 => {
+            called.value += 1;
+        }
+        (Plant::ReadOrder, Command::Read { address, .. }) if called.server == SERVER_L1D => {
+            called.record.l1d[L1d::set_of(address)].order.swap(0, 1);
+        }
+        (Plant::WriteNumber, Command::Write { .. }) if called.number == 6 => called.number = 5,
+        (Plant::NoBool, _) => {
+            for line in called.record.l1d.iter_mut().flat_map(|set| &mut set.lines) {
+                line.valid = line.valid.min(1);
+            }
+        }
+        (Plant::L1dByte, Command::L1dInvalidateAll) if accepted => change(lent.l1d.last_mut()),
+        (Plant::L2Byte, _) if called.number == 9 => change(lent.l2.first_mut()),
+        (Plant::ExternalByte, Command::L2BlockWriteback { .. }) if accepted => {
+            change(lent.ext.first_mut());
+        }
+        // Of a long memory this byte is not compared after every call.
+        (Plant::ExternalFar, Command::Write { .. }) if called.server == SERVER_L1D => {
+            change(lent.ext.get_mut(SMALL));
+        }
+        (Plant::Panic, Command::Mode { mode: 2 }) if accepted => panic!("planted"),
+        _ => {}
+    }
+}
+
+/// What a fresh start gave back.
+pub fn fresh(called: &mut CCalled) {
+    match CHOSEN.get() {
+        Some(Plant::FreshNumber) if called.number == 1 => called.number = 2,
+        Some(Plant::FreshRecord) if called.number == 0 => called.record.mar129 = 1,
+        _ => {}
+    }
+}
+
+/// What a run gave back, and its answer bytes.
+pub fn run(run: &mut CRun, answers: &mut [u8]) {
+    let behind = run.count * ANSWER_BYTES;
+    match CHOSEN.get() {
+        Some(Plant::RunCounts) if run.stop == 12 => run.consumed += 1,
+        Some(Plant::RunAnswer) if run.count >= 3 => change(answers.get_mut(2 * ANSWER_BYTES + 1)),
+        Some(Plant::RunLater) if run.stop == 11 => change(answers.get_mut(behind)),
+        Some(Plant::RunRecord) if run.count >= 2 => run.record.mar129 ^= 1,
+        _ => {}
+    }
+}
+
+/// The number of a view, and the bytes that it wrote.
+pub fn view(number: &mut u8, seen: &mut [u8]) {
+    match CHOSEN.get() {
+        Some(Plant::ViewNumber) if *number == 5 => *number = 4,
+        Some(Plant::ViewBytes) if *number == 0 => change(seen.get_mut(63)),
+        _ => {}
+    }
+}
+
+/// What the view's second call gave back, the number alone.
+pub fn view_number(number: &mut u8) {
+    if CHOSEN.get() == Some(&Plant::ViewNumberAlone) && *number == 5 {
+        *number = 4;
+    }
+}
+
+/// What flat memory says of a call's answer.
+pub fn flat_answer(command: &Command, number: &mut u8, value: &mut u64) {
+    match (CHOSEN.get(), command) {
+        (Some(Plant::FlatNumber), _) if *number == 6 => *number = 5,
+        (Some(Plant::FlatValue), Command::Read { size: 2, .. }) if *number == 0 => *value += 1,
+        _ => {}
+    }
+}
+
+/// Flat memory after a global writeback.
+pub fn flat_writeback(flat: &mut Flat) {
+    if CHOSEN.get() == Some(&Plant::FlatWriteback) {
+        change(flat.ext.last_mut());
+    }
+}
+
+/// Flat memory at the end of a list.
+pub fn flat_end(flat: &mut Flat) {
+    match CHOSEN.get() {
+        Some(Plant::FlatEnd) => change(flat.ext.last_mut()),
+        Some(Plant::FlatSram) => change(flat.sram.last_mut()),
+        _ => {}
+    }
+}
+
+/// What bench-trace printed, and how it ended.
+pub fn bench(output: &mut Output) {
+    let printed =
+        |line: &str| format!("\n{}", String::from_utf8_lossy(&output.stdout)).contains(line);
+    match CHOSEN.get() {
+        Some(Plant::BenchOutput) if printed("\n8 ") => output.stdout.extend(b"end\n"),
+        // Exit status 1, as wait gives it.
+        Some(Plant::BenchStatus) if printed("\n7 ") => output.status = ExitStatus::from_raw(1 << 8),
+        _ => {}
+    }
+}
