@@ -158,12 +158,15 @@ module _ (c : Command) (z : State) (h : 2 ≤ c .code) where
   not-access = (ne-eqb (c .code) 0 (λ e. absurd (omega arith)), ne-eqb (c .code) 1 (λ e. absurd (omega arith)))
 
   -- the operands' number first; then, for a MAR bit, 10
-  in-turn : commandDue c z ≡ first (operandsDue (z .rec .l2len) c) (unless (not (eqb (c .code) 11 && (eqb (c .second) 0 && holdsRange (c .first) (z .rec)))) 10)
+  in-turn : commandDue c z ≡
+      first (operandsDue (z .rec .l2len) c) (unless (not (eqb (c .code) 11 && (eqb (c .second) 0 && holdsRange (c .first) (z .rec)))) 10)
   unfolding commandDue operandsDue
   in-turn =
       bool (eqb (c .code) 11)
       (λ e. rw (eqb-true (c .code) 11 e) (due-in-turn (c .first) (c .second) (z .rec)))
-      (λ e. rw (not-access .0, not-access .1, e) (sym (first-none (cond (leb 4 (c .code) && leb (c .code) 8) (blockDue (c .first) (c .second)) (cond (eqb (c .code) 10) (modeDue (z .rec .l2len) (c .first)) (unless (leb (c .code) 11) 11))))))
+      (λ e. rw (not-access .0, not-access .1, e)
+      (sym (first-none (cond (leb 4 (c .code) && leb (c .code) 8) (blockDue (c .first) (c .second))
+      (cond (eqb (c .code) 10) (modeDue (z .rec .l2len) (c .first)) (unless (leb (c .code) 11) 11))))))
 
   pub refused-by-operands : (n : ℕ) → n ≡ operandsDue (z .rec .l2len) c → n ≢ 0 → reply n 0 0 z ≡ step c z
   unfolding step

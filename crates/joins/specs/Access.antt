@@ -69,19 +69,22 @@ module _ (r : Record) (l m e : List ℕ) (c : Command) where
       let b = not-low r (c .second) k in
       bool (isWrite c) (λ w. rw (w, k, b) refl) (λ w. rw (w, k, b) refl)
 
-  hit-done : cacheable r (c .second) ≡ true → ltb (l1dFind (l1dSetAt r (l1dSetOf (c .second))) (l1dLine (c .second))) 2 ≡ true →
-      (h : Hit) →
-      h ≡ hit (l1dSetAt r (l1dSetOf (c .second))) (l1dSetOf (c .second)) (l1dFind (l1dSetAt r (l1dSetOf (c .second))) (l1dLine (c .second))) c l →
-      reply 0 1 (h .out .value) (state (withL1dSet r (l1dSetOf (c .second)) (h .out .set)) (h .l1d) m e) ≡ performed c z
+  -- the access's set and its index, and the way of it that holds the line
+  abbrev own : ℕ
+  own = l1dSetOf (c .second)
+
+  abbrev way : ℕ
+  way = l1dFind (l1dSetAt r own) (l1dLine (c .second))
+
+  hit-done : cacheable r (c .second) ≡ true → ltb way 2 ≡ true → (h : Hit) → h ≡ hit (l1dSetAt r own) own way c l →
+      reply 0 1 (h .out .value) (state (withL1dSet r own (h .out .set)) (h .l1d) m e) ≡ performed c z
   unfolding hit writeDone readDone writeAccess readAccess inL1d l1dWay readHit writeHit useL1d putL1d withL1dLine
   hit-done k f h eh =
       bool (isWrite c)
       (λ w. rw (eh, w, k, f)
-      (ap (λ (ls : List L1dSet). reply 0 1 0 (state (withSets r ls (r .l2)) (stored l (l1dData (l1dSetOf (c .second)) (l1dFind (l1dSetAt r (l1dSetOf (c .second))) (l1dLine (c .second))) + c .second % 64) (written c)) m e))
-      (sym (set-again (λ (s : L1dSet). l1dUse s (l1dFind (l1dSetAt r (l1dSetOf (c .second))) (l1dLine (c .second)))) (r .l1d) (l1dSetOf (c .second))
-      (l1dPut (l1dSetAt r (l1dSetOf (c .second))) (l1dFind (l1dSetAt r (l1dSetOf (c .second))) (l1dLine (c .second)))
-      (lineOf (l1dGet (l1dSetAt r (l1dSetOf (c .second))) (l1dFind (l1dSetAt r (l1dSetOf (c .second))) (l1dLine (c .second))) .address) true))
-      noL1dSet))))
+      (ap (λ (ls : List L1dSet). reply 0 1 0 (state (withSets r ls (r .l2)) (stored l (l1dData own way + c .second % 64) (written c)) m e))
+      (sym (set-again (λ (s : L1dSet). l1dUse s way) (r .l1d) own
+      (l1dPut (l1dSetAt r own) way (lineOf (l1dGet (l1dSetAt r own) way .address) true)) noL1dSet))))
       (λ w. rw (eh, w, k, f) refl)
 
   pub front-done : (i due : ℕ) (cached : Bool) (f : Fronted) → c .code < 2 → i ≡ l1dSetOf (c .second) → due ≡ commandDue c z →
@@ -92,10 +95,10 @@ module _ (r : Record) (l m e : List ℕ) (c : Command) where
       bool (eqb (commandDue c z) 0)
       (λ t. let d0 = eqb-true (commandDue c z) 0 t in
       bool (cacheable r (c .second))
-      (λ k. bool (ltb (l1dFind (l1dSetAt r (l1dSetOf (c .second))) (l1dLine (c .second))) 2)
-      (λ g. ap (fronted i) (rw (ed, ec, ei, t, k, g) at ef) ∙ rw ei (hit-done k g
-      (hit (l1dSetAt r (l1dSetOf (c .second))) (l1dSetOf (c .second)) (l1dFind (l1dSetAt r (l1dSetOf (c .second))) (l1dLine (c .second))) c
-      l) refl) ∙ access-accepted c z h d0)
+      (λ k. bool (ltb way 2)
+      (λ g. ap (fronted i) (rw (ed, ec, ei, t, k, g) at ef)
+      ∙ rw ei (hit-done k g (hit (l1dSetAt r own) own way c l) refl)
+      ∙ access-accepted c z h d0)
       (λ g. false-true (sym (ap (λ (x : Fronted). x .out .done) (rw (ed, ec, ei, t, k, g) at ef)) ∙ dn)))
       (λ k. ap (fronted i) (rw (ed, ec, t, k) at ef)
       ∙ ap (λ (x : Record). reply 0 4 (direct c e .value) (state x l m (direct c e .ext))) (keep-l1d r i)
@@ -118,9 +121,15 @@ module _ (r : Record) (l m e : List ℕ) (c : Command) where
   front-missed i due cached f ei ed ec ef dn =
       bool (eqb (commandDue c z) 0)
       (λ t. bool (cacheable r (c .second))
-      (λ k. bool (ltb (l1dFind (l1dSetAt r (l1dSetOf (c .second))) (l1dLine (c .second))) 2)
+      (λ k. bool (ltb way 2)
       (λ g. false-true (sym dn ∙ ap (λ (x : Fronted). x .out .done) (rw (ed, ec, ei, t, k, g) at ef)))
       (λ g. let q = rw (ed, ec, ei, t, k, g) at ef in
-      record { due = eqb-true (commandDue c z) 0 t; cached = k; miss = g; l1d = ap (λ (x : Fronted). x .l1d) q; ext = ap (λ (x : Fronted). x .ext) q }))
+      record {
+        due = eqb-true (commandDue c z) 0 t;
+        cached = k;
+        miss = g;
+        l1d = ap (λ (x : Fronted). x .l1d) q;
+        ext = ap (λ (x : Fronted). x .ext) q;
+      }))
       (λ k. false-true (sym dn ∙ ap (λ (x : Fronted). x .out .done) (rw (ed, ec, t, k) at ef))))
       (λ t. false-true (sym dn ∙ ap (λ (x : Fronted). x .out .done) (rw (ed, t) at ef)))

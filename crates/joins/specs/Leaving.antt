@@ -88,7 +88,8 @@ pub record Left (r : Record) (l m e : List ℕ) (t v i j : ℕ) (h₁ h₂ : Tak
   pub low : i ≡ l1dSetOf (l2LineAt r t v .address)
   pub one : h₁ ≡ takeHalf (l1dSetAt r i) (l2LineAt r t v .valid) (l2LineAt r t v .address) (l2Data r t v) l m
   pub high : j ≡ l1dSetOf (upperHalf (l2LineAt r t v .address))
-  pub two : h₂ ≡ takeHalf (l1dSetAt (withL1dSet r i (h₁ .out .set)) j) (l2LineAt r t v .valid) (upperHalf (l2LineAt r t v .address)) (l2Data r t v) l (h₁ .l2)
+  pub two : h₂ ≡
+      takeHalf (l1dSetAt (withL1dSet r i (h₁ .out .set)) j) (l2LineAt r t v .valid) (upperHalf (l2LineAt r t v .address)) (l2Data r t v) l (h₁ .l2)
   pub goes : d ≡ goesOut (l2LineAt r t v) (h₁ .out .dirty) (h₂ .out .dirty)
   pub out : e₂ ≡ writeOut d (l2LineAt r t v .address) (l2Data r t v) (h₂ .l2) e
 
@@ -103,17 +104,25 @@ module _ (r : Record) (l m e : List ℕ) (t v i j : ℕ) (h₁ h₂ : Taken) (d 
   abbrev twice : List L2Set
   twice = mark (h₂ .out .dirty) (mark (h₁ .out .dirty) (r .l2) t v) t v
 
+  -- the record without the lower half; each half by whether the line is valid
+  abbrev r₁ : Record
+  r₁ = withL1dSet r i (h₁ .out .set)
+
+  one-by : (b : Bool) → x .valid ≡ b → h₁ ≡ takeHalf (l1dSetAt r i) b (x .address) (l2Data r t v) l m
+  one-by b k = q .one ∙ ap (λ (y : Bool). takeHalf (l1dSetAt r i) y (x .address) (l2Data r t v) l m) k
+
+  two-by : (b : Bool) → x .valid ≡ b → h₂ ≡ takeHalf (l1dSetAt r₁ j) b (upperHalf (x .address)) (l2Data r t v) l (h₁ .l2)
+  two-by b k = q .two ∙ ap (λ (y : Bool). takeHalf (l1dSetAt r₁ j) y (upperHalf (x .address)) (l2Data r t v) l (h₁ .l2)) k
+
   taken-both : x .valid ≡ true → state (withSets r rest twice) l (h₂ .l2) e ≡ takeHalves t v (x .address) (state r l m e)
   unfolding takeHalves
   taken-both k =
-      let o : h₁ ≡ takeHalf (l1dSetAt r i) true (x .address) (l2Data r t v) l m = q .one ∙ ap (λ (b : Bool). takeHalf (l1dSetAt r i) b (x .address) (l2Data r t v) l m) k in
-      let w : h₂ ≡ takeHalf (l1dSetAt (withL1dSet r i (h₁ .out .set)) j) true (upperHalf (x .address)) (l2Data r t v) l (h₁ .l2)
-      = q .two ∙ ap (λ (b : Bool). takeHalf (l1dSetAt (withL1dSet r i (h₁ .out .set)) j) b (upperHalf (x .address)) (l2Data r t v) l (h₁ .l2)) k in
       half-taken (withSets r (set (r .l1d) i (h₁ .out .set)) (mark (h₁ .out .dirty) (r .l2) t v)) l (h₁ .l2) e t v (upperHalf (x .address)) j h₂
-      (q .high) w
-      ∙ ap (Model.takeHalf t v (upperHalf (x .address))) (half-taken r l m e t v (x .address) i h₁ (q .low) o)
+      (q .high) (two-by true k)
+      ∙ ap (Model.takeHalf t v (upperHalf (x .address))) (half-taken r l m e t v (x .address) i h₁ (q .low) (one-by true k))
 
-  twice-line : x .valid ≡ true → lineIn twice t v ≡ record { valid = true; dirty = h₂ .out .dirty || (h₁ .out .dirty || x .dirty); address = x .address }
+  twice-line : x .valid ≡ true →
+      lineIn twice t v ≡ record { valid = true; dirty = h₂ .out .dirty || (h₁ .out .dirty || x .dirty); address = x .address }
   twice-line k =
       let a = mark-line (h₁ .out .dirty) (r .l2) t v k in
       mark-line (h₂ .out .dirty) (mark (h₁ .out .dirty) (r .l2) t v) t v (ap (λ (y : Line). y .valid) a)
@@ -140,10 +149,10 @@ module _ (r : Record) (l m e : List ℕ) (t v i j : ℕ) (h₁ h₂ : Taken) (d 
       (state (withSets r rest twice) l (h₂ .l2) e)
   unfolding writeOutL2 writeOut withL2Line
   out-twice k =
-      let g = goes-dirty k in
-      let by : outBy (record { valid = true; dirty = d; address = x .address }) (state (withSets r rest twice) l (h₂ .l2) e) ≡ writeOutL2 t v (state (withSets r rest twice) l (h₂ .l2) e)
-      = ap (λ (b : Bool). outBy (record { valid = true; dirty = b; address = x .address }) (state (withSets r rest twice) l (h₂ .l2) e)) g
-      ∙ ap (λ (y : Line). outBy y (state (withSets r rest twice) l (h₂ .l2) e)) (sym (twice-line k)) in
+      let z = state (withSets r rest twice) l (h₂ .l2) e in
+      let by : outBy (record { valid = true; dirty = d; address = x .address }) z ≡ writeOutL2 t v z
+      = ap (λ (b : Bool). outBy (record { valid = true; dirty = b; address = x .address }) z) (goes-dirty k)
+      ∙ ap (λ (y : Line). outBy y z) (sym (twice-line k)) in
       bool d
       (λ b. rw (q .out, b)
       (ap (λ (ls : List L2Set). state (withSets r rest ls) l (h₂ .l2) (stored e (x .address - externalBase) (part (h₂ .l2) (l2Data r t v) 128)))
@@ -160,13 +169,12 @@ module _ (r : Record) (l m e : List ℕ) (t v i j : ℕ) (h₁ h₂ : Taken) (d 
   unfolding takeHalf goesOut writeOut
   idle k =
       let f : d ≡ false = q .goes ∙ rw k refl in
-      let o : h₁ ≡ takeHalf (l1dSetAt r i) false (x .address) (l2Data r t v) l m = q .one ∙ ap (λ (b : Bool). takeHalf (l1dSetAt r i) b (x .address) (l2Data r t v) l m) k in
-      let w : h₂ ≡ takeHalf (l1dSetAt (withL1dSet r i (h₁ .out .set)) j) false (upperHalf (x .address)) (l2Data r t v) l (h₁ .l2)
-      = q .two ∙ ap (λ (b : Bool). takeHalf (l1dSetAt (withL1dSet r i (h₁ .out .set)) j) b (upperHalf (x .address)) (l2Data r t v) l (h₁ .l2)) k in
-      let p : putLine (r .l2) t v (kept x) ≡ r .l2 = ap (λ (b : Bool). putLine (r .l2) t v (cond b (lineOf (x .address) false) x)) k ∙ put-same (r .l2) t v in
-      let one : withL1dSet r i (h₁ .out .set) ≡ r = ap (λ (h : Taken). withL1dSet r i (h .out .set)) o ∙ keep-l1d r i in
-      let two : withL1dSet (withL1dSet r i (h₁ .out .set)) j (h₂ .out .set) ≡ withL1dSet r i (h₁ .out .set)
-      = ap (λ (h : Taken). withL1dSet (withL1dSet r i (h₁ .out .set)) j (h .out .set)) w ∙ keep-l1d (withL1dSet r i (h₁ .out .set)) j in
+      let o = one-by false k in
+      let w = two-by false k in
+      let p : putLine (r .l2) t v (kept x) ≡ r .l2
+      = ap (λ (b : Bool). putLine (r .l2) t v (cond b (lineOf (x .address) false) x)) k ∙ put-same (r .l2) t v in
+      let one : r₁ ≡ r = ap (λ (h : Taken). withL1dSet r i (h .out .set)) o ∙ keep-l1d r i in
+      let two : withL1dSet r₁ j (h₂ .out .set) ≡ r₁ = ap (λ (h : Taken). withL1dSet r₁ j (h .out .set)) w ∙ keep-l1d r₁ j in
       let bytes : h₂ .l2 ≡ m = ap (λ (h : Taken). h .l2) w ∙ ap (λ (h : Taken). h .l2) o in
       let out : e₂ ≡ e = q .out ∙ ap (λ (b : Bool). writeOut b (x .address) (l2Data r t v) (h₂ .l2) e) f in
       ap (λ (ls : List L2Set). state (withSets r rest ls) l (h₂ .l2) e₂) p

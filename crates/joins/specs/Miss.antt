@@ -48,16 +48,14 @@ roomed r l m e write a i t g s q ei eg et es eq =
     (λ w. let g′ = rw w at eg in
     let s′ : s ≡ sentAs (l2SetAt r t) m e = rw g′ at es in
     let q′ : q ≡ l1dSetAt r i = rw g′ at eq in
-    rw (
-      s′,
-      q′,
-      w,
-    ) (ap (λ (x : Record). state (withL1dSet x i (l1dSetAt r i)) l m e) (keep-l2 r t) ∙ ap (λ (x : Record). state x l m e) (keep-l1d r i)))
+    rw (s′, q′, w)
+    (ap (λ (x : Record). state (withL1dSet x i (l1dSetAt r i)) l m e) (keep-l2 r t) ∙ ap (λ (x : Record). state x l m e) (keep-l1d r i)))
     (λ w. let g′ = rw w at eg in
-    let t′ : l2SetsOf r ≢ 0 → t ≡ l2SetOf r (l1dLineAt r i (l1dVictim (l1dSetAt r i)) .address) = rw g′ at et in
-    let s′ : s ≡ sendHome (l2SetAt r t) (sramOf r) (l2SetsOf r) t i (l1dVictim (l1dSetAt r i)) (l1dLineAt r i (l1dVictim (l1dSetAt r i))) l m e = rw g′ at es in
-    let q′ : q ≡ l1dPut (l1dSetAt r i) (l1dVictim (l1dSetAt r i)) emptyLine = rw g′ at eq in
-    let h = ap (emptyL1d i (l1dVictim (l1dSetAt r i))) (sent-home r l m e t i (l1dVictim (l1dSetAt r i)) s t′ s′) in
+    let v = l1dVictim (l1dSetAt r i) in
+    let t′ : l2SetsOf r ≢ 0 → t ≡ l2SetOf r (l1dLineAt r i v .address) = rw g′ at et in
+    let s′ : s ≡ sendHome (l2SetAt r t) (sramOf r) (l2SetsOf r) t i v (l1dLineAt r i v) l m e = rw g′ at es in
+    let q′ : q ≡ l1dPut (l1dSetAt r i) v emptyLine = rw g′ at eq in
+    let h = ap (emptyL1d i v) (sent-home r l m e t i v s t′ s′) in
     rw (q′, w, ei) (rw ei at h))
 
 -- the same as the code has it: the L2 set is changed only where the line goes inside, and what goes below follows
@@ -79,7 +77,8 @@ module _ (r : Record) (l m e : List ℕ) (write : Bool) (a i : ℕ) (g : Departu
   room-below k eb =
       let t = l2SetOf r (g .line .address) in
       let es : sentAs (l2SetAt r t) (b .l2) (b .ext) ≡ sendHome (l2SetAt r t) (sramOf r) (l2SetsOf r) t i (g .way) (g .line) l m e
-      = ap (λ (x : Below). sentAs (l2SetAt r t) (x .l2) (x .ext)) eb ∙ sym (all-below (l2SetsOf r) i (g .way) (g .line) l m e (l2SetAt r t) (sramOf r) t k) in
+      = ap (λ (x : Below). sentAs (l2SetAt r t) (x .l2) (x .ext)) eb
+      ∙ sym (all-below (l2SetsOf r) i (g .way) (g .line) l m e (l2SetAt r t) (sramOf r) t k) in
       ap (λ (x : Record). state (withL1dSet x i q) l (b .l2) (b .ext)) (sym (keep-l2 r t))
       ∙ roomed r l m e write a i t g (sentAs (l2SetAt r t) (b .l2) (b .ext)) q ei eg (λ n. refl) es eq
 
@@ -120,7 +119,8 @@ module _ (r : Record) (l m e : List ℕ) (write : Bool) (a : ℕ) where
   unfolding marked markL2 withL2Line
   mark-used ls t v x m′ e′ =
       bool write
-      (λ w. rw w (ap (λ (k : List L2Set). state (withSets r ls k) l m′ e′) (sym (set-again (λ (s : L2Set). l2Put s v (lineOf (l2Get s v .address) true)) (r .l2) t (l2Use x v) noL2Set))))
+      (λ w. rw w (ap (λ (k : List L2Set). state (withSets r ls k) l m′ e′)
+      (sym (set-again (λ (s : L2Set). l2Put s v (lineOf (l2Get s v .address) true)) (r .l2) t (l2Use x v) noL2Set))))
       (λ w. rw w refl)
 
   -- found: the way is used
@@ -139,29 +139,32 @@ module _ (r : Record) (l m e : List ℕ) (write : Bool) (a : ℕ) where
         state (withL2Set (withL1dSet (withL1dSet r i (h₁ .out .set)) j (h₂ .out .set)) t (b .set)) l (b .l2) (b .ext) ≡ ready write a (state r l m e)
     unfolding ready fetchL2 l2WayFor inL2 l2Way useL2 fillL2 choose bring withL2Line
     fetched-ready f i j h₁ h₂ d b q eb =
-        let v = l2Victim (l2SetAt r (l2SetOf r a)) in
+        let s = l2SetOf r a in
+        let v = l2Victim (l2SetAt r s) in
         let ls = set (set (r .l1d) i (h₁ .out .set)) j (h₂ .out .set) in
-        let c′ : ch ≡ choice true false v (l2Get (l2SetAt r (l2SetOf r a)) v) = rw (et, f) at ec in
+        -- the set with the line in its way, and L2's bytes with those of the line
+        let x = l2Put (l2SetAt r s) v (lineOf (l2Line a) false) in
+        let bytes = stored (h₂ .l2) (l2Data r s v) (part (b .ext) (l2Line a - externalBase) 128) in
+        let c′ : ch ≡ choice true false v (l2Get (l2SetAt r s) v) = rw (et, f) at ec in
         let b′ = rw (c′, et) at eb in
-        let q′ : Left r l m e (l2SetOf r a) v i j h₁ h₂ d (b .ext) = rw (c′, et) at q in
-        let ev = evicted r l m e (l2SetOf r a) v i j h₁ h₂ d (b .ext) q′ in
-        let fill : state (withSets r ls (putLine (r .l2) (l2SetOf r a) v (lineOf (l2Line a) false))) l (stored (h₂ .l2) (l2Data r (l2SetOf r a) v) (part (b .ext) (l2Line a - externalBase) 128)) (b .ext)
-        ≡ fillL2 (l2SetOf r a) v (l2Line a) (evictL2 (l2SetOf r a) v (state r l m e))
-        = ap (λ (k : List L2Set). state (withSets r ls k) l (stored (h₂ .l2) (l2Data r (l2SetOf r a) v) (part (b .ext) (l2Line a - externalBase) 128)) (b .ext)) (sym (put-put (r .l2) (l2SetOf r a) v emptyLine (lineOf (l2Line a) false)))
-        ∙ ap (fillL2 (l2SetOf r a) v (l2Line a)) ev in
-        let used : state (withSets r ls (set (r .l2) (l2SetOf r a) (l2Use (l2Put (l2SetAt r (l2SetOf r a)) v (lineOf (l2Line a) false)) v))) l (stored (h₂ .l2) (l2Data r (l2SetOf r a) v) (part (b .ext) (l2Line a - externalBase) 128)) (b .ext)
-        ≡ useL2 (l2SetOf r a) v (fillL2 (l2SetOf r a) v (l2Line a) (evictL2 (l2SetOf r a) v (state r l m e)))
-        = ap (λ (k : List L2Set). state (withSets r ls k) l (stored (h₂ .l2) (l2Data r (l2SetOf r a) v) (part (b .ext) (l2Line a - externalBase) 128)) (b .ext))
-        (sym (set-again (λ (s : L2Set). l2Use s v) (r .l2) (l2SetOf r a) (l2Put (l2SetAt r (l2SetOf r a)) v (lineOf (l2Line a) false)) noL2Set))
-        ∙ ap (useL2 (l2SetOf r a) v) fill in
-        let set′ : b .set ≡ marked (l2Use (l2Put (l2SetAt r (l2SetOf r a)) v (lineOf (l2Line a) false)) v) v write = ap (λ (x : Brought). x .set) b′ in
-        let ext′ : b .ext ≡ writeOut d (l2Get (l2SetAt r (l2SetOf r a)) v .address) (l2Data r (l2SetOf r a) v) (h₂ .l2) e = ap (λ (x : Brought). x .ext) b′ in
-        let l2′ : b .l2 ≡ stored (h₂ .l2) (l2Data r (l2SetOf r a) v) (part (b .ext) (l2Line a - externalBase) 128)
-        = ap (λ (x : Brought). x .l2) b′ ∙ ap (λ (x : List ℕ). stored (h₂ .l2) (l2Data r (l2SetOf r a) v) (part x (l2Line a - externalBase) 128)) (sym ext′) in
+        let q′ : Left r l m e s v i j h₁ h₂ d (b .ext) = rw (c′, et) at q in
+        let fill : state (withSets r ls (putLine (r .l2) s v (lineOf (l2Line a) false))) l bytes (b .ext)
+        ≡ fillL2 s v (l2Line a) (evictL2 s v (state r l m e))
+        = ap (λ (k : List L2Set). state (withSets r ls k) l bytes (b .ext)) (sym (put-put (r .l2) s v emptyLine (lineOf (l2Line a) false)))
+        ∙ ap (fillL2 s v (l2Line a)) (evicted r l m e s v i j h₁ h₂ d (b .ext) q′) in
+        let used : state (withSets r ls (set (r .l2) s (l2Use x v))) l bytes (b .ext)
+        ≡ useL2 s v (fillL2 s v (l2Line a) (evictL2 s v (state r l m e)))
+        = ap (λ (k : List L2Set). state (withSets r ls k) l bytes (b .ext)) (sym (set-again (λ (u : L2Set). l2Use u v) (r .l2) s x noL2Set))
+        ∙ ap (useL2 s v) fill in
+        let set′ : b .set ≡ marked (l2Use x v) v write = ap (λ (y : Brought). y .set) b′ in
+        let ext′ : b .ext ≡ writeOut d (l2Get (l2SetAt r s) v .address) (l2Data r s v) (h₂ .l2) e = ap (λ (y : Brought). y .ext) b′ in
+        let l2′ : b .l2 ≡ bytes
+        = ap (λ (y : Brought). y .l2) b′
+        ∙ ap (λ (y : List ℕ). stored (h₂ .l2) (l2Data r s v) (part y (l2Line a - externalBase) 128)) (sym ext′) in
         rw (et, h, f)
-        ((λ k. state (withSets r ls (set (r .l2) (l2SetOf r a) (set′ k))) l (l2′ k) (b .ext))
-        ∙ mark-used ls (l2SetOf r a) v (l2Put (l2SetAt r (l2SetOf r a)) v (lineOf (l2Line a) false)) (stored (h₂ .l2) (l2Data r (l2SetOf r a) v) (part (b .ext) (l2Line a - externalBase) 128)) (b .ext)
-        ∙ ap (λ (y : State). cond write (markL2 (l2SetOf r a) v y) y) used)
+        ((λ k. state (withSets r ls (set (r .l2) s (set′ k))) l (l2′ k) (b .ext))
+        ∙ mark-used ls s v x bytes (b .ext)
+        ∙ ap (λ (y : State). cond write (markL2 s v y) y) used)
 
     -- both, as the code has them: a found line has no old one, so that its halves are nothing
     pub homed-ready : (at i j up : ℕ) (h₁ h₂ : Taken) (d : Bool) (b : Brought) → at ≡ l2Data r t (ch .way) →
@@ -185,19 +188,23 @@ module _ (r : Record) (l m e : List ℕ) (write : Bool) (a : ℕ) where
         ap (λ (x : Record). state (withL2Set x t (b .set)) l (b .l2) (b .ext)) r₂ ∙ found-ready f b d at b′)
         (λ f. let c′ : ch ≡ choice true false (l2Victim (l2SetAt r (l2SetOf r a)))
         (l2Get (l2SetAt r (l2SetOf r a)) (l2Victim (l2SetAt r (l2SetOf r a)))) = rw (et, f) at ec in
-        let old : ch .old ≡ l2LineAt r t (ch .way) = rw (et, c′) refl in
-        let fn : ch .found ≡ false = ap (λ (x : Choice). x .found) c′ in
+        let x = l2LineAt r t (ch .way) in
+        let s₁ = l1dSetAt (withL1dSet r i (h₁ .out .set)) j in
+        let old : ch .old ≡ x = rw (et, c′) refl in
+        let fn : ch .found ≡ false = ap (λ (y : Choice). y .found) c′ in
         fetched-ready f i j h₁ h₂ d b
         (record {
-          low = ei ∙ ap (λ (x : Line). l1dSetOf (x .address)) old;
-          one = e₁ ∙ ap (λ (x : Line). takeHalf (l1dSetAt r i) (x .valid) (x .address) at l m) old ∙ ap (λ (k : ℕ). takeHalf (l1dSetAt r i) (l2LineAt r t (ch .way) .valid) (l2LineAt r t (ch .way) .address) k l m) ea;
-          high = ej ∙ ap l1dSetOf eu ∙ ap (λ (x : Line). l1dSetOf (upperHalf (x .address))) old;
-          two = e₂ ∙ ap (λ (k : ℕ). takeHalf (l1dSetAt (withL1dSet r i (h₁ .out .set)) j) (ch .old .valid) k at l (h₁ .l2)) eu
-              ∙ ap (λ (x : Line). takeHalf (l1dSetAt (withL1dSet r i (h₁ .out .set)) j) (x .valid) (upperHalf (x .address)) at l (h₁ .l2)) old
-              ∙ ap (λ (k : ℕ). takeHalf (l1dSetAt (withL1dSet r i (h₁ .out .set)) j) (l2LineAt r t (ch .way) .valid) (upperHalf (l2LineAt r t (ch .way) .address)) k l (h₁ .l2)) ea;
-          goes = ed ∙ ap (λ (x : Line). goesOut x (h₁ .out .dirty) (h₂ .out .dirty)) old;
-          out = brought-ext (l2SetAt r t) ch d write a at (h₂ .l2) e b fn eb ∙ ap (λ (x : Line). writeOut d (x .address) at (h₂ .l2) e) old
-              ∙ ap (λ (k : ℕ). writeOut d (l2LineAt r t (ch .way) .address) k (h₂ .l2) e) ea;
+          low = ei ∙ ap (λ (y : Line). l1dSetOf (y .address)) old;
+          one = e₁ ∙ ap (λ (y : Line). takeHalf (l1dSetAt r i) (y .valid) (y .address) at l m) old
+              ∙ ap (λ (k : ℕ). takeHalf (l1dSetAt r i) (x .valid) (x .address) k l m) ea;
+          high = ej ∙ ap l1dSetOf eu ∙ ap (λ (y : Line). l1dSetOf (upperHalf (y .address))) old;
+          two = e₂ ∙ ap (λ (k : ℕ). takeHalf s₁ (ch .old .valid) k at l (h₁ .l2)) eu
+              ∙ ap (λ (y : Line). takeHalf s₁ (y .valid) (upperHalf (y .address)) at l (h₁ .l2)) old
+              ∙ ap (λ (k : ℕ). takeHalf s₁ (x .valid) (upperHalf (x .address)) k l (h₁ .l2)) ea;
+          goes = ed ∙ ap (λ (y : Line). goesOut y (h₁ .out .dirty) (h₂ .out .dirty)) old;
+          out = brought-ext (l2SetAt r t) ch d write a at (h₂ .l2) e b fn eb
+              ∙ ap (λ (y : Line). writeOut d (y .address) at (h₂ .l2) e) old
+              ∙ ap (λ (k : ℕ). writeOut d (x .address) k (h₂ .l2) e) ea;
         })
         (eb ∙ ap (λ (k : ℕ). bring (l2SetAt r t) ch d write a k (h₂ .l2) e) ea))
 
@@ -290,19 +297,21 @@ module _ (z₁ : State) (r : Record) (l m e : List ℕ) (c : Command) (mode : r 
   unfolding finish readFilled fillL1d useL1d withL1dLine
   read-done k =
       let n′ = rw k at en in
-      let bytes : fetchLine (homeOf (homeIsL2 (z₁ .rec) a) at (l1dLine a)) (l1dData i w) l m e ≡ stored l (l1dData i w) (homeLine v a (state r l m e))
+      -- L1D's bytes once the line has come, and the set with the line in its way
+      let d = stored l (l1dData i w) (homeLine v a (state r l m e)) in
+      let x = l1dPut (l1dSetAt r i) w (lineOf (l1dLine a) false) in
+      let value = little (part d (l1dData i w + a % 64) (c .first)) in
+      let bytes : fetchLine (homeOf (homeIsL2 (z₁ .rec) a) at (l1dLine a)) (l1dData i w) l m e ≡ d
       = ap (λ (b : Bool). fetchLine (homeOf b at (l1dLine a)) (l1dData i w) l m e) (sym same-home) ∙ line-fetched r l m e at v a place i w in
       let z₂ : state r l m e ≡ fetchL2 a z₁ = e₂ ∙ ready-read z₁ a (isWrite c) k in
-      let after : served ≡ reply 0 (homeServer a z₁) (little (part (stored l (l1dData i w) (homeLine v a (state r l m e))) (l1dData i w + a % 64) (c .first)))
-      (state (withSets r (set (r .l1d) i (l1dUse (l1dPut (l1dSetAt r i) w (lineOf (l1dLine a) false)) w)) (r .l2))
-      (stored l (l1dData i w) (homeLine v a (state r l m e))) m e)
-      = ap (λ (x : Finished). reply 0 server (x .out .value) (state (withL1dSet r i (x .out .set)) (x .l1d) (x .l2) (x .ext))) n′
+      let after : served ≡ reply 0 (homeServer a z₁) value (state (withSets r (set (r .l1d) i (l1dUse x w)) (r .l2)) d m e)
+      = ap (λ (y : Finished). reply 0 server (y .out .value) (state (withL1dSet r i (y .out .set)) (y .l1d) (y .l2) (y .ext))) n′
       ∙ rw (ek, bytes) refl in
       after
-      ∙ ap (λ (k : List L1dSet). reply 0 (homeServer a z₁) (little (part (stored l (l1dData i w) (homeLine v a (state r l m e))) (l1dData i w + a % 64) (c .first)))
-      (state (withSets r k (r .l2)) (stored l (l1dData i w) (homeLine v a (state r l m e))) m e))
-      (sym (set-again (λ (s : L1dSet). l1dUse s w) (r .l1d) i (l1dPut (l1dSetAt r i) w (lineOf (l1dLine a) false)) noL1dSet))
-      ∙ rw ei (ap (λ (y : State). reply 0 (homeServer a z₁) (little (l1dBytes w a (c .first) (fillL1d w v a y))) (useL1d (l1dSetOf a) w (fillL1d w v a y))) z₂)
+      ∙ ap (λ (ls : List L1dSet). reply 0 (homeServer a z₁) value (state (withSets r ls (r .l2)) d m e))
+      (sym (set-again (λ (s : L1dSet). l1dUse s w) (r .l1d) i x noL1dSet))
+      ∙ rw ei
+      (ap (λ (y : State). reply 0 (homeServer a z₁) (little (l1dBytes w a (c .first) (fillL1d w v a y))) (useL1d (l1dSetOf a) w (fillL1d w v a y))) z₂)
 
   -- a write's bytes in the home
   abbrev wrote : State → State
@@ -338,8 +347,10 @@ module _ (z₁ : State) (r : Record) (l m e : List ℕ) (c : Command) (mode : r 
   unfolding finish
   write-done k =
       let n′ = rw k at en in
-      let stay : state (withL1dSet r i (l1dSetAt r i)) l (home .l2) (home .ext) ≡ state r l (home .l2) (home .ext) = ap (λ (x : Record). state x l (home .l2) (home .ext)) (keep-l1d r i) in
-      let all : state r l (home .l2) (home .ext) ≡ writeHome v a (written c) (fetchL2 a z₁) = bool (homeIsL2 (z₁ .rec) a) (λ h. into-l2 k h) (λ h. into-memory h) in
+      let stay : state (withL1dSet r i (l1dSetAt r i)) l (home .l2) (home .ext) ≡ state r l (home .l2) (home .ext)
+      = ap (λ (x : Record). state x l (home .l2) (home .ext)) (keep-l1d r i) in
+      let all : state r l (home .l2) (home .ext) ≡ writeHome v a (written c) (fetchL2 a z₁)
+      = bool (homeIsL2 (z₁ .rec) a) (λ h. into-l2 k h) (λ h. into-memory h) in
       ap (λ (x : Finished). reply 0 server (x .out .value) (state (withL1dSet r i (x .out .set)) (x .l1d) (x .l2) (x .ext))) n′
       ∙ rw ek (ap (λ (y : State). reply 0 (homeServer a z₁) 0 y) (stay ∙ all))
 

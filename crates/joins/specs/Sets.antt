@@ -77,15 +77,13 @@ pub mark-put : (d : Bool) (l : List L2Set) (t v : ℕ) (y : Line) → putLine (m
 mark-put true l t v y = put-put l t v (lineOf (lineIn l t v .address) true) y
 mark-put false l t v y = refl
 
--- ---- the record: a set stored as it was
-pub keep-l1d : (r : Record) (s : ℕ) → withL1dSet r s (l1dSetAt r s) ≡ r
-keep-l1d r s =
-    λ i. record { l2len = r .l2len; extlen = r .extlen; mode = r .mode; mar128 = r .mar128; mar129 = r .mar129; l1d = set-getD (r .l1d) s noL1dSet i; l2 = r .l2 }
-
-pub keep-l2 : (r : Record) (t : ℕ) → withL2Set r t (l2SetAt r t) ≡ r
-keep-l2 r t =
-    λ i. record { l2len = r .l2len; extlen = r .extlen; mode = r .mode; mar128 = r .mar128; mar129 = r .mar129; l1d = r .l1d; l2 = set-getD (r .l2) t noL2Set i }
-
--- a record with other lists of sets
+-- ---- the record with other lists of sets
 abbrev pub withSets : Record → List L1dSet → List L2Set → Record
 withSets r a b = record { l2len = r .l2len; extlen = r .extlen; mode = r .mode; mar128 = r .mar128; mar129 = r .mar129; l1d = a; l2 = b }
+
+-- ---- the record: a set stored as it was
+pub keep-l1d : (r : Record) (s : ℕ) → withL1dSet r s (l1dSetAt r s) ≡ r
+keep-l1d r s = ap (λ (ls : List L1dSet). withSets r ls (r .l2)) (set-getD (r .l1d) s noL1dSet)
+
+pub keep-l2 : (r : Record) (t : ℕ) → withL2Set r t (l2SetAt r t) ≡ r
+keep-l2 r t = ap (λ (ls : List L2Set). withSets r (r .l1d) ls) (set-getD (r .l2) t noL2Set)

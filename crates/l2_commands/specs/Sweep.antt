@@ -92,7 +92,8 @@ module _ (b c : ℕ) (z : State) where
     unfolding unlessMode0 eachL2 each
     all-ways = bool (eqb (l2SetsOf (z .rec)) 0) (λ e. rw e refl) (λ e. rw e refl)
 
-    touched : each (λ k. atL2 f (lineAfter 128 b k)) (cond (eqb (l2SetsOf (z .rec)) 0) 0 (linesTouched 128 b c)) z ≡ unlessMode0 (eachTouched 128 (atL2 f) b c) z
+    touched : each (λ k. atL2 f (lineAfter 128 b k)) (cond (eqb (l2SetsOf (z .rec)) 0) 0 (linesTouched 128 b c)) z ≡
+        unlessMode0 (eachTouched 128 (atL2 f) b c) z
     unfolding unlessMode0 eachTouched each
     touched = bool (eqb (l2SetsOf (z .rec)) 0) (λ e. rw e refl) (λ e. rw e refl)
 

@@ -111,7 +111,8 @@ pub flushed : (r : Record) (l m e : List ℕ) (t v : ℕ) (x : Line) (at : ℕ) 
 unfolding goesOut writeOut writeOutL2 cleaned withL2Line
 flushed r l m e t v x₀ at d e₂ y u ex ea ed eo ey eu =
     let x = l2LineAt r t v in
-    let stay : state (withL2Set r t (l2Put (l2SetAt r t) v x)) l m e ≡ state r l m e = ap (λ (ls : List L2Set). state (withSets r (r .l1d) ls) l m e) (put-same (r .l2) t v) in
+    let stay : state (withL2Set r t (l2Put (l2SetAt r t) v x)) l m e ≡ state r l m e
+    = ap (λ (ls : List L2Set). state (withSets r (r .l1d) ls) l m e) (put-same (r .l2) t v) in
     bool (x .valid)
     (λ k. bool (x .dirty)
     (λ f. rw (eu, ey, eo, ed, ea, ex, k, f) refl)

@@ -92,7 +92,13 @@ l2-set-same v = rw (map-same lineToC lineFromC line-same (v .lines)) refl
 
 pub record-same : (r : Record) → recordFromC (recordToC r) ≡ r
 unfolding recordFromC recordToC
-record-same r = rw (bool-back (r .mar128), bool-back (r .mar129), map-same l1dSetToC l1dSetFromC l1d-set-same (r .l1d), map-same l2SetToC l2SetFromC l2-set-same (r .l2)) refl
+record-same r =
+    rw (
+      bool-back (r .mar128),
+      bool-back (r .mar129),
+      map-same l1dSetToC l1dSetFromC l1d-set-same (r .l1d),
+      map-same l2SetToC l2SetFromC l2-set-same (r .l2),
+    ) refl
 
 -- ---- what goes to C has bits only
 line-bits : (x : Line) → lineBits (lineToC x) ≡ true

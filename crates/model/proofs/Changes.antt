@@ -101,8 +101,10 @@ pub fresh-good : (z : State) (F : Allowed) → z .rec .l1d ≡ replicate 128 fre
     Sizes (z .rec .l2len) (z .rec .extlen) (z .rec .mode) (z .l1d) (z .l2) (z .ext) →
     ((a : ℕ) → Inside (layoutOf (z .rec)) a → F a (memoryOf z a)) → Good z F
 fresh-good z F e₁ e₂ sizes h =
-    let v₁ : (s w : ℕ) → l1dLineAt (z .rec) s w .valid ≡ false = λ s w. rw e₁ (ap (λ (l : Line). l .valid) (fresh-line l1dKind freshL1dSet 128 l1d-fresh s w)) in
-    let v₂ : (s w : ℕ) → l2LineAt (z .rec) s w .valid ≡ false = λ s w. rw e₂ (ap (λ (l : Line). l .valid) (fresh-line l2Kind freshL2Set 512 l2-fresh s w)) in
+    let v₁ : (s w : ℕ) → l1dLineAt (z .rec) s w .valid ≡ false
+    = λ s w. rw e₁ (ap (λ (l : Line). l .valid) (fresh-line l1dKind freshL1dSet 128 l1d-fresh s w)) in
+    let v₂ : (s w : ℕ) → l2LineAt (z .rec) s w .valid ≡ false
+    = λ s w. rw e₂ (ap (λ (l : Line). l .valid) (fresh-line l2Kind freshL2Set 512 l2-fresh s w)) in
     record {
       tidy = record {
         sizes = sizes;

@@ -77,7 +77,8 @@ emptyL2-step : (z : State) → Well z → (t v : ℕ) → t < l2SetsOf (z .rec) 
 unfolding emptyL2 withL2Line marBit
 emptyL2-step z h t v ht hv c =
     let z′ = emptyL2 t v z in
-    let u : Replaced 128 (l2Level z) (l2Level z′) t v emptyLine = l2-replaced z (h .tidy) t v emptyLine (z .l1d) (z .l2) (z .ext) ht hv (λ _ _ _ _ _ _. refl) in
+    let u : Replaced 128 (l2Level z) (l2Level z′) t v emptyLine
+    = l2-replaced z (h .tidy) t v emptyLine (z .l1d) (z .l2) (z .ext) ht hv (λ _ _ _ _ _ _. refl) in
     record {
       good = well z′ (l2-tidy z (h .tidy) t v emptyLine (z .l1d) (z .l2) (z .ext) ht (λ _. refl) refl refl refl)
           (h .inv .l1dSound)

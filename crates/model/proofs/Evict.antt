@@ -120,7 +120,8 @@ module _ (z : State) (F : Allowed) (q : Good z F) (s w : ℕ) (hs : s < 128) (hw
   evicted-memory k e =
       let m′ = lowStored (z .l2) b bs in let e′ = highStored (z .ext) b bs in
       let z′ = emptyL1d s w (state (z .rec) (z .l1d) m′ e′) in
-      let u : Replaced 64 (l1dLevel z) (l1dLevel z′) s w emptyLine = l1d-replaced z (q .tidy) s w emptyLine (z .l1d) m′ e′ hs hw (λ _ _ _ _ _ _. refl) in
+      let u : Replaced 64 (l1dLevel z) (l1dLevel z′) s w emptyLine
+      = l1d-replaced z (q .tidy) s w emptyLine (z .l1d) m′ e′ hs hw (λ _ _ _ _ _ _. refl) in
       let n = bs-length in
       let p = q .inv .l1dSound .place s w k in let aligned = p .aligned in
       let l2 = q .tidy .sizes .l2Length in let mx = q .tidy .sizes .l2Most in
@@ -169,7 +170,8 @@ module _ (z : State) (F : Allowed) (q : Good z F) (s w : ℕ) (hs : s < 128) (hw
       let z₁ = putL2 t v a bs z in
       let z′ = emptyL1d s w z₁ in
       let q₁ : Tidy z₁ = l2-tidy z (q .tidy) t v l (z .l1d) m′ (z .ext) ht (λ x. false-true (sym x)) refl ml refl in
-      let u₁ : Replaced 64 (l1dLevel z) (l1dLevel z′) s w emptyLine = l1d-replaced z₁ q₁ s w emptyLine (z .l1d) m′ (z .ext) hs hw (λ _ _ _ _ _ _. refl) in
+      let u₁ : Replaced 64 (l1dLevel z) (l1dLevel z′) s w emptyLine
+      = l1d-replaced z₁ q₁ s w emptyLine (z .l1d) m′ (z .ext) hs hw (λ _ _ _ _ _ _. refl) in
       let u₂ : Replaced 128 (l2Level z) (l2Level z′) t v l =
       l2-replaced z (q .tidy) t v l (z .l1d) m′ (z .ext) ht hv (l2-rest z (q .tidy) F q t v o bs ht hv ho) in
       let i₁ : Invariant (layoutOf (z .rec)) (l1dLevel z′) (l2Level z′) (memoryOf z) F =

@@ -141,7 +141,8 @@ module _ (z : State) (F F′ : Allowed) (q : Good z F) (a : ℕ) (bs : List ℕ)
   putMemory-good : AccessFits (layoutOf (z .rec)) a (length bs) → Free 64 (l1dLevel z) a → Free 128 (l2Level z) a → Step z F′ (putMemory a bs z)
   putMemory-good f f₁ f₂ =
       let m = q .tidy .sizes .l2Length in let e = q .tidy .sizes .extLength in let x = q .tidy .sizes .l2Most in
-      let r : Fits (z .l2) (z .ext) a (length bs) = record { low = λ k. let g = f .low k in omega arith; high = λ k. let g = f .high k in omega arith } in
+      let r : Fits (z .l2) (z .ext) a (length bs)
+      = record { low = λ k. let g = f .low k in omega arith; high = λ k. let g = f .high k in omega arith } in
       let z′ = state (z .rec) (z .l1d) (lowStored (z .l2) a bs) (highStored (z .ext) a bs) in
       let wm : Wrote (memoryOf z) (memoryOf z′) a bs = wrote-memory (z .l2) (z .ext) bs a r (omega arith) in
       let i₁ : Invariant (layoutOf (z .rec)) (l1dLevel z) (l2Level z) (memoryOf z′) F′ =

@@ -100,7 +100,8 @@ module _ (source : ℕ → Decoded) (end at k : ℕ) (z : State) (o : List ℕ) 
   unfolding executes
   turn h le d ed es x ex o′ eo inv =
       let n : end - k ≡ suc (end - (k + 1)) = omega arith in
-      let s : eqb (stopOf (source at .ok) (length o) k) 0 ≡ true = eq-eqb (stopOf (source at .ok) (length o) k) 0 (sym (ap (λ (y : Decoded). stopOf (y .ok) (length o) k) ed) ∙ es) in
+      let s : eqb (stopOf (source at .ok) (length o) k) 0 ≡ true
+      = eq-eqb (stopOf (source at .ok) (length o) k) 0 (sym (ap (λ (y : Decoded). stopOf (y .ok) (length o) k) ed) ∙ es) in
       let inv′ = rw (n, lt-ltb at end h, s) at inv in
       rw (eo, ex, add-one) (rw (← ed, add-one) at inv′)
 
