@@ -1,7 +1,7 @@
 -- Values of several bytes: a value of 2 n bytes is made of two values of n bytes, loaded or stored one behind the other. Each law is stated once
 -- over the two widths; the code uses it at 1, 2 and 4.
 use Prim.Native.Nat.{ℕ, zero, suc, _+_, _*_, _/_, _%_, _≤_, _<_}
-use mathlib.Core.Bool.{true, false}
+use mathlib.Core.Bool.{Bool, true, false, not}
 use mathlib.Core.Path.{_≡_, refl, sym, ap, _∙_}
 use mathlib.Core.List.{List, [], _∷_, _++_, append-assoc}
 use mathlib.Core.Logic.{_≢_}
@@ -10,7 +10,7 @@ use native.Mathlib.Nat.{mul-assoc, div-div-eq-div-mul}
 use lib.ListN.{length, take, drop, set, getD, length-append}
 use lib.Seq.{drop-cons, take-add, drop-drop, sets, sets-eq}
 use lib.Dec.{leb, eqb}
-use borrow.Author.Tests.{leb-false, eqb-true, eqb-false, ne-eqb}
+use borrow.Author.Tests.{not-false, leb-true, leb-false, eqb-true, eqb-false, ne-eqb}
 use Rattle.model.specs.Bytes.{part, stored, splice, little, littleBytes}
 use Rattle.model.specs.Refusals.{sizeOk}
 use Rattle.model.specs.Laws.{bool, part-inside, stored-inside, stored-outside, length-part, length-stored, length-littleBytes}
@@ -90,6 +90,10 @@ store-both m a v j k h =
 
 -- ---- the widths
 -- where the bytes do not lie in the memory
+-- ---- what the tests on the way of a load and of a store leave: all bytes lie in the memory, or not all; the size is 8
+pub fits-inside : (m : List ℕ) (a n : ℕ) (b : Bool) → b ≡ leb (a + n) (length m) → not b ≡ false → a + n ≤ length m
+fits-inside m a n b e h = leb-true (a + n) (length m) (sym e ∙ not-false b h)
+
 pub load-none : (m : List ℕ) (a n : ℕ) → leb (a + n) (length m) ≡ false → 0 ≡ little (part m a n)
 unfolding part little
 load-none m a n e = rw e refl
