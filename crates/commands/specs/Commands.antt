@@ -1,4 +1,4 @@
--- Which sweep or change a code is, the parts of a mode change put together, and which number is due.
+-- Which sweep or change a code is, the parts of a mode change put together, which number is due, and how a sweep begins.
 use Prim.Native.Nat.{ℕ, zero, suc, _≤_, _<_}
 use mathlib.Core.Bool.{true, false, not, cond, _&&_, _||_}
 use mathlib.Core.Path.{_≡_, refl, sym, ap, _∙_}
@@ -6,21 +6,22 @@ use mathlib.Core.Logic.{_≢_}
 use mathlib.Core.List.{List}
 use native.Mathlib.Omega.{arith}
 use lib.ListN.{length, replicate}
-use lib.Dec.{leb, eqb}
-use borrow.Author.Tests.{eqb-true, eqb-false, eq-eqb, ne-eqb, leb-true, le-leb, lt-leb}
+use lib.Dec.{ltb, leb, eqb}
+use borrow.Author.Tests.{eqb-true, eqb-false, eq-eqb, ne-eqb, lt-ltb, le-ltb, leb-true, le-leb, lt-leb}
+use Rattle.model.specs.Basics.{each}
 use Rattle.model.specs.Bytes.{zeroFrom}
 use Rattle.model.specs.Memories.{cacheSize, isMode, sramLength}
-use Rattle.model.specs.Records.{State, state, sramOf, freshL1dSet, freshL2Set}
-use Rattle.model.specs.Modes.{smaller, flushL2, newMode, changeMar}
-use Rattle.model.proofs.Flushes.{change-swept}
+use Rattle.model.specs.Records.{State, state, sramOf, l2SetsOf, freshL1dSet, freshL2Set}
+use Rattle.model.specs.Modes.{smaller, flushL1d, flushL2, newMode, changeMode, changeMar}
 use Rattle.model.specs.Refusals.{holdsRange, first, unless, blockDue, modeDue}
 use Rattle.model.specs.Calls.{reply, commandDue, commandState, accepted, step}
 use Rattle.model.specs.Laws.{bool}
 use Rattle.model.specs.declared.Command.{Command}
 use Rattle.model.specs.declared.Record.{Record}
 use Rattle.mar.specs.Range.{marOperandsDue, due-in-turn}
-use Rattle.l1d_commands.specs.Sweep.{l1dSweep, l1d-7, l1d-8, l1d-9, l1d-10}
-use Rattle.l2_commands.specs.Sweep.{l2Sweep, l2-2, l2-3, l2-4, l2-5, l2-6}
+use Rattle.l1d_commands.specs.Sweep.{l1dTurns, l1dTurn, l1dSweep, l1d-7, l1d-8, l1d-9}
+use Rattle.l2_commands.specs.Sweep.{l2Turns, l2Turn, l2Sweep, l2-2, l2-3, l2-4, l2-5, l2-6}
+use Rattle.commands.specs.declared.Begun.{Begun}
 
 -- the record after a mode change
 abbrev pub newRecord : ℕ → Record → Record
@@ -78,10 +79,10 @@ module _ (c : Command) (z : State) where
       (λ e. rw e (l1d-8 (c .first) (c .second) z)) (λ h₉.
       let e : c .code ≡ 9 = omega arith in rw e (l1d-9 (c .first) (c .second) z)))
 
-  -- L1D's sweep, and what follows it
-  pub changed-mode : c .code ≡ 10 → (p : State) → p ≡ l1dSweep (c .code) (c .first) (c .second) z → afterL1d (c .first) p ≡ commandState c z
-  unfolding commandState afterL1d
-  changed-mode e p ep = rw (ep, e, l1d-10 (c .first) (c .second) z) (sym (change-swept (c .first) z))
+  -- L1D goes home, and what follows
+  pub changed-mode : c .code ≡ 10 → (p : State) → p ≡ flushL1d z → afterL1d (c .first) p ≡ commandState c z
+  unfolding commandState afterL1d changeMode
+  changed-mode e p ep = rw (ep, e) refl
 
   pub changed-mar : c .code ≡ 11 → changeMar (c .first) (c .second) z ≡ commandState c z
   unfolding commandState
@@ -198,3 +199,62 @@ module _ (c : Command) (z : State) (h : 2 ≤ c .code) where
     mar-held e k m =
         let d : commandDue c z ≡ 10 = due-held ∙ rw (e, k, m) refl in
         rw d refl
+
+-- ---- how a sweep begins: its number; its lines, none where it is refused
+abbrev beginning : ℕ → ℕ → Begun
+beginning due n = cond (eqb due 0) (record { number = 0; lines = n }) (record { number = due; lines = 0 })
+
+unfoldable pub begun : ℕ → ℕ → Command → Begun
+begun l sets c =
+    beginning (operandsDue l c)
+    (cond (ltb (c .code) 7) (l2Turns (c .code) (c .first) (c .second) sets) (l1dTurns (c .code) (c .first) (c .second)))
+
+module _ (l sets : ℕ) (c : Command) (b : Begun) (eb : b ≡ begun l sets c) where
+  begun-l2 : c .code < 7 → b ≡ beginning (operandsDue l c) (l2Turns (c .code) (c .first) (c .second) sets)
+  unfolding begun
+  begun-l2 h = rw (lt-ltb (c .code) 7 h) at eb
+
+  begun-l1d : 7 ≤ c .code → b ≡ beginning (operandsDue l c) (l1dTurns (c .code) (c .first) (c .second))
+  unfolding begun
+  begun-l1d h = rw (le-ltb (c .code) 7 h) at eb
+
+-- a line of it is one of all its lines
+one-of : (due n k : ℕ) (b : Begun) → b ≡ beginning due n → k < b .lines → k < n
+one-of due n k b e h =
+    bool (eqb due 0)
+    (λ t. rw (ap (λ (x : Begun). x .lines) (rw t at e)) at h)
+    (λ t. let z : k < 0 = rw (ap (λ (x : Begun). x .lines) (rw t at e)) at h in absurd (omega arith))
+
+pub line-l2 : (l sets : ℕ) (c : Command) (b : Begun) (k : ℕ) → b ≡ begun l sets c → c .code < 7 → k < b .lines →
+    k < l2Turns (c .code) (c .first) (c .second) sets
+line-l2 l sets c b k e h = one-of (operandsDue l c) (l2Turns (c .code) (c .first) (c .second) sets) k b (begun-l2 l sets c b e h)
+
+pub line-l1d : (l sets : ℕ) (c : Command) (b : Begun) (k : ℕ) → b ≡ begun l sets c → 7 ≤ c .code → k < b .lines →
+    k < l1dTurns (c .code) (c .first) (c .second)
+line-l1d l sets c b k e h = one-of (operandsDue l c) (l1dTurns (c .code) (c .first) (c .second)) k b (begun-l1d l sets c b e h)
+
+-- once its lines are gone through, the command is carried out, or it is refused and nothing has changed
+module _ (c : Command) (z x : State) (b : Begun) (h : 2 ≤ c .code) (k : c .code < 10) where
+  gone-through : (f : ℕ → State → State) (n : ℕ) → b ≡ beginning (operandsDue (z .rec .l2len) c) n → each f n z ≡ commandState c z →
+      x ≡ each f (b .lines) z → reply (b .number) 0 0 x ≡ step c z
+  unfolding each
+  gone-through f n e s ex =
+      bool (eqb (operandsDue (z .rec .l2len) c) 0)
+      (λ t. let eb : b ≡ record { number = 0; lines = n } = rw t at e in
+      rw eb (carried c z h (eqb-true (operandsDue (z .rec .l2len) c) 0 t) (λ q. absurd (omega arith)) x ((rw eb at ex) ∙ s)))
+      (λ t. let eb : b ≡ record { number = operandsDue (z .rec .l2len) c; lines = 0 } = rw t at e in
+      let ez : x ≡ z = rw eb at ex in
+      rw (eb, ez) (refused-by-operands c z h (operandsDue (z .rec .l2len) c) refl (eqb-false (operandsDue (z .rec .l2len) c) 0 t)))
+
+  module _ (sets : ℕ) (es : sets ≡ l2SetsOf (z .rec)) (eb : b ≡ begun (z .rec .l2len) sets c) where
+    pub l2-done : c .code < 7 → x ≡ each (l2Turn (c .code) (c .first)) (b .lines) z → reply (b .number) 0 0 x ≡ step c z
+    unfolding l2Sweep
+    l2-done g =
+        gone-through (l2Turn (c .code) (c .first)) (l2Turns (c .code) (c .first) (c .second) sets) (begun-l2 (z .rec .l2len) sets c b eb g)
+        (rw es (swept-l2 c z h g))
+
+    pub l1d-done : 7 ≤ c .code → x ≡ each (l1dTurn (c .code) (c .first)) (b .lines) z → reply (b .number) 0 0 x ≡ step c z
+    unfolding l1dSweep
+    l1d-done g =
+        gone-through (l1dTurn (c .code) (c .first)) (l1dTurns (c .code) (c .first) (c .second)) (begun-l1d (z .rec .l2len) sets c b eb g)
+        (swept-l1d c z g k)

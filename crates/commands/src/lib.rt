@@ -1,12 +1,12 @@
-// A command that is neither a read nor a write: refused by its number, or carried out. The cache commands are sweeps, the mode change is L1D's sweep and
-// what follows it. The record goes in and comes back by value, so each sweep has its one call site here: inlined there, it works on this record.
+// The commands that are neither a read nor a write. How a cache command begins: refused by its number, or with the lines that the run's loop goes through. Mode and
+// MAR changes are refused or carried out here, the record by value.
 ghost use mathlib.Core.Path.{_≡_};
 ghost use mathlib.Core.List.{List};
 ghost use Prim.Native.Nat.{ℕ, _≤_, _<_};
 ghost use Rattle.model.specs.Records.{state};
 ghost use Rattle.model.specs.Modes.{changeMar, smaller};
 ghost use Rattle.model.specs.Calls.{reply, step};
-ghost use Rattle.commands.specs.Commands.{newRecord, operandsDue, afterL1d};
+ghost use Rattle.commands.specs.Commands.{newRecord, operandsDue, afterL1d, begun};
 use model::Command;
 use model::Record;
 use sets::L2;
@@ -15,6 +15,12 @@ use sets::L2;
 pub struct Carried {
     pub number: u8,
     pub record: Record,
+}
+
+// How a cache command begins.
+pub struct Begun {
+    pub number: u8,
+    pub lines: usize,
 }
 
 pub fn smaller(a: usize, b: usize) -> usize
@@ -89,8 +95,32 @@ pub fn operands_due(l2len: u32, c: Command) -> u8
     11
 }
 
+// A cache command by its code, 2 to 9: the number of its refusal, and how many lines it goes through (none where it is refused).
+pub fn begin(l2len: u32, sets: usize, c: Command) -> Begun
+    requires { ⌜ sets ≤ 512 ⌝ }
+    ensures { λ r. ⌜ r ≡ begun l2len sets c ⌝ }
+{
+    let number = operands_due(l2len, c);
+    if number != 0 {
+        return Begun {
+            number: number,
+            lines: 0,
+        };
+    }
+    if c.code < 7 {
+        return Begun {
+            number: 0,
+            lines: l2_commands::l2_turns(c.code, c.first, c.second, sets),
+        };
+    }
+    Begun {
+        number: 0,
+        lines: l1d_commands::l1d_turns(c.code, c.first, c.second),
+    }
+}
+
 pub fn carry_out(r: Record, c: Command, l1d: &[u8], l2: &mut [u8], ext: &mut [u8]) -> Carried
-    requires { ⌜ 2 ≤ c .code ⌝ }
+    requires { ⌜ 10 ≤ c .code ⌝ }
     ensures { λ o. ⌜ reply (o .number) 0 0 (state (o .«record») (now (l1d .entry)) (now (l2 .exit)) (now (ext .exit))) ≡ step c (state r (now (l1d .entry)) (now (l2 .entry)) (now (ext .entry))) ⌝ }
 {
     let due = operands_due(r.l2len, c);
@@ -100,21 +130,8 @@ pub fn carry_out(r: Record, c: Command, l1d: &[u8], l2: &mut [u8], ext: &mut [u8
             record: r,
         };
     }
-    if c.code < 7 {
-        let q = l2_commands::l2_sweep(r, c.code, c.first, c.second, l1d, l2, ext);
-        return Carried {
-            number: 0,
-            record: q,
-        };
-    }
     if c.code < 11 {
-        let p = l1d_commands::l1d_sweep(r, c.code, c.first, c.second, l1d, l2, ext);
-        if c.code < 10 {
-            return Carried {
-                number: 0,
-                record: p,
-            };
-        }
+        let p = l1d_commands::flush_l1d(r, l1d, l2, ext);
         let q = change_mode(p, c.first as u8, l2, ext);
         return Carried {
             number: 0,

@@ -1,5 +1,6 @@
-// The loop that owns the record: a run over a trace, or one given command. Only here and in the cache commands is a set loaded from the record or
-// stored to it; everything else works on single sets. Direct calls and runs share this one loop, so that each stage has one call site.
+// The loop that owns the record: a run over a trace, or one given command. Only here, and where a mode change writes back all lines, is a set loaded from the
+// record or stored to it; everything else works on single sets. The lines of a cache command are gone through inside, since a function of their own would copy the
+// record at each command. Direct calls and runs share this one loop, so that each stage has one call site.
 ghost use mathlib.Core.Path.{_≡_};
 ghost use Rattle.model.specs.Records.{state};
 ghost use Rattle.turns.specs.Executed.{sourceOf, endOf, executedAs, executes, noAnswer};
@@ -46,6 +47,78 @@ pub fn execute(
         }
         let c = d.command;
         if 2 <= c.code {
+            if c.code < 10 {
+                // a cache command: its lines are gone through here, where the record is
+                let b = commands::begin(r.l2len, sets, c);
+                if c.code < 7 {
+                    for k in 0..b.lines {
+                        let p = l2_commands::l2_target(c.code, c.first, c.second, sets, k);
+                        let j = p.set;
+                        let ways = r.l2[j];
+                        let h = l2_commands::l2_held(ways, p, sram, sets);
+                        if 4 <= h.way {
+                            continue;
+                        }
+                        let low = h.low;
+                        let m = r.l1d[low];
+                        let lower = l2_commands::release(m, c.code, h, h.line.address, l1d, l2);
+                        let ml = lower.set;
+                        r.l1d[low] = ml;
+                        let high = h.high;
+                        let n = r.l1d[high];
+                        let upper = l2_commands::release(n, c.code, h, h.upper, l1d, l2);
+                        let nl = upper.set;
+                        r.l1d[high] = nl;
+                        let left = l2_commands::settle(
+                            ways,
+                            h,
+                            c.code,
+                            lower.dirty,
+                            upper.dirty,
+                            l2,
+                            ext,
+                        );
+                        r.l2[j] = left;
+                    }
+                } else {
+                    for k in 0..b.lines {
+                        let p = l1d_commands::l1d_target(c.code, c.first, c.second, k);
+                        let j = p.set;
+                        let pair = r.l1d[j];
+                        let away = l1d_commands::l1d_gone(pair, p, c.code);
+                        if !away.empties {
+                            continue;
+                        }
+                        let al = away.line;
+                        let th = L2::set_of(sets, al.address);
+                        let home = r.l2[th];
+                        let sent = eviction::send_home(
+                            home,
+                            sram,
+                            sets,
+                            th,
+                            j,
+                            away.way,
+                            al,
+                            l1d,
+                            l2,
+                            ext,
+                        );
+                        r.l2[th] = sent;
+                        let rest = stages::emptied(pair, away);
+                        r.l1d[j] = rest;
+                    }
+                }
+                last = Answer {
+                    number: b.number,
+                    server: 0,
+                    value: 0,
+                };
+                turns::put_answer(answers, count, last);
+                at += d.used;
+                count += 1;
+                continue;
+            }
             let o = commands::carry_out(r, c, l1d, l2, ext);
             let q = o.record;
             r = q;

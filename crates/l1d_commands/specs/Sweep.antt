@@ -1,27 +1,27 @@
--- A sweep over L1D: one definition for all its codes, and that it is the command of paper 01 at each code (10: what a mode change writes back).
+-- A sweep over L1D: one definition for all its codes, and that it is the command of paper 01 at each code.
 use Prim.Native.Nat.{ℕ, _/_, _%_}
-use mathlib.Core.Bool.{Bool, true, false, cond, _||_}
+use mathlib.Core.Bool.{Bool, true, false, cond}
 use mathlib.Core.Path.{_≡_, refl}
-use lib.Dec.{leb, eqb}
+use lib.Dec.{ltb, leb, eqb}
 use Rattle.model.specs.Basics.{each}
-use Rattle.model.specs.Lines.{l1dSetOf, l1dLine, emptyLine}
+use Rattle.model.specs.Lines.{l1dSetOf, l1dLine, emptyLine, l1dGet}
 use Rattle.model.specs.Records.{State}
 use Rattle.model.specs.Ways.{l1dFind, emptyL1d}
 use Rattle.model.specs.Access.{evictL1d}
-use Rattle.model.proofs.Flushes.{sweptL1d}
 use Rattle.model.specs.Commands.{linesTouched, eachTouched, atL1d, l1dWritebackInvalidateBlock, l1dInvalidateBlock, l1dInvalidateAll}
 use Rattle.model.specs.declared.Line.{Line}
 use Rattle.model.specs.declared.L1dSet.{L1dSet}
+use Rattle.stages.specs.declared.Departure.{Departure}
 use Rattle.blocks.specs.Blocks.{lineAfter}
 use Rattle.blocks.specs.Sweeping.{target}
 use Rattle.blocks.specs.declared.Target.{Target}
 
--- ---- codes 7 and 8 go over a block, 9 and 10 over all ways; 7 and 10 send dirty lines home
+-- ---- codes 7 and 8 go over a block, 9 over all ways; 7 sends dirty lines home
 abbrev pub l1dBlock : ℕ → Bool
 l1dBlock code = leb code 8
 
 abbrev pub sends : ℕ → Bool
-sends code = eqb code 7 || eqb code 10
+sends code = eqb code 7
 
 unfoldable pub l1dTurns : ℕ → ℕ → ℕ → ℕ
 l1dTurns code b c = cond (l1dBlock code) (linesTouched 64 b c) 256
@@ -37,6 +37,12 @@ l1dWayOf s p = cond (p .held) (l1dFind s (l1dLine (p .address))) (p .way)
 -- the line that goes home, if it is dirty: none where the code drops lines unwritten
 unfoldable pub sentLine : ℕ → Line → Line
 sentLine code x = cond (sends code) x emptyLine
+
+-- what leaves L1D in a turn: the way that is emptied, and the line that goes home from it
+unfoldable pub l1dGone : L1dSet → Target → ℕ → Departure
+l1dGone s p code =
+    cond (ltb (l1dWayOf s p) 2) (record { empties = true; way = l1dWayOf s p; line = sentLine code (l1dGet s (l1dWayOf s p)) })
+    (record { empties = false; way = 0; line = emptyLine })
 
 unfoldable pub l1dAct : ℕ → ℕ → ℕ → State → State
 l1dAct code s w z = cond (sends code) (evictL1d s w z) (emptyL1d s w z)
@@ -60,7 +66,3 @@ module _ (b c : ℕ) (z : State) where
   pub l1d-9 : l1dSweep 9 b c z ≡ l1dInvalidateAll z
   unfolding l1dSweep l1dTurns l1dTurn l1dAct l1dInvalidateAll
   l1d-9 = refl
-
-  pub l1d-10 : l1dSweep 10 b c z ≡ sweptL1d z
-  unfolding l1dSweep l1dTurns l1dTurn l1dAct
-  l1d-10 = refl

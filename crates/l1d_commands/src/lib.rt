@@ -3,13 +3,15 @@
 ghost use mathlib.Core.Path.{_≡_};
 ghost use Prim.Native.Nat.{_≤_, _<_};
 ghost use Rattle.model.specs.Records.{state};
-ghost use Rattle.l1d_commands.specs.Sweep.{sentLine, l1dTurns, l1dTarget, l1dWayOf, l1dSweep};
+ghost use Rattle.model.specs.Modes.{flushL1d};
+ghost use Rattle.l1d_commands.specs.Sweep.{l1dTurns, l1dTarget, l1dWayOf, sentLine, l1dGone};
 use blocks::Target;
 use model::L1dSet;
 use model::Line;
 use model::Record;
 use sets::L1d;
 use sets::L2;
+use stages::Departure;
 
 pub fn l1d_turns(code: u8, base: u32, count: u32) -> usize
     ensures { λ r. ⌜ r ≡ l1dTurns code base count ⌝ }
@@ -58,45 +60,46 @@ pub fn sent_line(code: u8, x: Line) -> Line
     if code == 7 {
         return x;
     }
-    if code == 10 {
-        return x;
-    }
     sets::empty_line()
 }
 
-// 7: block writeback-invalidate; 8, 9: block and all invalidate; 10: all are sent home and emptied, as a mode change asks.
-pub fn l1d_sweep(
-    r0: Record,
-    code: u8,
-    base: u32,
-    count: u32,
-    l1d: &[u8],
-    l2: &mut [u8],
-    ext: &mut [u8],
-) -> Record
-    ensures { λ q. ⌜ state q (now (l1d .entry)) (now (l2 .exit)) (now (ext .exit)) ≡ l1dSweep code base count (state r0 (now (l1d .entry)) (now (l2 .entry)) (now (ext .entry))) ⌝ }
+// What leaves L1D in a turn: the way that is emptied, and the line that goes home from it. Nothing where the block's line is not held.
+pub fn l1d_gone(s: L1dSet, p: Target, code: u8) -> Departure
+    requires { ⌜ p .way < 2 ⌝ }
+    ensures { λ r. ⌜ (r ≡ l1dGone s p code) × (r .way < 2) ⌝ }
+{
+    let w = l1d_way(s, p);
+    if 2 <= w {
+        return Departure {
+            empties: false,
+            way: 0,
+            line: sets::empty_line(),
+        };
+    }
+    Departure {
+        empties: true,
+        way: w,
+        line: sent_line(code, sets::l1d_get(s, w)),
+    }
+}
+
+// All dirty L1D lines go home, as a mode change asks; the lines themselves stay as they are.
+pub fn flush_l1d(r0: Record, l1d: &[u8], l2: &mut [u8], ext: &mut [u8]) -> Record
+    ensures { λ q. ⌜ state q (now (l1d .entry)) (now (l2 .exit)) (now (ext .exit)) ≡ flushL1d (state r0 (now (l1d .entry)) (now (l2 .entry)) (now (ext .entry))) ⌝ }
     ensures sizes { λ q. ⌜ q .l2len ≡ r0 .l2len ⌝ }
 {
     let sets = L2::sets(r0.mode);
     let sram = L2::sram(r0.l2len, r0.mode);
-    let n = l1d_turns(code, base, count);
     let mut q = r0;
-    for k in 0..n {
-        let p = l1d_target(code, base, count, k);
-        let i = p.set;
+    for k in 0..256 {
+        let i = k / L1d::WAYS;
+        let w = k % L1d::WAYS;
         let s = q.l1d[i];
-        let w = l1d_way(s, p);
-        if 2 <= w {
-            continue;
-        }
-        let y = sets::l1d_get(s, w);
-        let x = sent_line(code, y);
+        let x = sets::l1d_get(s, w);
         let j = L2::set_of(sets, x.address);
         let u = q.l2[j];
         let t = eviction::send_home(u, sram, sets, j, i, w, x, l1d, l2, ext);
         q.l2[j] = t;
-        let v = sets::l1d_put(s, w, sets::empty_line());
-        q.l1d[i] = v;
     }
     q
 }

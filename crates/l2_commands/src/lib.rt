@@ -6,7 +6,7 @@ ghost use Prim.Native.Nat.{ℕ, _≤_, _<_};
 ghost use Rattle.model.specs.Records.{state};
 ghost use Rattle.model.specs.Modes.{flushL2};
 ghost use Rattle.stages.specs.Stages.{takenAs};
-ghost use Rattle.l2_commands.specs.Sweep.{l2Turns, l2Target, l2WayOf, l2Sweep, dropHalf, release, goes, cleaned, leftLine};
+ghost use Rattle.l2_commands.specs.Sweep.{l2Turns, l2Target, l2WayOf, l2Held, dropHalf, release, goes, cleaned, leftLine, settledAs, settle};
 use blocks::Target;
 use model::L1dSet;
 use model::L2Set;
@@ -15,6 +15,17 @@ use model::Record;
 use sets::L1d;
 use sets::L2;
 use stages::Half;
+
+// What a turn of a sweep acts on: the way of its set and the line there, where the line's bytes begin, its upper half, and the L1D sets of both halves. Way 4: the
+// block's line is not held, and there is nothing to do.
+pub struct Held {
+    pub way: usize,
+    pub line: Line,
+    pub place: usize,
+    pub upper: u32,
+    pub low: usize,
+    pub high: usize,
+}
 
 pub fn l2_turns(code: u8, base: u32, count: u32, sets: usize) -> usize
     requires { ⌜ sets ≤ 512 ⌝ }
@@ -60,6 +71,33 @@ pub fn l2_way(u: L2Set, p: Target) -> usize
     p.way
 }
 
+pub fn l2_held(u: L2Set, p: Target, sram: usize, sets: usize) -> Held
+    requires { ⌜ ((p .set < 512) × (p .way < 4)) × ((sram < 4294967296) × (sets ≤ 512)) ⌝ }
+    ensures { λ r. ⌜ (r ≡ l2Held sram sets u p) × ((r .place < 8589934592) × ((r .low < 128) × (r .high < 128))) ⌝ }
+{
+    let v = l2_way(u, p);
+    if 4 <= v {
+        return Held {
+            way: 4,
+            line: sets::empty_line(),
+            place: 0,
+            upper: 0,
+            low: 0,
+            high: 0,
+        };
+    }
+    let x = sets::l2_get(u, v);
+    let up = L2::upper_half(x.address);
+    Held {
+        way: v,
+        line: x,
+        place: L2::data_at(sram, sets, p.set, v),
+        upper: up,
+        low: L1d::set_of(x.address),
+        high: L1d::set_of(up),
+    }
+}
+
 // The half at b leaves L1D unwritten.
 pub fn drop_half(s: L1dSet, b: u32) -> L1dSet
     ensures { λ r. ⌜ r ≡ dropHalf s b ⌝ }
@@ -71,10 +109,10 @@ pub fn drop_half(s: L1dSet, b: u32) -> L1dSet
     s
 }
 
-// The half at b leaves L1D: dropped by block invalidate, else taken into the L2 line, whose bytes begin at `to`.
-pub fn release(s: L1dSet, code: u8, on: bool, b: u32, to: usize, l1d: &[u8], l2: &mut [u8]) -> Half
-    requires { ⌜ to < 8589934592 ⌝ }
-    ensures { λ r. ⌜ takenAs r (now (l2 .exit)) ≡ release s code on b to (now (l1d .entry)) (now (l2 .entry)) ⌝ }
+// The half at b of the line h leaves L1D: dropped by block invalidate, else taken into the line.
+pub fn release(s: L1dSet, code: u8, h: Held, b: u32, l1d: &[u8], l2: &mut [u8]) -> Half
+    requires { ⌜ h .place < 8589934592 ⌝ }
+    ensures { λ r. ⌜ takenAs r (now (l2 .exit)) ≡ release s code h b (now (l1d .entry)) (now (l2 .entry)) ⌝ }
 {
     if code == 6 {
         return Half {
@@ -82,7 +120,8 @@ pub fn release(s: L1dSet, code: u8, on: bool, b: u32, to: usize, l1d: &[u8], l2:
             dirty: false,
         };
     }
-    eviction::take_half(s, on, b, to, l1d, l2)
+    let x = h.line;
+    eviction::take_half(s, x.valid, b, h.place, l1d, l2)
 }
 
 pub fn goes(code: u8, x: Line, lower: bool, upper: bool) -> bool
@@ -116,50 +155,23 @@ pub fn left_line(code: u8, x: Line) -> Line
     sets::empty_line()
 }
 
-// 2, 3: writeback and writeback-invalidate all; 4, 5, 6: block writeback, writeback-invalidate, invalidate.
-pub fn l2_sweep(
-    r0: Record,
+// The line once its halves have left L1D: it goes out where it has to, and what is left of it stands in its way.
+pub fn settle(
+    u: L2Set,
+    h: Held,
     code: u8,
-    base: u32,
-    count: u32,
-    l1d: &[u8],
-    l2: &mut [u8],
+    lower: bool,
+    upper: bool,
+    l2: &[u8],
     ext: &mut [u8],
-) -> Record
-    ensures { λ q. ⌜ state q (now (l1d .entry)) (now (l2 .exit)) (now (ext .exit)) ≡ l2Sweep code base count (state r0 (now (l1d .entry)) (now (l2 .entry)) (now (ext .entry))) ⌝ }
+) -> L2Set
+    requires { ⌜ h .way < 4 ⌝ }
+    ensures { λ r. ⌜ settledAs r (now (ext .exit)) ≡ settle u h code lower upper (now (l2 .entry)) (now (ext .entry)) ⌝ }
 {
-    let sets = L2::sets(r0.mode);
-    let sram = L2::sram(r0.l2len, r0.mode);
-    let n = l2_turns(code, base, count, sets);
-    let mut q = r0;
-    for k in 0..n {
-        let p = l2_target(code, base, count, sets, k);
-        let j = p.set;
-        let u = q.l2[j];
-        let v = l2_way(u, p);
-        if 4 <= v {
-            continue;
-        }
-        let x = sets::l2_get(u, v);
-        let at = L2::data_at(sram, sets, j, v);
-        let low = L1d::set_of(x.address);
-        let s = q.l1d[low];
-        let a = release(s, code, x.valid, x.address, at, l1d, l2);
-        let sa = a.set;
-        q.l1d[low] = sa;
-        let up = L2::upper_half(x.address);
-        let high = L1d::set_of(up);
-        let t = q.l1d[high];
-        let b = release(t, code, x.valid, up, at, l1d, l2);
-        let sb = b.set;
-        q.l1d[high] = sb;
-        let d = goes(code, x, a.dirty, b.dirty);
-        eviction::write_out(d, x.address, at, l2, ext);
-        let y = left_line(code, x);
-        let w = sets::l2_put(u, v, y);
-        q.l2[j] = w;
-    }
-    q
+    let x = h.line;
+    let out = goes(code, x, lower, upper);
+    eviction::write_out(out, x.address, h.place, l2, ext);
+    sets::l2_put(u, h.way, left_line(code, x))
 }
 
 // All L2 lines in use go out, as a mode change asks; L1D, whatever its bytes are, is not looked at.

@@ -1,6 +1,6 @@
 -- `commands::carry_out` meets its contract: the number that the operands give comes first, 10 only where a bit is to be 0 and a line of its range is held; an
--- accepted command is its sweep or change (specs/Commands).
-use Rattle.commands.specs.Commands.{accepted-mode, refused-by-operands, carried, mar-set, mar-cleared, mar-held, swept-l2, swept-l1d, changed-mode, changed-mar, accepted-mar, operandsDue}
+-- accepted command is its change (specs/Commands).
+use Rattle.commands.specs.Commands.{accepted-mode, refused-by-operands, carried, mar-set, mar-cleared, mar-held, changed-mode, changed-mar, accepted-mar, operandsDue}
 use Rattle.model.specs.Records.{State, state}
 use Rattle.model.specs.declared.Command.{Command}
 use Prim.Native.Nat.{_≤_}
@@ -20,12 +20,18 @@ before c = let a = c .before .before .before .before .before .args in state (a .
 none-due : (c : tie.Else1) → operandsDue (before c .rec .l2len) (asked c) ≡ 0
 none-due c = sym (c .before .operands-due .ensures) ∙ c .if1 .left
 
-above : (c : tie.Else1) → 2 ≤ asked c .code
+above : (c : tie.Else1) → 10 ≤ asked c .code
 above c = c .before .before .before .before .before .pre
 
--- from 11 on it is a MAR change
-is-mar : (c : tie.Else3) → asked (c .before .before .before .before) .code ≡ 11
-is-mar c = let o = c .before .before .before .before in accepted-mar (before o .rec .l2len) (asked o) (none-due o) (c .if3 .left)
+not-access : (c : tie.Else1) → 2 ≤ asked c .code
+not-access c = let n = above c in omega arith
+
+-- below 11 it is a mode change, from 11 on a MAR change
+is-mode : (c : tie.Then2) → asked (c .before .before) .code ≡ 10
+is-mode c = let n = above (c .before .before) in let k = c .if2 .taken in omega arith
+
+is-mar : (c : tie.Else2) → asked (c .before .before) .code ≡ 11
+is-mar c = let o = c .before .before in accepted-mar (before o .rec .l2len) (asked o) (none-due o) (c .if2 .left)
 
 operands-due-requires : tie.Need-operands-due-requires
 operands-due-requires c κs = search needs
@@ -34,11 +40,20 @@ returns : tie.Need-returns
 returns c =
     let p-operands-due = c .before in
     let p-pre = p-operands-due .before .before .before .before in
-    let a = p-pre .args in let z = state (a .r) (a .l1d .now) (a .l2 .now) (a .ext .now) in
-    refused-by-operands (a .c) z (p-pre .pre) (p-operands-due .operands-due .result) (p-operands-due .operands-due .ensures) (c .if1 .taken)
+    let a = p-pre .args in let z = state (a .r) (a .l1d .now) (a .l2 .now) (a .ext .now) in let n = p-pre .pre in
+    refused-by-operands (a .c) z (omega arith) (p-operands-due .operands-due .result) (p-operands-due .operands-due .ensures) (c .if1 .taken)
 
-l2-sweep-requires : tie.Need-l2-sweep-requires
-l2-sweep-requires c κs = search needs
+flush-l1d-requires : tie.Need-flush-l1d-requires
+flush-l1d-requires c κs = search needs
+
+cast-change-mode : tie.Need-cast-change-mode
+cast-change-mode c =
+    let p-if2 = c .before .before .before .before .before .before .before .before in
+    let o = p-if2 .before .before in
+    let h = accepted-mode (before o .rec .l2len) (asked o) (none-due o) (is-mode p-if2) in omega arith
+
+change-mode-requires : tie.Need-change-mode-requires
+change-mode-requires c κs = search needs
 
 same-length : tie.Need-same-length
 same-length c = search needs
@@ -48,90 +63,46 @@ same-length-2 c = search needs
 
 returns-2 : tie.Need-returns-2
 returns-2 c =
-    let p-l2-sweep = c .before .before .before .before in
-    let p-if2 = p-l2-sweep .before .before .before in
-    let o = p-if2 .before .before in let k = p-if2 .if2 .taken in
-    carried (asked o) (before o) (above o) (none-due o) (λ e. absurd (omega arith)) _
-    (p-l2-sweep .l2-sweep .ensures ∙ swept-l2 (asked o) (before o) (above o) k)
-
-l1d-sweep-requires : tie.Need-l1d-sweep-requires
-l1d-sweep-requires c κs = search needs
-
-same-length-3 : tie.Need-same-length-3
-same-length-3 c = search needs
-
-same-length-4 : tie.Need-same-length-4
-same-length-4 c = search needs
-
-returns-3 : tie.Need-returns-3
-returns-3 c =
-    let p-l1d-sweep = c .before .before .before .before .before .before in
-    let p-if2 = p-l1d-sweep .before .before .before .before .before in
-    let o = p-if2 .before .before in let k = c .if4 .taken in
-    carried (asked o) (before o) (above o) (none-due o) (λ e. absurd (omega arith)) _
-    (p-l1d-sweep .l1d-sweep .ensures .0 ∙ swept-l1d (asked o) (before o) (p-if2 .if2 .left) k)
-
-cast-change-mode : tie.Need-cast-change-mode
-cast-change-mode c =
-    let p-if4 = c .before in
-    let p-if3 = p-if4 .before .before .before .before .before .before .before .before .before in
-    let o = p-if3 .before .before .before .before in
-    let k = p-if3 .if3 .taken in let g = p-if4 .if4 .left in
-    let h = accepted-mode (before o .rec .l2len) (asked o) (none-due o) (omega arith) in omega arith
-
-change-mode-requires : tie.Need-change-mode-requires
-change-mode-requires c κs = search needs
-
-same-length-5 : tie.Need-same-length-5
-same-length-5 c = search needs
-
-same-length-6 : tie.Need-same-length-6
-same-length-6 c = search needs
-
-returns-4 : tie.Need-returns-4
-returns-4 c =
     let p-change-mode = c .before .before .before .before in
-    let p-if4 = p-change-mode .before .before .before .before in
-    let p-l1d-sweep = p-if4 .before .before .before .before .before .before in
-    let p-if3 = p-l1d-sweep .before .before .before in
-    let o = p-if3 .before .before .before .before in let l = o .before .before .before .before .before .args .l1d .now in
-    let k = p-if3 .if3 .taken in let g = p-if4 .if4 .left in
-    carried (asked o) (before o) (above o) (none-due o) (λ e. absurd (omega arith)) _
-    (p-change-mode .change-mode .ensures l ∙ changed-mode (asked o) (before o) (omega arith) _ (p-l1d-sweep .l1d-sweep .ensures .0))
+    let p-flush-l1d = p-change-mode .before .before .before .before .before .before .before .before in
+    let p-if2 = p-flush-l1d .before .before .before in
+    let o = p-if2 .before .before in let e = is-mode p-if2 in
+    carried (asked o) (before o) (not-access o) (none-due o) (λ q. absurd (omega arith)) _
+    (p-change-mode .change-mode .ensures (before o .l1d) ∙ changed-mode (asked o) (before o) e _ (p-flush-l1d .flush-l1d .ensures .0))
 
 change-mar-requires : tie.Need-change-mar-requires
 change-mar-requires c κs = search needs
 
-returns-5 : tie.Need-returns-5
-returns-5 c =
-    let p-if5 = c .before in
-    let p-if3 = p-if5 .before .before in
-    let o = p-if3 .before .before .before .before in let z = before o in
-    mar-set (asked o) z (above o) (none-due o) (p-if5 .if5 .taken) _
-    (c .change-mar .ensures (z .l1d) (z .l2) (z .ext) ∙ changed-mar (asked o) z (is-mar p-if3))
+returns-3 : tie.Need-returns-3
+returns-3 c =
+    let p-if3 = c .before in
+    let p-if2 = p-if3 .before .before in
+    let o = p-if2 .before .before in let z = before o in
+    mar-set (asked o) z (not-access o) (none-due o) (p-if3 .if3 .taken) _
+    (c .change-mar .ensures (z .l1d) (z .l2) (z .ext) ∙ changed-mar (asked o) z (is-mar p-if2))
 
 holds-range-requires : tie.Need-holds-range-requires
 holds-range-requires c κs = search needs
 
-returns-6 : tie.Need-returns-6
-returns-6 c =
+returns-4 : tie.Need-returns-4
+returns-4 c =
     let p-holds-range = c .before in
-    let p-if5 = p-holds-range .before in
-    let p-if3 = p-if5 .before .before in
-    let o = p-if3 .before .before .before .before in
-    mar-held (asked o) (before o) (above o) (none-due o) (is-mar p-if3) (p-if5 .if5 .left) (sym (p-holds-range .holds-range .ensures) ∙ c .if6 .taken)
+    let p-if3 = p-holds-range .before in
+    let p-if2 = p-if3 .before .before in
+    let o = p-if2 .before .before in
+    mar-held (asked o) (before o) (not-access o) (none-due o) (is-mar p-if2) (p-if3 .if3 .left) (sym (p-holds-range .holds-range .ensures) ∙ c .if4 .taken)
 
 change-mar-requires-2 : tie.Need-change-mar-requires-2
 change-mar-requires-2 c κs = search needs
 
-returns-7 : tie.Need-returns-7
-returns-7 c =
-    let p-if6 = c .before in
-    let p-holds-range = p-if6 .before in
-    let p-if3 = p-holds-range .before .before .before in
-    let o = p-if3 .before .before .before .before in let z = before o in
-    mar-cleared (asked o) z (above o) (none-due o) (sym (p-holds-range .holds-range .ensures) ∙ p-if6 .if6 .left) _
-    (c .change-mar2 .ensures (z .l1d) (z .l2) (z .ext) ∙ changed-mar (asked o) z (is-mar p-if3))
+returns-5 : tie.Need-returns-5
+returns-5 c =
+    let p-if4 = c .before in
+    let p-holds-range = p-if4 .before in
+    let p-if2 = p-holds-range .before .before .before in
+    let o = p-if2 .before .before in let z = before o in
+    mar-cleared (asked o) z (not-access o) (none-due o) (sym (p-holds-range .holds-range .ensures) ∙ p-if4 .if4 .left) _
+    (c .change-mar2 .ensures (z .l1d) (z .l2) (z .ext) ∙ changed-mar (asked o) z (is-mar p-if2))
 
 pub carry-out-spec : {M : Type 1} → statement M
 carry-out-spec =
@@ -139,22 +110,15 @@ carry-out-spec =
     (tie.spec
     operands-due-requires
     returns
-    l2-sweep-requires
+    flush-l1d-requires
+    cast-change-mode
+    change-mode-requires
     same-length
     same-length-2
     returns-2
-    l1d-sweep-requires
-    same-length-3
-    same-length-4
-    returns-3
-    cast-change-mode
-    change-mode-requires
-    same-length-5
-    same-length-6
-    returns-4
     change-mar-requires
-    returns-5
+    returns-3
     holds-range-requires
-    returns-6
+    returns-4
     change-mar-requires-2
-    returns-7)
+    returns-5)

@@ -1,19 +1,30 @@
--- `engine::execute` meets its contract: what is left to do gives the whole. Each way through a turn is one step of the model (turns/specs/Turn), and a
--- turn keeps the invariant (turns/specs/Executed `turn`). Where arms meet, a record says what both leave, and one proof for each arm gives it.
+-- `engine::execute` meets its contract: what is left to do gives the whole. Each way through a turn is one step of the model (turns/specs/Turn for an access,
+-- commands/specs/Commands for a command), and a turn keeps the invariant (turns/specs/Executed `turn`). A cache command has a loop of its own inside its turn: after
+-- k lines the state is that of the definition's first k turns (blocks/specs/Sweeping). Where arms meet, a record says what both leave, and one proof for each arm
+-- gives it.
 use Rattle.turns.specs.Turn.{size-known, cached-is, due-is, Asked, Roomed, roomRecord, roomState, front-of, inside-of, below-of, unhomed-of, server-unhomed, place-unhomed, homed-of, server-homed, place-homed, miss-of, size-of}
 use Rattle.turns.specs.Executed.{sourceOf, endOf, noAnswer, answerOf, Executed, executes, turn, stopped, at-end, Going, goes-on, First, Second}
+use Rattle.blocks.specs.Sweeping.{Kept as Through, kept-none, kept-next, sets-now, sram-now}
+use Rattle.l1d_commands.specs.Sweep.{l1dTurn}
+use Rattle.l1d_commands.specs.Turn.{l1d-off, l1d-on}
+use Rattle.l2_commands.specs.Sweep.{l2Turn, settledAs}
+use Rattle.l2_commands.specs.Turn.{l2-off, l2-on}
+use Rattle.commands.specs.Commands.{line-l2, line-l1d, l2-done, l1d-done}
+use Rattle.commands.specs.declared.Begun.{Begun}
+use Rattle.joins.specs.Sets.{withSets}
 use Rattle.joins.specs.Miss.{room, ready}
-use Rattle.stages.specs.Stages.{frontAs, insideAs, belowAs, sendBelow, takenAs, broughtAs, finishedAs}
+use Rattle.stages.specs.Stages.{frontAs, sentAs, insideAs, belowAs, sendBelow, takenAs, broughtAs, finishedAs}
 use Rattle.stages.specs.declared.Answer.{Answer}
 use Rattle.decode.specs.declared.Decoded.{Decoded as Next}
 use Rattle.model.specs.Memories.{sramLength}
 use Rattle.model.specs.Lines.{l2Sets}
-use Rattle.model.specs.Records.{State, state, l2SetsOf, l2SetOf, l2Data, sramOf, withL1dSet}
+use Rattle.model.specs.Records.{State, state, l2SetsOf, l2SetOf, l2Data, sramOf, withL1dSet, withL2Set}
 use Rattle.model.specs.Homes.{homeIsL2, l2WayFor, homeServer}
 use Rattle.model.specs.Trace.{Decoded}
 use Rattle.model.specs.Calls.{Reply, reply, step, putAnswer}
+use Rattle.model.specs.declared.Command.{Command}
 use Rattle.model.specs.declared.Record.{Record}
-use lib.ListN.{length}
+use lib.ListN.{length, set}
 use mir.Syntax.{w64}
 use mir.Val.{Fits}
 use Prim.Native.Nat.{ℕ, _+_, _*_, _-_, _≤_, _<_}
@@ -22,11 +33,12 @@ use mathlib.Core.List.{List}
 use mathlib.Core.Logic.{⊎-elim}
 use mathlib.Core.Path.{_≡_, refl, sym, ap, _∙_}
 use native.Mathlib.Omega.{arith}
+use borrow.Author.Tests.{not-true, not-false}
 use borrow.Author.Needs.{needs}
 use Rattle.engine.proofs.execute.Statement.{statement}
 use Rattle.engine.proofs.execute.Tie as tie
 
--- ---- what the loop keeps: a command takes a byte at least; no length changes; the sets in use and S are those of the record; the rest of the run gives the whole
+-- ---- what the run's loop keeps: a command takes a byte at least; no length changes; the sets in use and S are those of the record; the rest of the run gives the whole
 record Kept (source : ℕ → Decoded) (whole : Executed) (l1d₀ l2₀ ext₀ answers₀ : List ℕ) (end : ℕ)
     (l1d l2 ext answers : List ℕ) (r : Record) (at count : ℕ) (last : Answer) (sets sram : ℕ) : Type 0 where
   counted : count ≤ at
@@ -40,118 +52,163 @@ record Kept (source : ℕ → Decoded) (whole : Executed) (l1d₀ l2₀ ext₀ a
   sramSmall : sram < 4294967296
   rest : executes source end (end - count) at (state r l1d l2 ext) count answers last ≡ whole
 
-abbrev Inv-loop : tie.InvT-loop
-Inv-loop single given trace l1d₀ l2₀ ext₀ answers₀ r₀ at₀ count₀ last₀ sets₀ sram₀ end l1d l2 ext answers r at count last sets sram =
+-- I: the run's loop; I₂ and I₁: the loops over the lines of an L2 and of an L1D command
+abbrev I : tie.InvT-loop
+I single given trace l1d₀ l2₀ ext₀ answers₀ r₀ at₀ count₀ last₀ sets₀ sram₀ end l1d l2 ext answers r at count last sets sram =
     Kept (sourceOf single given trace) (executes (sourceOf single given trace) end end 0 (state r₀ l1d₀ l2₀ ext₀) 0 answers₀ last₀)
     l1d₀ l2₀ ext₀ answers₀ end l1d l2 ext answers r at count last sets sram
 
-abbrev μ-loop : tie.MeasureT-loop
-μ-loop single given trace l1d₀ l2₀ ext₀ answers₀ r₀ at₀ count₀ last₀ sets₀ sram₀ end l1d l2 ext answers r at count last sets sram =
+abbrev μ : tie.MeasureT-loop
+μ single given trace l1d₀ l2₀ ext₀ answers₀ r₀ at₀ count₀ last₀ sets₀ sram₀ end l1d l2 ext answers r at count last sets sram =
     end - at
+
+abbrev I₂ : tie.InvT-loop2
+I₂ single given trace l1d l2₀ ext₀ answers r₀ at count sets sram end d stop c b k₀ lines l2 ext r k =
+    Through (l2Turn (c .code) (c .first)) lines r₀ l1d l2₀ ext₀ k r l2 ext
+
+abbrev μ₂ : tie.MeasureT-loop2
+μ₂ single given trace l1d l2₀ ext₀ answers r₀ at count sets sram end d stop c b k₀ lines l2 ext r k = lines - k
+
+abbrev I₁ : tie.InvT-loop3
+I₁ single given trace l1d l2₀ ext₀ answers r₀ at count sets sram end d stop c b k₀ lines l2 ext r k =
+    Through (l1dTurn (c .code) (c .first)) lines r₀ l1d l2₀ ext₀ k r l2 ext
+
+abbrev μ₁ : tie.MeasureT-loop3
+μ₁ single given trace l1d l2₀ ext₀ answers r₀ at count sets sram end d stop c b k₀ lines l2 ext r k = lines - k
 
 -- ---- the way back: from a place of a turn to the places before it. `at-X` is the place X, from the next one that needs go by:
 -- start: the arguments; none: no answer yet; loop: the head of the loop; turn: a command is carried out
+-- begun: a cache command has begun
 -- set: the L1D set of a read or write is known; front: the front is done; leaving: a miss, and the line that leaves L1D is known
 -- left: arms meet, the line has gone into the L2 cache if it goes there; below: it has gone below if it goes there; room: its way of L1D is empty
 -- ready: arms meet, L2 is ready if it is the home; in that arm, low and high: the L1D sets of the halves of the line that leaves L2, choice: its way is chosen
-abbrev at-none : tie.At-loop Inv-loop μ-loop → tie.After-no-answer Inv-loop μ-loop
+abbrev at-none : tie.At-loop I₂ μ₂ I₁ μ₁ I μ → tie.After-no-answer I₂ μ₂ I₁ μ₁ I μ
 at-none c = c .before .before .before .before
 
-abbrev at-start : tie.At-loop Inv-loop μ-loop → tie.Start Inv-loop μ-loop
+abbrev at-start : tie.At-loop I₂ μ₂ I₁ μ₁ I μ → tie.Start I₂ μ₂ I₁ μ₁ I μ
 at-start c = at-none c .before .before .before .before .before .before
 
-abbrev at-loop : tie.Else1 Inv-loop μ-loop → tie.At-loop Inv-loop μ-loop
+abbrev at-loop : tie.Else1 I₂ μ₂ I₁ μ₁ I μ → tie.At-loop I₂ μ₂ I₁ μ₁ I μ
 at-loop c = c .before .before .before .before
 
-abbrev at-turn : tie.After-set-of Inv-loop μ-loop → tie.Else1 Inv-loop μ-loop
+abbrev turn-begun : tie.After-begin I₂ μ₂ I₁ μ₁ I μ → tie.Else1 I₂ μ₂ I₁ μ₁ I μ
+turn-begun c = c .before .before .before .before .before .before
+
+abbrev begun-l2 : tie.At-loop2 I₂ μ₂ I₁ μ₁ I μ → tie.After-begin I₂ μ₂ I₁ μ₁ I μ
+begun-l2 c = c .before .before .before
+
+abbrev begun-l1d : tie.At-loop3 I₂ μ₂ I₁ μ₁ I μ → tie.After-begin I₂ μ₂ I₁ μ₁ I μ
+begun-l1d c = c .before .before .before
+
+-- a line of an L2 command, from where it settles: its halves have left; it is held; it is known; the turn aims at it
+abbrev line-upper : tie.After-slice-known7 I₂ μ₂ I₁ μ₁ I μ → tie.After-nl I₂ μ₂ I₁ μ₁ I μ
+line-upper c = c .before .before .before .before .before
+
+abbrev line-lower : tie.After-nl I₂ μ₂ I₁ μ₁ I μ → tie.After-ml I₂ μ₂ I₁ μ₁ I μ
+line-lower c = c .before .before .before .before .before .before .before
+
+abbrev line-held : tie.After-ml I₂ μ₂ I₁ μ₁ I μ → tie.Else5 I₂ μ₂ I₁ μ₁ I μ
+line-held c = c .before .before .before .before .before .before .before
+
+abbrev line-known : tie.Else5 I₂ μ₂ I₁ μ₁ I μ → tie.After-l2-held I₂ μ₂ I₁ μ₁ I μ
+line-known c = c .before .before
+
+abbrev line-aimed : tie.After-l2-held I₂ μ₂ I₁ μ₁ I μ → tie.After-l2-target I₂ μ₂ I₁ μ₁ I μ
+line-aimed c = c .before .before
+
+-- a line of an L1D command, from where its way is emptied: it leaves
+abbrev line-gone : tie.After-slice-known9 I₂ μ₂ I₁ μ₁ I μ → tie.Else6 I₂ μ₂ I₁ μ₁ I μ
+line-gone c = c .before .before .before .before .before .before .before .before .before .before .before
+
+abbrev at-turn : tie.After-set-of2 I₂ μ₂ I₁ μ₁ I μ → tie.Else1 I₂ μ₂ I₁ μ₁ I μ
 at-turn c = c .before .before .before .before .before .before .before
 
-abbrev at-set : tie.After-front Inv-loop μ-loop → tie.After-set-of Inv-loop μ-loop
+abbrev at-set : tie.After-front I₂ μ₂ I₁ μ₁ I μ → tie.After-set-of2 I₂ μ₂ I₁ μ₁ I μ
 at-set c = c .before .before .before .before .before
 
-abbrev at-front : tie.After-leaving Inv-loop μ-loop → tie.After-front Inv-loop μ-loop
+abbrev at-front : tie.After-leaving I₂ μ₂ I₁ μ₁ I μ → tie.After-front I₂ μ₂ I₁ μ₁ I μ
 at-front c = c .before .before .before .before .before .before
 
-abbrev at-leaving : tie.Joined4 Inv-loop μ-loop → tie.After-leaving Inv-loop μ-loop
+abbrev at-leaving : tie.Joined8 I₂ μ₂ I₁ μ₁ I μ → tie.After-leaving I₂ μ₂ I₁ μ₁ I μ
 at-leaving c = c .before .before .before
 
-abbrev at-left : tie.After-send-below Inv-loop μ-loop → tie.Joined4 Inv-loop μ-loop
+abbrev at-left : tie.After-send-below I₂ μ₂ I₁ μ₁ I μ → tie.Joined8 I₂ μ₂ I₁ μ₁ I μ
 at-left c = c .before .before .before .before
 
-abbrev at-below : tie.After-emptied Inv-loop μ-loop → tie.After-send-below Inv-loop μ-loop
+abbrev at-below : tie.After-emptied2 I₂ μ₂ I₁ μ₁ I μ → tie.After-send-below I₂ μ₂ I₁ μ₁ I μ
 at-below c = c .before .before .before .before .before
 
-abbrev at-room : tie.Joined5 Inv-loop μ-loop → tie.After-emptied Inv-loop μ-loop
+abbrev at-room : tie.Joined9 I₂ μ₂ I₁ μ₁ I μ → tie.After-emptied2 I₂ μ₂ I₁ μ₁ I μ
 at-room c = c .before .before .before
 
-abbrev at-ready : tie.After-finish Inv-loop μ-loop → tie.Joined5 Inv-loop μ-loop
+abbrev at-ready : tie.After-finish I₂ μ₂ I₁ μ₁ I μ → tie.Joined9 I₂ μ₂ I₁ μ₁ I μ
 at-ready c = c .before .before .before .before .before
 
-abbrev at-low : tie.After-xs Inv-loop μ-loop → tie.After-set-of4 Inv-loop μ-loop
+abbrev at-low : tie.After-xs I₂ μ₂ I₁ μ₁ I μ → tie.After-set-of5 I₂ μ₂ I₁ μ₁ I μ
 at-low c = c .before .before .before .before .before .before .before
 
-abbrev at-high : tie.After-ys Inv-loop μ-loop → tie.After-set-of5 Inv-loop μ-loop
+abbrev at-high : tie.After-ys I₂ μ₂ I₁ μ₁ I μ → tie.After-set-of6 I₂ μ₂ I₁ μ₁ I μ
 at-high c = c .before .before .before .before .before .before .before
 
-abbrev at-choice : tie.After-ys Inv-loop μ-loop → tie.After-choose Inv-loop μ-loop
+abbrev at-choice : tie.After-ys I₂ μ₂ I₁ μ₁ I μ → tie.After-choose I₂ μ₂ I₁ μ₁ I μ
 at-choice c = at-low (at-high c .before .before) .before .before .before
 
 -- several steps at once
-abbrev front-of-room : tie.After-emptied Inv-loop μ-loop → tie.After-front Inv-loop μ-loop
+abbrev front-of-room : tie.After-emptied2 I₂ μ₂ I₁ μ₁ I μ → tie.After-front I₂ μ₂ I₁ μ₁ I μ
 front-of-room c = at-front (at-leaving (at-left (at-below c)))
 
-abbrev loop-of-front : tie.After-front Inv-loop μ-loop → tie.At-loop Inv-loop μ-loop
+abbrev loop-of-front : tie.After-front I₂ μ₂ I₁ μ₁ I μ → tie.At-loop I₂ μ₂ I₁ μ₁ I μ
 loop-of-front c = at-loop (at-turn (at-set c))
 
 -- the turn, from where its answer is put: after a command, after the front, after a miss
-abbrev turn-carried : tie.After-put-answer-arg Inv-loop μ-loop → tie.Else1 Inv-loop μ-loop
+abbrev turn-carried : tie.After-put-answer-arg2 I₂ μ₂ I₁ μ₁ I μ → tie.Else1 I₂ μ₂ I₁ μ₁ I μ
 turn-carried c =
     let p-carry-out = c .before .before .before .before .before .before .before .before in
-    p-carry-out .before .before .before .before .before .before .before
+    p-carry-out .before .before .before .before .before .before .before .before .before
 
-abbrev turn-fronted : tie.After-put-answer-arg2 Inv-loop μ-loop → tie.Else1 Inv-loop μ-loop
+abbrev turn-fronted : tie.After-put-answer-arg3 I₂ μ₂ I₁ μ₁ I μ → tie.Else1 I₂ μ₂ I₁ μ₁ I μ
 turn-fronted c =
     let p-front = c .before .before .before .before .before .before .before .before in
     at-turn (at-set p-front)
 
-abbrev turn-missed : tie.After-put-answer-arg3 Inv-loop μ-loop → tie.Else1 Inv-loop μ-loop
+abbrev turn-missed : tie.After-put-answer-arg4 I₂ μ₂ I₁ μ₁ I μ → tie.Else1 I₂ μ₂ I₁ μ₁ I μ
 turn-missed c =
     let p-finish = c .before .before .before .before .before .before .before .before in
     at-turn (at-set (front-of-room (at-room (at-ready p-finish))))
 
 -- ---- what stands at these places
 -- where the run ends; the command of a turn; the state at the head; where commands come from; what the whole run gives
-abbrev endAt : tie.At-loop Inv-loop μ-loop → ℕ
+abbrev endAt : tie.At-loop I₂ μ₂ I₁ μ₁ I μ → ℕ
 endAt c = c .before .end-of .result
 
-abbrev found : tie.Else1 Inv-loop μ-loop → Next
+abbrev found : tie.Else1 I₂ μ₂ I₁ μ₁ I μ → Next
 found c = c .before .before .next .result
 
-abbrev here : tie.At-loop Inv-loop μ-loop → State
+abbrev here : tie.At-loop I₂ μ₂ I₁ μ₁ I μ → State
 here c = state (c .loop .r) (c .loop .l1d) (c .loop .l2) (c .loop .ext)
 
-abbrev source : tie.At-loop Inv-loop μ-loop → ℕ → Decoded
+abbrev source : tie.At-loop I₂ μ₂ I₁ μ₁ I μ → ℕ → Decoded
 source c =
     let a = at-start c .args in
     sourceOf (a .single) (a .given) (a .trace .now)
 
-abbrev whole : tie.At-loop Inv-loop μ-loop → Executed
+abbrev whole : tie.At-loop I₂ μ₂ I₁ μ₁ I μ → Executed
 whole c =
     let a = at-start c .args in
     executes (source c) (endAt c) (endAt c) 0 (state (a .r0) (a .l1d .now) (a .l2 .now) (a .ext .now)) 0 (a .answers .now)
     (at-none c .no-answer .result)
 
 -- what a call leaves in a memory that it is lent as its parameter n (from 0) is `.last`, n times `.1`, `.0`; that the length is kept, the same of `.kept`
-abbrev frontL1d : tie.After-front Inv-loop μ-loop → List ℕ
+abbrev frontL1d : tie.After-front I₂ μ₂ I₁ μ₁ I μ → List ℕ
 frontL1d c = c .front .last .1 .1 .1 .1 .1 .0
 
-abbrev frontExt : tie.After-front Inv-loop μ-loop → List ℕ
+abbrev frontExt : tie.After-front I₂ μ₂ I₁ μ₁ I μ → List ℕ
 frontExt c = c .front .last .1 .1 .1 .1 .1 .1 .0
 
-abbrev belowL2 : tie.After-send-below Inv-loop μ-loop → List ℕ
+abbrev belowL2 : tie.After-send-below I₂ μ₂ I₁ μ₁ I μ → List ℕ
 belowL2 c = c .send-below .last .1 .1 .1 .1 .1 .0
 
-abbrev belowExt : tie.After-send-below Inv-loop μ-loop → List ℕ
+abbrev belowExt : tie.After-send-below I₂ μ₂ I₁ μ₁ I μ → List ℕ
 belowExt c = c .send-below .last .1 .1 .1 .1 .1 .1 .0
 
 -- ---- what is known there
@@ -163,7 +220,7 @@ l2-fits : {i : ℕ} → i < 512 → Fits w64 (i * 36)
 l2-fits n = omega arith
 
 -- the whole run, as the contract says it
-whole-is : (c : tie.At-loop Inv-loop μ-loop) →
+whole-is : (c : tie.At-loop I₂ μ₂ I₁ μ₁ I μ) →
     let a = at-start c .args in let end = endOf (a .single) (a .trace .now) in
     whole c ≡ executes (source c) end end 0 (state (a .r0) (a .l1d .now) (a .l2 .now) (a .ext .now)) 0 (a .answers .now) noAnswer
 whole-is c =
@@ -171,7 +228,7 @@ whole-is c =
     λ j. executes (source c) (e j) (e j) 0 (state (a .r0) (a .l1d .now) (a .l2 .now) (a .ext .now)) 0 (a .answers .now) (n j)
 
 -- a command that is carried out ends before the end, and its answer has room; so no number wraps, and its turn brings the end nearer
-going : (c : tie.Else1 Inv-loop μ-loop) →
+going : (c : tie.Else1 I₂ μ₂ I₁ μ₁ I μ) →
     let p-loop = at-loop c in
     Going (endAt p-loop) (p-loop .loop .at) (p-loop .loop .count) (found c) (p-loop .loop .answers)
 going c =
@@ -183,19 +240,19 @@ going c =
     (p-loop .before .end-of .ensures) (p-next .next .ensures)
     (p-next .before .loop-test .taken) (l .inv .counted) (p-stop-of .stop-of .ensures) (c .if1 .left)
 
-at-fits : (c : tie.Else1 Inv-loop μ-loop) → Fits w64 (at-loop c .loop .at + found c .used)
+at-fits : (c : tie.Else1 I₂ μ₂ I₁ μ₁ I μ) → Fits w64 (at-loop c .loop .at + found c .used)
 at-fits c = let g = going c in let to = g .to in omega arith
 
-count-fits : (c : tie.Else1 Inv-loop μ-loop) → Fits w64 (at-loop c .loop .count + 1)
+count-fits : (c : tie.Else1 I₂ μ₂ I₁ μ₁ I μ) → Fits w64 (at-loop c .loop .count + 1)
 count-fits c = let g = going c in let up = g .up in let to = g .to in omega arith
 
-nearer : (c : tie.Else1 Inv-loop μ-loop) →
+nearer : (c : tie.Else1 I₂ μ₂ I₁ μ₁ I μ) →
     let p-loop = at-loop c in
     endAt p-loop - (p-loop .loop .at + found c .used) < endAt p-loop - p-loop .loop .at
 nearer c = let g = going c in let more = g .more in let to = g .to in omega arith
 
 -- a command carried out: the rest gives the whole
-onward : (c : tie.Else1 Inv-loop μ-loop) →
+onward : (c : tie.Else1 I₂ μ₂ I₁ μ₁ I μ) →
     let p-loop = at-loop c in let l = p-loop .loop in
     (x : Reply) → x ≡ step (found c .command) (here p-loop) → (o : List ℕ) →
     o ≡ putAnswer (l .answers) (l .count) (x .number) (x .server) (x .value) →
@@ -209,8 +266,79 @@ onward c x ex o eo =
     (l .inv .counted)
     (found c) (p-next .next .ensures .same) (going c .none) x ex o eo (l .inv .rest)
 
--- a read or write, once the front is done
-abbrev asked : tie.After-front Inv-loop μ-loop → Asked
+-- ---- a cache command that has begun: itself, the state before it, its number and lines
+abbrev swept : tie.After-begin I₂ μ₂ I₁ μ₁ I μ → Command
+swept c = found (turn-begun c) .command
+
+abbrev begins : tie.After-begin I₂ μ₂ I₁ μ₁ I μ → Begun
+begins c = c .begin .result
+
+-- the sets in use and S are those of the record, whatever lines it has gone through
+sets-are : (c : tie.After-begin I₂ μ₂ I₁ μ₁ I μ) (r : Record) → r .mode ≡ at-loop (turn-begun c) .loop .r .mode →
+    at-loop (turn-begun c) .loop .sets ≡ l2SetsOf r
+sets-are c r m = let l = at-loop (turn-begun c) .loop in sets-now r (l .r) m (l .inv .setsAre)
+
+sram-is : (c : tie.After-begin I₂ μ₂ I₁ μ₁ I μ) (r : Record) → r .mode ≡ at-loop (turn-begun c) .loop .r .mode →
+    r .l2len ≡ at-loop (turn-begun c) .loop .r .l2len → at-loop (turn-begun c) .loop .sram ≡ sramOf r
+sram-is c r m n = let l = at-loop (turn-begun c) .loop in sram-now r (l .r) m n (l .inv .sramIs)
+
+-- the number of a line does not wrap
+line-fits : (c : tie.After-begin I₂ μ₂ I₁ μ₁ I μ) (k : ℕ) → k < begins c .lines → Fits w64 (k + 1)
+line-fits c k h = let g = c .begin .ok in omega arith
+
+-- all its lines are gone through: it is carried out, or it was refused; neither changes the mode or a length
+record Done (c : tie.Joined4 I₂ μ₂ I₁ μ₁ I μ) : Type 0 where
+  mode : c .if4 .r .mode ≡ at-loop (turn-begun (c .before .before)) .loop .r .mode
+  l2len : c .if4 .r .l2len ≡ at-loop (turn-begun (c .before .before)) .loop .r .l2len
+  l2Long : length (c .if4 .l2) ≡ length (at-loop (turn-begun (c .before .before)) .loop .l2)
+  extLong : length (c .if4 .ext) ≡ length (at-loop (turn-begun (c .before .before)) .loop .ext)
+  done : let b = c .before .before in
+      reply (begins b .number) 0 0 (state (c .if4 .r) (at-loop (turn-begun b) .loop .l1d) (c .if4 .l2) (c .if4 .ext))
+      ≡ step (swept b) (here (at-loop (turn-begun b)))
+
+l2-arm : (c : tie.Joined4 I₂ μ₂ I₁ μ₁ I μ) → First (c .if4 .came) → Done c
+l2-arm c w =
+    let p-begun = c .before .before in
+    let p-if3 = p-begun .before in
+    let p-loop = at-loop (turn-begun p-begun) in let l = p-loop .loop in
+    -- the arm: its test, the loop and its end; and what it leaves
+    let test = w .0 in let loop = w .1 in let over = w .2 .left in let l2Is = w .3 in let extIs = w .4 in let rIs = w .5 in
+    let within = loop .inv .within in let all : loop .k ≡ begins p-begun .lines = omega arith in
+    record {
+      mode = ap (λ (x : Record). x .mode) rIs ∙ loop .inv .mode;
+      l2len = ap (λ (x : Record). x .l2len) rIs ∙ loop .inv .l2len;
+      l2Long = ap length l2Is ∙ loop .inv .l2Long;
+      extLong = ap length extIs ∙ loop .inv .extLong;
+      done = (λ j. reply (begins p-begun .number) 0 0 (state (rIs j) (l .l1d) (l2Is j) (extIs j)))
+          ∙ l2-done (swept p-begun) (here p-loop) (state (loop .r) (l .l1d) (loop .l2) (loop .ext)) (begins p-begun)
+          (p-if3 .before .before .if2 .taken) (p-if3 .if3 .taken) (l .sets) (l .inv .setsAre) (p-begun .begin .ensures) (test .taken)
+          (rw all at (loop .inv .made));
+    }
+
+l1d-arm : (c : tie.Joined4 I₂ μ₂ I₁ μ₁ I μ) → Second (c .if4 .came) → Done c
+l1d-arm c w =
+    let p-begun = c .before .before in
+    let p-if3 = p-begun .before in
+    let p-loop = at-loop (turn-begun p-begun) in let l = p-loop .loop in
+    -- the arm: its test, the loop and its end; and what it leaves
+    let test = w .0 in let loop = w .1 in let over = w .2 .left in let l2Is = w .3 in let extIs = w .4 in let rIs = w .5 in
+    let within = loop .inv .within in let all : loop .k ≡ begins p-begun .lines = omega arith in
+    record {
+      mode = ap (λ (x : Record). x .mode) rIs ∙ loop .inv .mode;
+      l2len = ap (λ (x : Record). x .l2len) rIs ∙ loop .inv .l2len;
+      l2Long = ap length l2Is ∙ loop .inv .l2Long;
+      extLong = ap length extIs ∙ loop .inv .extLong;
+      done = (λ j. reply (begins p-begun .number) 0 0 (state (rIs j) (l .l1d) (l2Is j) (extIs j)))
+          ∙ l1d-done (swept p-begun) (here p-loop) (state (loop .r) (l .l1d) (loop .l2) (loop .ext)) (begins p-begun)
+          (p-if3 .before .before .if2 .taken) (p-if3 .if3 .taken) (l .sets) (l .inv .setsAre) (p-begun .begin .ensures) (test .left)
+          (rw all at (loop .inv .made));
+    }
+
+all-done : (c : tie.Joined4 I₂ μ₂ I₁ μ₁ I μ) → Done c
+all-done c = ⊎-elim (l2-arm c) (l1d-arm c) (c .if4 .came)
+
+-- ---- a read or write, once the front is done
+abbrev asked : tie.After-front I₂ μ₂ I₁ μ₁ I μ → Asked
 asked c =
     let p-is-cached = c .before .before .before in
     let p-set = at-set c in
@@ -226,7 +354,7 @@ asked c =
       m = l .l2;
       e = l .ext;
       c = cm;
-      i = p-set .set-of .result;
+      i = p-set .set-of2 .result;
       due = p-access-due .access-due .result;
       cached = p-is-cached .is-cached .result;
       write = p-is-write .is-write .result;
@@ -237,7 +365,7 @@ asked c =
       ew = p-is-write .is-write .ensures;
       es = l .inv .setsAre;
       er = l .inv .sramIs;
-      ei = p-set .set-of .ensures .0;
+      ei = p-set .set-of2 .ensures .0;
       ed = due-is (l .r) (l .l1d) (l .l2) (l .ext) cm (p-access-due .access-due .result) (l .sram) (p-checked .checked .result) (p-if2 .if2 .left)
           (l .inv .sramIs) (p-checked .checked .ensures) (p-access-due .access-due .ensures);
       ec = p-is-cached .is-cached .ensures ∙ cached-is (l .r) (cm .second);
@@ -245,15 +373,15 @@ asked c =
     }
 
 -- ---- a read miss has made room: the line that left has gone into the L2 cache, or below it. Neither changes the mode or a length
-record RoomMade (c : tie.After-emptied Inv-loop μ-loop) : Type 0 where
-  mode : at-left (at-below c) .if4 .r .mode ≡ asked (front-of-room c) .r .mode
-  l2len : at-left (at-below c) .if4 .r .l2len ≡ asked (front-of-room c) .r .l2len
-  l2Long : length (at-left (at-below c) .if4 .l2) ≡ length (asked (front-of-room c) .m)
+record RoomMade (c : tie.After-emptied2 I₂ μ₂ I₁ μ₁ I μ) : Type 0 where
+  mode : at-left (at-below c) .if8 .r .mode ≡ asked (front-of-room c) .r .mode
+  l2len : at-left (at-below c) .if8 .r .l2len ≡ asked (front-of-room c) .r .l2len
+  l2Long : length (at-left (at-below c) .if8 .l2) ≡ length (asked (front-of-room c) .m)
   made : let q = asked (front-of-room c) in
-      state (withL1dSet (at-left (at-below c) .if4 .r) (q .i) (c .emptied .result)) (q .f .l1d) (belowL2 (at-below c)) (belowExt (at-below c))
+      state (withL1dSet (at-left (at-below c) .if8 .r) (q .i) (c .emptied2 .result)) (q .f .l1d) (belowL2 (at-below c)) (belowExt (at-below c))
       ≡ room (q .write) (q .c .second) (state (q .r) (q .f .l1d) (q .m) (q .f .ext))
 
-inside-arm : (c : tie.After-emptied Inv-loop μ-loop) → First (at-left (at-below c) .if4 .came) → RoomMade c
+inside-arm : (c : tie.After-emptied2 I₂ μ₂ I₁ μ₁ I μ) → First (at-left (at-below c) .if8 .came) → RoomMade c
 inside-arm c w =
     let p-below = at-below c in
     let p-goes-inside = at-left p-below .before in
@@ -265,14 +393,14 @@ inside-arm c w =
       mode = ap (λ (x : Record). x .mode) rIs;
       l2len = ap (λ (x : Record). x .l2len) rIs;
       l2Long = ap length l2Is ∙ sent .kept .1 .1 .1 .1 .1 .1 .1 .1 .0;
-      made = (λ j. state (withL1dSet (rIs j) (q .i) (c .emptied .result)) (q .f .l1d) (belowL2 p-below) (belowExt p-below))
-          ∙ inside-of q g (c .emptied .result) (belowAs (belowL2 p-below) (belowExt p-below)) (p-leaving .leaving .ensures .0) (c .emptied .ensures) (set .result)
+      made = (λ j. state (withL1dSet (rIs j) (q .i) (c .emptied2 .result)) (q .f .l1d) (belowL2 p-below) (belowExt p-below))
+          ∙ inside-of q g (c .emptied2 .result) (belowAs (belowL2 p-below) (belowExt p-below)) (p-leaving .leaving .ensures .0) (c .emptied2 .ensures) (set .result)
           (insideAs (sent .result) (sent .last .1 .1 .1 .1 .1 .1 .1 .1 .0)) (sym (p-goes-inside .goes-inside .ensures) ∙ test .taken)
           (set .ensures .0) (sent .ensures)
           (p-below .send-below .ensures ∙ (λ j. sendBelow (q .sets) (q .i) (g .way) (g .line) (q .f .l1d) (l2Is j) (q .f .ext)));
     }
 
-below-arm : (c : tie.After-emptied Inv-loop μ-loop) → Second (at-left (at-below c) .if4 .came) → RoomMade c
+below-arm : (c : tie.After-emptied2 I₂ μ₂ I₁ μ₁ I μ) → Second (at-left (at-below c) .if8 .came) → RoomMade c
 below-arm c w =
     let p-below = at-below c in
     let p-goes-inside = at-left p-below .before in
@@ -284,27 +412,27 @@ below-arm c w =
       mode = ap (λ (x : Record). x .mode) rIs;
       l2len = ap (λ (x : Record). x .l2len) rIs;
       l2Long = ap length l2Is;
-      made = (λ j. state (withL1dSet (rIs j) (q .i) (c .emptied .result)) (q .f .l1d) (belowL2 p-below) (belowExt p-below))
-          ∙ below-of q g (c .emptied .result) (belowAs (belowL2 p-below) (belowExt p-below)) (p-leaving .leaving .ensures .0) (c .emptied .ensures)
+      made = (λ j. state (withL1dSet (rIs j) (q .i) (c .emptied2 .result)) (q .f .l1d) (belowL2 p-below) (belowExt p-below))
+          ∙ below-of q g (c .emptied2 .result) (belowAs (belowL2 p-below) (belowExt p-below)) (p-leaving .leaving .ensures .0) (c .emptied2 .ensures)
           (sym (p-goes-inside .goes-inside .ensures) ∙ test .left)
           (p-below .send-below .ensures ∙ (λ j. sendBelow (q .sets) (q .i) (g .way) (g .line) (q .f .l1d) (l2Is j) (q .f .ext)));
     }
 
-room-made : (c : tie.After-emptied Inv-loop μ-loop) → RoomMade c
-room-made c = ⊎-elim (inside-arm c) (below-arm c) (at-left (at-below c) .if4 .came)
+room-made : (c : tie.After-emptied2 I₂ μ₂ I₁ μ₁ I μ) → RoomMade c
+room-made c = ⊎-elim (inside-arm c) (below-arm c) (at-left (at-below c) .if8 .came)
 
-abbrev roomed : (c : tie.After-emptied Inv-loop μ-loop) → Roomed (asked (front-of-room c))
+abbrev roomed : (c : tie.After-emptied2 I₂ μ₂ I₁ μ₁ I μ) → Roomed (asked (front-of-room c))
 roomed c =
     let p-below = at-below c in
     let p-left = at-left p-below in
     let p-leaving = at-leaving p-left in
     record {
-      dn = p-leaving .before .if3 .left;
+      dn = p-leaving .before .if7 .left;
       g = p-leaving .leaving .result;
-      r₁ = p-left .if4 .r;
+      r₁ = p-left .if8 .r;
       m₁ = belowL2 p-below;
       e₁ = belowExt p-below;
-      emptiedSet = c .emptied .result;
+      emptiedSet = c .emptied2 .result;
       eg = p-leaving .leaving .ensures .0;
       md = room-made c .mode;
       ln = room-made c .l2len;
@@ -312,20 +440,20 @@ roomed c =
     }
 
 -- ---- L2 is ready, where it is the home, or it is not: the place and the server are those of the line's home, and neither changes the mode or a length
-record ReadyMade (c : tie.Joined5 Inv-loop μ-loop) : Type 0 where
-  mode : c .if5 .r .mode ≡ roomed (at-room c) .r₁ .mode
-  l2len : c .if5 .r .l2len ≡ roomed (at-room c) .r₁ .l2len
-  l2Long : length (c .if5 .l2) ≡ length (roomed (at-room c) .m₁)
-  extLong : length (c .if5 .ext) ≡ length (roomed (at-room c) .e₁)
+record ReadyMade (c : tie.Joined9 I₂ μ₂ I₁ μ₁ I μ) : Type 0 where
+  mode : c .if9 .r .mode ≡ roomed (at-room c) .r₁ .mode
+  l2len : c .if9 .r .l2len ≡ roomed (at-room c) .r₁ .l2len
+  l2Long : length (c .if9 .l2) ≡ length (roomed (at-room c) .m₁)
+  extLong : length (c .if9 .ext) ≡ length (roomed (at-room c) .e₁)
   made : let q = asked (front-of-room (at-room c)) in let n = roomed (at-room c) in
-      state (c .if5 .r) (q .f .l1d) (c .if5 .l2) (c .if5 .ext) ≡ ready (q .write) (q .c .second) (roomState q n)
+      state (c .if9 .r) (q .f .l1d) (c .if9 .l2) (c .if9 .ext) ≡ ready (q .write) (q .c .second) (roomState q n)
   placed : let q = asked (front-of-room (at-room c)) in let n = roomed (at-room c) in let a = q .c .second in
-      homeIsL2 (roomRecord q n) a ≡ true → c .if5 .place ≡ l2Data (roomRecord q n) (l2SetOf (roomRecord q n) a) (l2WayFor (roomState q n) a)
-  small : c .if5 .place < 8589934592
+      homeIsL2 (roomRecord q n) a ≡ true → c .if9 .place ≡ l2Data (roomRecord q n) (l2SetOf (roomRecord q n) a) (l2WayFor (roomState q n) a)
+  small : c .if9 .place < 8589934592
   served : let q = asked (front-of-room (at-room c)) in let n = roomed (at-room c) in
-      c .if5 .server ≡ homeServer (q .c .second) (roomState q n)
+      c .if9 .server ≡ homeServer (q .c .second) (roomState q n)
 
-homed-arm : (c : tie.Joined5 Inv-loop μ-loop) → First (c .if5 .came) → ReadyMade c
+homed-arm : (c : tie.Joined9 I₂ μ₂ I₁ μ₁ I μ) → First (c .if9 .came) → ReadyMade c
 homed-arm c w =
     let p-homed = c .before .before in
     let q = asked (front-of-room (at-room c)) in let n = roomed (at-room c) in let h = p-homed .homed .result in let eh = p-homed .homed .ensures in
@@ -353,10 +481,10 @@ homed-arm c w =
       served =
           server-homed q n h eh (test .taken) (set .result) (chosen .result) (set .ensures .0) (chosen .ensures .0) (place .result)
           (place .ensures .0)
-          (c .if5 .server) (serverIs ∙ server .ensures);
+          (c .if9 .server) (serverIs ∙ server .ensures);
     }
 
-other-arm : (c : tie.Joined5 Inv-loop μ-loop) → Second (c .if5 .came) → ReadyMade c
+other-arm : (c : tie.Joined9 I₂ μ₂ I₁ μ₁ I μ) → Second (c .if9 .came) → ReadyMade c
 other-arm c w =
     let p-server-below = c .before in
     let p-homed = p-server-below .before in
@@ -369,28 +497,28 @@ other-arm c w =
       l2Long = ap length l2Is;
       extLong = ap length extIs;
       made = (λ j. state (rIs j) (q .f .l1d) (l2Is j) (extIs j)) ∙ unhomed-of q n h eh (test .left);
-      placed = place-unhomed q n h eh (test .left) (c .if5 .place);
+      placed = place-unhomed q n h eh (test .left) (c .if9 .place);
       small = rw placeIs (search needs);
-      served = server-unhomed q n h eh (test .left) (c .if5 .server) (serverIs ∙ p-server-below .server-below .ensures);
+      served = server-unhomed q n h eh (test .left) (c .if9 .server) (serverIs ∙ p-server-below .server-below .ensures);
     }
 
-ready-made : (c : tie.Joined5 Inv-loop μ-loop) → ReadyMade c
-ready-made c = ⊎-elim (homed-arm c) (other-arm c) (c .if5 .came)
+ready-made : (c : tie.Joined9 I₂ μ₂ I₁ μ₁ I μ) → ReadyMade c
+ready-made c = ⊎-elim (homed-arm c) (other-arm c) (c .if9 .came)
 
 -- ---- the needs, in the order of the code: before the loop, and at its head
-no-answer-requires : tie.Need-no-answer-requires Inv-loop μ-loop
+no-answer-requires : tie.Need-no-answer-requires I₂ μ₂ I₁ μ₁ I μ
 no-answer-requires c κs = search needs
 
-sets-requires : tie.Need-sets-requires Inv-loop μ-loop
+sets-requires : tie.Need-sets-requires I₂ μ₂ I₁ μ₁ I μ
 sets-requires c κs = search needs
 
-sram-requires : tie.Need-sram-requires Inv-loop μ-loop
+sram-requires : tie.Need-sram-requires I₂ μ₂ I₁ μ₁ I μ
 sram-requires c κs = search needs
 
-end-of-requires : tie.Need-end-of-requires Inv-loop μ-loop
+end-of-requires : tie.Need-end-of-requires I₂ μ₂ I₁ μ₁ I μ
 end-of-requires c κs = search needs
 
-loop-holds : tie.Need-loop-holds Inv-loop μ-loop
+loop-holds : tie.Need-loop-holds I₂ μ₂ I₁ μ₁ I μ
 loop-holds c =
     let p-sram = c .before in
     let p-sets = p-sram .before in
@@ -408,25 +536,25 @@ loop-holds c =
       rest = rw e refl;
     }
 
-next-requires : tie.Need-next-requires Inv-loop μ-loop
+next-requires : tie.Need-next-requires I₂ μ₂ I₁ μ₁ I μ
 next-requires c κs = search needs
 
-stop-of-requires : tie.Need-stop-of-requires Inv-loop μ-loop
+stop-of-requires : tie.Need-stop-of-requires I₂ μ₂ I₁ μ₁ I μ
 stop-of-requires c κs = search needs
 
-same-length : tie.Need-same-length Inv-loop μ-loop
+same-length : tie.Need-same-length I₂ μ₂ I₁ μ₁ I μ
 same-length c = c .before .before .before .before .loop .inv .l1dLong
 
-same-length-2 : tie.Need-same-length-2 Inv-loop μ-loop
+same-length-2 : tie.Need-same-length-2 I₂ μ₂ I₁ μ₁ I μ
 same-length-2 c = c .before .before .before .before .loop .inv .l2Long
 
-same-length-3 : tie.Need-same-length-3 Inv-loop μ-loop
+same-length-3 : tie.Need-same-length-3 I₂ μ₂ I₁ μ₁ I μ
 same-length-3 c = c .before .before .before .before .loop .inv .extLong
 
-same-length-4 : tie.Need-same-length-4 Inv-loop μ-loop
+same-length-4 : tie.Need-same-length-4 I₂ μ₂ I₁ μ₁ I μ
 same-length-4 c = c .before .before .before .before .loop .inv .answersLong
 
-returns : tie.Need-returns Inv-loop μ-loop
+returns : tie.Need-returns I₂ μ₂ I₁ μ₁ I μ
 returns c =
     let p-stop-of = c .before in
     let p-next = p-stop-of .before in
@@ -438,42 +566,304 @@ returns c =
     (p-next .next .result) (p-next .next .ensures .same) (p-stop-of .stop-of .result) (p-stop-of .stop-of .ensures) (c .if1 .taken) (l .inv .rest)
     ∙ whole-is p-loop
 
--- ---- a command on the whole record
-carry-out-requires : tie.Need-carry-out-requires Inv-loop μ-loop
-carry-out-requires c κs = c .before .before .before .if2 .taken
+-- ---- a cache command: it begins
+begin-requires : tie.Need-begin-requires I₂ μ₂ I₁ μ₁ I μ
+begin-requires c κs = at-loop (c .before .before .before .before .before) .loop .inv .setsSmall
 
-sets-requires-2 : tie.Need-sets-requires-2 Inv-loop μ-loop
-sets-requires-2 c κs = search needs
+-- ---- the lines of an L2 command
+loop2-holds : tie.Need-loop2-holds I₂ μ₂ I₁ μ₁ I μ
+loop2-holds c = kept-none
 
-sram-requires-2 : tie.Need-sram-requires-2 Inv-loop μ-loop
-sram-requires-2 c κs = search needs
+l2-target-requires : tie.Need-l2-target-requires I₂ μ₂ I₁ μ₁ I μ
+l2-target-requires c κs =
+    let p-loop2 = c .before in
+    let p-begun = begun-l2 p-loop2 in
+    let l = at-loop (turn-begun p-begun) .loop in (
+      l .inv .setsSmall,
+      line-l2 (l .r .l2len) (l .sets) (swept p-begun) (begins p-begun) (p-loop2 .loop2 .k) (p-begun .begin .ensures) (p-loop2 .before .if4 .taken)
+          (c .loop2-test .taken),
+    )
 
-put-answer-requires : tie.Need-put-answer-requires Inv-loop μ-loop
-put-answer-requires c κs = going (turn-carried c) .room
+mul-ways : tie.Need-mul-ways I₂ μ₂ I₁ μ₁ I μ
+mul-ways c = l2-fits (c .l2-target .ensures .1 .0)
 
-add-at : tie.Need-add-at Inv-loop μ-loop
-add-at c = at-fits (turn-carried (c .before .before .before .before))
+element-copy-out-ways : tie.Need-element-copy-out-ways I₂ μ₂ I₁ μ₁ I μ
+element-copy-out-ways c = c .l2-target .ensures .1 .0
 
-add-count : tie.Need-add-count Inv-loop μ-loop
-add-count c = count-fits (turn-carried (c .before .before .before .before))
+l2-held-requires : tie.Need-l2-held-requires I₂ μ₂ I₁ μ₁ I μ
+l2-held-requires c κs =
+    let p-l2-target = c .before in
+    let inv = at-loop (turn-begun (begun-l2 (p-l2-target .before .before))) .loop .inv in
+    (p-l2-target .l2-target .ensures .1, (inv .sramSmall, inv .setsSmall))
 
-loop-less : tie.Need-loop-less Inv-loop μ-loop
-loop-less c = nearer (turn-carried (c .before .before .before .before))
+add-k : tie.Need-add-k I₂ μ₂ I₁ μ₁ I μ
+add-k c =
+    let p-turn = line-aimed (c .before .before) .before in
+    line-fits (begun-l2 (p-turn .before)) (p-turn .before .loop2 .k) (p-turn .loop2-test .taken)
 
-loop-again : tie.Need-loop-again Inv-loop μ-loop
+loop2-less : tie.Need-loop2-less I₂ μ₂ I₁ μ₁ I μ
+loop2-less c = let t = line-aimed (c .before .before) .before .loop2-test .taken in omega arith
+
+loop2-again : tie.Need-loop2-again I₂ μ₂ I₁ μ₁ I μ
+loop2-again c =
+    let p-l2-held = c .before .before in
+    let p-l2-target = line-aimed p-l2-held in
+    let p-loop2 = p-l2-target .before .before in
+    let p-begun = begun-l2 p-loop2 in
+    let l = at-loop (turn-begun p-begun) .loop in let i = p-loop2 .loop2 in
+    kept-next (i .inv) (p-l2-target .before .loop2-test .taken) (i .r) (i .l2) (i .ext) refl refl refl refl
+    (l2-off (swept p-begun .code) (swept p-begun .first) (i .k) (l .sram) (l .sets) (i .r) (l .l1d) (i .l2) (i .ext)
+    (p-l2-target .l2-target .result) (p-l2-held .l2-held .result)
+    (sram-is p-begun (i .r) (i .inv .mode) (i .inv .l2len)) (sets-are p-begun (i .r) (i .inv .mode)) (p-l2-target .l2-target .ensures .0)
+    (p-l2-held .l2-held .ensures .0) (c .if5 .taken))
+
+mul-m : tie.Need-mul-m I₂ μ₂ I₁ μ₁ I μ
+mul-m c = l1d-fits (line-known c .l2-held .ensures .1 .1 .0)
+
+element-copy-out-m : tie.Need-element-copy-out-m I₂ μ₂ I₁ μ₁ I μ
+element-copy-out-m c = line-known c .l2-held .ensures .1 .1 .0
+
+release-requires : tie.Need-release-requires I₂ μ₂ I₁ μ₁ I μ
+release-requires c κs = line-known (c .before .before .before) .l2-held .ensures .1 .0
+
+mul-ml : tie.Need-mul-ml I₂ μ₂ I₁ μ₁ I μ
+mul-ml c = l1d-fits (line-known (line-held c) .l2-held .ensures .1 .1 .0)
+
+element-set-from-ml : tie.Need-element-set-from-ml I₂ μ₂ I₁ μ₁ I μ
+element-set-from-ml c = line-known (line-held c) .l2-held .ensures .1 .1 .0
+
+mul-n : tie.Need-mul-n I₂ μ₂ I₁ μ₁ I μ
+mul-n c = l1d-fits (line-known (line-held c) .l2-held .ensures .1 .1 .1)
+
+element-copy-out-n : tie.Need-element-copy-out-n I₂ μ₂ I₁ μ₁ I μ
+element-copy-out-n c = line-known (line-held c) .l2-held .ensures .1 .1 .1
+
+release-requires-2 : tie.Need-release-requires-2 I₂ μ₂ I₁ μ₁ I μ
+release-requires-2 c κs = line-known (line-held (c .before .before .before)) .l2-held .ensures .1 .0
+
+mul-nl : tie.Need-mul-nl I₂ μ₂ I₁ μ₁ I μ
+mul-nl c = l1d-fits (line-known (line-held (line-lower c)) .l2-held .ensures .1 .1 .1)
+
+element-set-from-nl : tie.Need-element-set-from-nl I₂ μ₂ I₁ μ₁ I μ
+element-set-from-nl c = line-known (line-held (line-lower c)) .l2-held .ensures .1 .1 .1
+
+settle-requires : tie.Need-settle-requires I₂ μ₂ I₁ μ₁ I μ
+settle-requires c κs = line-held (line-lower (c .before .before)) .if5 .left
+
+mul-left : tie.Need-mul-left I₂ μ₂ I₁ μ₁ I μ
+mul-left c = l2-fits (line-aimed (line-known (line-held (line-lower (line-upper c)))) .l2-target .ensures .1 .0)
+
+element-set-from-left : tie.Need-element-set-from-left I₂ μ₂ I₁ μ₁ I μ
+element-set-from-left c = line-aimed (line-known (line-held (line-lower (line-upper c)))) .l2-target .ensures .1 .0
+
+add-k-2 : tie.Need-add-k-2 I₂ μ₂ I₁ μ₁ I μ
+add-k-2 c =
+    let p-turn = line-aimed (line-known (line-held (line-lower (line-upper c)))) .before in
+    line-fits (begun-l2 (p-turn .before)) (p-turn .before .loop2 .k) (p-turn .loop2-test .taken)
+
+loop2-less-2 : tie.Need-loop2-less-2 I₂ μ₂ I₁ μ₁ I μ
+loop2-less-2 c = let t = line-aimed (line-known (line-held (line-lower (line-upper c)))) .before .loop2-test .taken in omega arith
+
+loop2-again-2 : tie.Need-loop2-again-2 I₂ μ₂ I₁ μ₁ I μ
+loop2-again-2 c =
+    let p-settle = c .before .before in
+    let p-release2 = line-upper c .before .before .before in
+    let p-release = line-lower (line-upper c) .before .before .before in
+    let p-if5 = line-held (line-lower (line-upper c)) in
+    let p-l2-held = line-known p-if5 in
+    let p-l2-target = line-aimed p-l2-held in
+    let p-loop2 = p-l2-target .before .before in
+    let p-begun = begun-l2 p-loop2 in
+    let l = at-loop (turn-begun p-begun) .loop in let i = p-loop2 .loop2 in
+    let p = p-l2-target .l2-target .result in let h = p-l2-held .l2-held .result in
+    let h₁ = takenAs (p-release .release .result) (p-release .release .last .1 .1 .1 .1 .1 .0) in
+    let h₂ = takenAs (p-release2 .release2 .result) (p-release2 .release2 .last .1 .1 .1 .1 .1 .0) in
+    let n = settledAs (p-settle .settle .result) (p-settle .settle .last .1 .1 .1 .1 .1 .1 .0) in
+    kept-next (i .inv) (p-l2-target .before .loop2-test .taken)
+    (withSets (i .r) (set (set (i .r .l1d) (h .low) (h₁ .out .set)) (h .high) (h₂ .out .set)) (set (i .r .l2) (p .set) (n .set))) (h₂ .l2) (n .ext)
+    (p-release2 .release2 .kept .1 .1 .1 .1 .1 .0 ∙ p-release .release .kept .1 .1 .1 .1 .1 .0) (p-settle .settle .kept .1 .1 .1 .1 .1 .1 .0) refl refl
+    (l2-on (swept p-begun .code) (swept p-begun .first) (i .k) (l .sram) (l .sets) (i .r) (l .l1d) (i .l2) (i .ext) p h
+    (sram-is p-begun (i .r) (i .inv .mode) (i .inv .l2len)) (sets-are p-begun (i .r) (i .inv .mode)) (p-l2-target .l2-target .ensures .0)
+    (p-l2-held .l2-held .ensures .0) h₁ h₂ n (p-if5 .if5 .left)
+    (record { one = p-release .release .ensures; two = p-release2 .release2 .ensures; put = p-settle .settle .ensures }))
+
+-- ---- the lines of an L1D command
+loop3-holds : tie.Need-loop3-holds I₂ μ₂ I₁ μ₁ I μ
+loop3-holds c = kept-none
+
+l1d-target-requires : tie.Need-l1d-target-requires I₂ μ₂ I₁ μ₁ I μ
+l1d-target-requires c κs =
+    let p-loop3 = c .before in
+    let p-begun = begun-l1d p-loop3 in
+    let l = at-loop (turn-begun p-begun) .loop in
+    line-l1d (l .r .l2len) (l .sets) (swept p-begun) (begins p-begun) (p-loop3 .loop3 .k) (p-begun .begin .ensures) (p-loop3 .before .if4 .left)
+    (c .loop3-test .taken)
+
+mul-pair : tie.Need-mul-pair I₂ μ₂ I₁ μ₁ I μ
+mul-pair c = l1d-fits (c .l1d-target .ensures .1 .0)
+
+element-copy-out-pair : tie.Need-element-copy-out-pair I₂ μ₂ I₁ μ₁ I μ
+element-copy-out-pair c = c .l1d-target .ensures .1 .0
+
+l1d-gone-requires : tie.Need-l1d-gone-requires I₂ μ₂ I₁ μ₁ I μ
+l1d-gone-requires c κs = c .before .l1d-target .ensures .1 .1
+
+add-k-3 : tie.Need-add-k-3 I₂ μ₂ I₁ μ₁ I μ
+add-k-3 c =
+    let p-turn = c .before .before .before .before .before in
+    line-fits (begun-l1d (p-turn .before)) (p-turn .before .loop3 .k) (p-turn .loop3-test .taken)
+
+loop3-less : tie.Need-loop3-less I₂ μ₂ I₁ μ₁ I μ
+loop3-less c = let t = c .before .before .before .before .before .loop3-test .taken in omega arith
+
+loop3-again : tie.Need-loop3-again I₂ μ₂ I₁ μ₁ I μ
+loop3-again c =
+    let p-l1d-gone = c .before .before in
+    let p-l1d-target = p-l1d-gone .before .before in
+    let p-loop3 = p-l1d-target .before .before in
+    let p-begun = begun-l1d p-loop3 in
+    let l = at-loop (turn-begun p-begun) .loop in let i = p-loop3 .loop3 in
+    kept-next (i .inv) (p-l1d-target .before .loop3-test .taken) (i .r) (i .l2) (i .ext) refl refl refl refl
+    (l1d-off (swept p-begun .code) (swept p-begun .first) (i .k) (i .r) (l .l1d) (i .l2) (i .ext) (p-l1d-target .l1d-target .result)
+    (p-l1d-gone .l1d-gone .result) (p-l1d-target .l1d-target .ensures .0) (p-l1d-gone .l1d-gone .ensures .0)
+    (not-true (p-l1d-gone .l1d-gone .result .empties) (c .if6 .taken)))
+
+set-of-requires : tie.Need-set-of-requires I₂ μ₂ I₁ μ₁ I μ
+set-of-requires c κs =
+    let p-loop3 = c .before .before .before .before .before .before .before in
+    at-loop (turn-begun (begun-l1d p-loop3)) .loop .inv .setsSmall
+
+mul-home : tie.Need-mul-home I₂ μ₂ I₁ μ₁ I μ
+mul-home c = l2-fits (c .set-of .ensures .1)
+
+element-copy-out-home : tie.Need-element-copy-out-home I₂ μ₂ I₁ μ₁ I μ
+element-copy-out-home c = c .set-of .ensures .1
+
+send-home-requires : tie.Need-send-home-requires I₂ μ₂ I₁ μ₁ I μ
+send-home-requires c κs =
+    let p-set-of = c .before .before .before .before in
+    let p-l1d-gone = p-set-of .before .before .before .before in
+    let p-l1d-target = p-l1d-gone .before .before in
+    let inv = at-loop (turn-begun (begun-l1d (p-l1d-target .before .before))) .loop .inv in (
+      p-l1d-target .l1d-target .ensures .1 .0,
+      (p-l1d-gone .l1d-gone .ensures .1, (inv .sramSmall, (inv .setsSmall, p-set-of .set-of .ensures .1))),
+    )
+
+mul-sent : tie.Need-mul-sent I₂ μ₂ I₁ μ₁ I μ
+mul-sent c = l2-fits (c .before .before .before .before .before .before .before .before .before .set-of .ensures .1)
+
+element-set-from-sent : tie.Need-element-set-from-sent I₂ μ₂ I₁ μ₁ I μ
+element-set-from-sent c = c .before .before .before .before .before .before .before .before .before .set-of .ensures .1
+
+emptied-requires : tie.Need-emptied-requires I₂ μ₂ I₁ μ₁ I μ
+emptied-requires c κs = line-gone c .before .before .l1d-gone .ensures .1
+
+mul-rest : tie.Need-mul-rest I₂ μ₂ I₁ μ₁ I μ
+mul-rest c = l1d-fits (line-gone (c .before) .before .before .before .before .l1d-target .ensures .1 .0)
+
+element-set-from-rest : tie.Need-element-set-from-rest I₂ μ₂ I₁ μ₁ I μ
+element-set-from-rest c = line-gone (c .before) .before .before .before .before .l1d-target .ensures .1 .0
+
+add-k-4 : tie.Need-add-k-4 I₂ μ₂ I₁ μ₁ I μ
+add-k-4 c =
+    let p-turn = line-gone (c .before) .before .before .before .before .before in
+    line-fits (begun-l1d (p-turn .before)) (p-turn .before .loop3 .k) (p-turn .loop3-test .taken)
+
+loop3-less-2 : tie.Need-loop3-less-2 I₂ μ₂ I₁ μ₁ I μ
+loop3-less-2 c = let t = line-gone (c .before) .before .before .before .before .before .loop3-test .taken in omega arith
+
+loop3-again-2 : tie.Need-loop3-again-2 I₂ μ₂ I₁ μ₁ I μ
+loop3-again-2 c =
+    let p-send-home = c .before .before .before .before .before in
+    let p-set-of = p-send-home .before .before .before .before .before in
+    let p-if6 = line-gone (c .before) in
+    let p-l1d-gone = p-if6 .before .before in
+    let p-l1d-target = p-l1d-gone .before .before in
+    let p-loop3 = p-l1d-target .before .before in
+    let p-begun = begun-l1d p-loop3 in
+    let l = at-loop (turn-begun p-begun) .loop in let i = p-loop3 .loop3 in
+    let p = p-l1d-target .l1d-target .result in let j = p-set-of .set-of .result in
+    let s = sentAs (p-send-home .send-home .result) (p-send-home .send-home .last .1 .1 .1 .1 .1 .1 .1 .1 .0)
+    (p-send-home .send-home .last .1 .1 .1 .1 .1 .1 .1 .1 .1 .0) in
+    kept-next (i .inv) (p-l1d-target .before .loop3-test .taken) (withL1dSet (withL2Set (i .r) j (s .set)) (p .set) (c .emptied .result)) (s .l2) (s .ext)
+    (p-send-home .send-home .kept .1 .1 .1 .1 .1 .1 .1 .1 .0) (p-send-home .send-home .kept .1 .1 .1 .1 .1 .1 .1 .1 .1 .0) refl refl
+    (l1d-on (swept p-begun .code) (swept p-begun .first) (i .k) (i .r) (l .l1d) (i .l2) (i .ext) p (p-l1d-gone .l1d-gone .result)
+    (p-l1d-target .l1d-target .ensures .0) (p-l1d-gone .l1d-gone .ensures .0) (l .sram) (l .sets) j s (c .emptied .result)
+    (not-false (p-l1d-gone .l1d-gone .result .empties) (p-if6 .if6 .left))
+    (sram-is p-begun (i .r) (i .inv .mode) (i .inv .l2len)) (sets-are p-begun (i .r) (i .inv .mode)) (p-set-of .set-of .ensures .0)
+    (p-send-home .send-home .ensures) (c .emptied .ensures))
+
+-- ---- a cache command: its answer
+put-answer-requires : tie.Need-put-answer-requires I₂ μ₂ I₁ μ₁ I μ
+put-answer-requires c κs = going (turn-begun (c .before .before .before)) .room
+
+add-at : tie.Need-add-at I₂ μ₂ I₁ μ₁ I μ
+add-at c = at-fits (turn-begun (c .before .before .before .before .before .before .before))
+
+add-count : tie.Need-add-count I₂ μ₂ I₁ μ₁ I μ
+add-count c = count-fits (turn-begun (c .before .before .before .before .before .before .before))
+
+loop-less : tie.Need-loop-less I₂ μ₂ I₁ μ₁ I μ
+loop-less c = nearer (turn-begun (c .before .before .before .before .before .before .before))
+
+loop-again : tie.Need-loop-again I₂ μ₂ I₁ μ₁ I μ
 loop-again c =
     let p-put-answer = c .before .before .before in
-    let p-sram2 = p-put-answer .before .before in
+    let p-done = p-put-answer .before .before in
+    let p-begun = p-done .before .before in
+    let p-turn = turn-begun p-begun in
+    let l = at-loop p-turn .loop in let y = all-done p-done in let j = p-done .if4 in
+    record {
+      counted = going p-turn .up;
+      l1dLong = l .inv .l1dLong;
+      l2Long = y .l2Long ∙ l .inv .l2Long;
+      extLong = y .extLong ∙ l .inv .extLong;
+      answersLong = p-put-answer .put-answer .kept .0 ∙ l .inv .answersLong;
+      setsAre = sets-are p-begun (j .r) (y .mode);
+      sramIs = sram-is p-begun (j .r) (y .mode) (y .l2len);
+      setsSmall = l .inv .setsSmall;
+      sramSmall = l .inv .sramSmall;
+      rest =
+          onward p-turn (reply (begins p-begun .number) 0 0 (state (j .r) (l .l1d) (j .l2) (j .ext))) (y .done) (p-put-answer .put-answer .last .0)
+          (p-put-answer .put-answer .ensures);
+    }
+
+-- ---- a mode or MAR change
+carry-out-requires : tie.Need-carry-out-requires I₂ μ₂ I₁ μ₁ I μ
+carry-out-requires c κs = c .before .before .before .if3 .left
+
+sets-requires-2 : tie.Need-sets-requires-2 I₂ μ₂ I₁ μ₁ I μ
+sets-requires-2 c κs = search needs
+
+sram-requires-2 : tie.Need-sram-requires-2 I₂ μ₂ I₁ μ₁ I μ
+sram-requires-2 c κs = search needs
+
+put-answer-requires-2 : tie.Need-put-answer-requires-2 I₂ μ₂ I₁ μ₁ I μ
+put-answer-requires-2 c κs = going (turn-carried c) .room
+
+add-at-2 : tie.Need-add-at-2 I₂ μ₂ I₁ μ₁ I μ
+add-at-2 c = at-fits (turn-carried (c .before .before .before .before))
+
+add-count-2 : tie.Need-add-count-2 I₂ μ₂ I₁ μ₁ I μ
+add-count-2 c = count-fits (turn-carried (c .before .before .before .before))
+
+loop-less-2 : tie.Need-loop-less-2 I₂ μ₂ I₁ μ₁ I μ
+loop-less-2 c = nearer (turn-carried (c .before .before .before .before))
+
+loop-again-2 : tie.Need-loop-again-2 I₂ μ₂ I₁ μ₁ I μ
+loop-again-2 c =
+    let p-put-answer2 = c .before .before .before in
+    let p-sram2 = p-put-answer2 .before .before in
     let p-sets2 = p-sram2 .before in
     let p-carry-out = p-sets2 .before .before .before .before .before .before in
-    let p-turn = turn-carried (p-put-answer .before) in
+    let p-turn = turn-carried (p-put-answer2 .before) in
     let l = at-loop p-turn .loop in let g = going p-turn in let o = p-carry-out .carry-out .result in
     record {
       counted = g .up;
       l1dLong = l .inv .l1dLong;
       l2Long = p-carry-out .carry-out .kept .1 .1 .1 .0 ∙ l .inv .l2Long;
       extLong = p-carry-out .carry-out .kept .1 .1 .1 .1 .0 ∙ l .inv .extLong;
-      answersLong = p-put-answer .put-answer .kept .0 ∙ l .inv .answersLong;
+      answersLong = p-put-answer2 .put-answer2 .kept .0 ∙ l .inv .answersLong;
       setsAre = p-sets2 .sets2 .ensures .0;
       sramIs = p-sram2 .sram2 .ensures .0;
       setsSmall = p-sets2 .sets2 .ensures .1;
@@ -482,254 +872,254 @@ loop-again c =
           onward p-turn
           (reply (o .number) 0 0 (state (o .«record») (l .l1d) (p-carry-out .carry-out .last .1 .1 .1 .0)
           (p-carry-out .carry-out .last .1 .1 .1 .1 .0)))
-          (p-carry-out .carry-out .ensures) (p-put-answer .put-answer .last .0) (p-put-answer .put-answer .ensures);
+          (p-carry-out .carry-out .ensures) (p-put-answer2 .put-answer2 .last .0) (p-put-answer2 .put-answer2 .ensures);
     }
 
 -- ---- a read or write: the front
-is-write-requires : tie.Need-is-write-requires Inv-loop μ-loop
+is-write-requires : tie.Need-is-write-requires I₂ μ₂ I₁ μ₁ I μ
 is-write-requires c κs = search needs
 
-cast-access-due : tie.Need-cast-access-due Inv-loop μ-loop
+cast-access-due : tie.Need-cast-access-due I₂ μ₂ I₁ μ₁ I μ
 cast-access-due c = let n = at-loop (c .before .before .before .before) .loop .inv .sramSmall in omega arith
 
-checked-requires : tie.Need-checked-requires Inv-loop μ-loop
+checked-requires : tie.Need-checked-requires I₂ μ₂ I₁ μ₁ I μ
 checked-requires c κs = search needs
 
-access-due-requires : tie.Need-access-due-requires Inv-loop μ-loop
+access-due-requires : tie.Need-access-due-requires I₂ μ₂ I₁ μ₁ I μ
 access-due-requires c κs = search needs
 
-set-of-requires : tie.Need-set-of-requires Inv-loop μ-loop
-set-of-requires c κs = search needs
+set-of-requires-2 : tie.Need-set-of-requires-2 I₂ μ₂ I₁ μ₁ I μ
+set-of-requires-2 c κs = search needs
 
-mul-s : tie.Need-mul-s Inv-loop μ-loop
-mul-s c = l1d-fits (c .set-of .ensures .1)
+mul-s : tie.Need-mul-s I₂ μ₂ I₁ μ₁ I μ
+mul-s c = l1d-fits (c .set-of2 .ensures .1)
 
-element-copy-out-s : tie.Need-element-copy-out-s Inv-loop μ-loop
-element-copy-out-s c = c .set-of .ensures .1
+element-copy-out-s : tie.Need-element-copy-out-s I₂ μ₂ I₁ μ₁ I μ
+element-copy-out-s c = c .set-of2 .ensures .1
 
-is-cached-requires : tie.Need-is-cached-requires Inv-loop μ-loop
+is-cached-requires : tie.Need-is-cached-requires I₂ μ₂ I₁ μ₁ I μ
 is-cached-requires c κs = search needs
 
-front-requires : tie.Need-front-requires Inv-loop μ-loop
+front-requires : tie.Need-front-requires I₂ μ₂ I₁ μ₁ I μ
 front-requires c κs =
     let p-set = c .before .before .before .before in
     let p-access-due = p-set .before in
-    (p-set .set-of .ensures .1, λ k. size-known _ _ _ _ _ (sym (p-access-due .access-due .ensures) ∙ k))
+    (p-set .set-of2 .ensures .1, λ k. size-known _ _ _ _ _ (sym (p-access-due .access-due .ensures) ∙ k))
 
-mul-fs : tie.Need-mul-fs Inv-loop μ-loop
-mul-fs c = l1d-fits (at-set (c .before .before .before .before .before .before) .set-of .ensures .1)
+mul-fs : tie.Need-mul-fs I₂ μ₂ I₁ μ₁ I μ
+mul-fs c = l1d-fits (at-set (c .before .before .before .before .before .before) .set-of2 .ensures .1)
 
-element-set-from-fs : tie.Need-element-set-from-fs Inv-loop μ-loop
-element-set-from-fs c = at-set (c .before .before .before .before .before .before) .set-of .ensures .1
+element-set-from-fs : tie.Need-element-set-from-fs I₂ μ₂ I₁ μ₁ I μ
+element-set-from-fs c = at-set (c .before .before .before .before .before .before) .set-of2 .ensures .1
 
-put-answer-requires-2 : tie.Need-put-answer-requires-2 Inv-loop μ-loop
-put-answer-requires-2 c κs = going (turn-fronted c) .room
+put-answer-requires-3 : tie.Need-put-answer-requires-3 I₂ μ₂ I₁ μ₁ I μ
+put-answer-requires-3 c κs = going (turn-fronted c) .room
 
-add-at-2 : tie.Need-add-at-2 Inv-loop μ-loop
-add-at-2 c = at-fits (turn-fronted (c .before .before .before .before))
+add-at-3 : tie.Need-add-at-3 I₂ μ₂ I₁ μ₁ I μ
+add-at-3 c = at-fits (turn-fronted (c .before .before .before .before))
 
-add-count-2 : tie.Need-add-count-2 Inv-loop μ-loop
-add-count-2 c = count-fits (turn-fronted (c .before .before .before .before))
+add-count-3 : tie.Need-add-count-3 I₂ μ₂ I₁ μ₁ I μ
+add-count-3 c = count-fits (turn-fronted (c .before .before .before .before))
 
-loop-less-2 : tie.Need-loop-less-2 Inv-loop μ-loop
-loop-less-2 c = nearer (turn-fronted (c .before .before .before .before))
+loop-less-3 : tie.Need-loop-less-3 I₂ μ₂ I₁ μ₁ I μ
+loop-less-3 c = nearer (turn-fronted (c .before .before .before .before))
 
-loop-again-2 : tie.Need-loop-again-2 Inv-loop μ-loop
-loop-again-2 c =
-    let p-put-answer2 = c .before .before .before in
-    let p-if3 = p-put-answer2 .before .before .before .before in
-    let p-front = p-if3 .before .before .before .before .before in
-    let p-turn = turn-fronted (p-put-answer2 .before) in
+loop-again-3 : tie.Need-loop-again-3 I₂ μ₂ I₁ μ₁ I μ
+loop-again-3 c =
+    let p-put-answer3 = c .before .before .before in
+    let p-if7 = p-put-answer3 .before .before .before .before in
+    let p-front = p-if7 .before .before .before .before .before in
+    let p-turn = turn-fronted (p-put-answer3 .before) in
     let l = at-loop p-turn .loop in let g = going p-turn in let f = p-front .front .result in
     record {
       counted = g .up;
       l1dLong = p-front .front .kept .1 .1 .1 .1 .1 .0 ∙ l .inv .l1dLong;
       l2Long = l .inv .l2Long;
       extLong = p-front .front .kept .1 .1 .1 .1 .1 .1 .0 ∙ l .inv .extLong;
-      answersLong = p-put-answer2 .put-answer2 .kept .0 ∙ l .inv .answersLong;
+      answersLong = p-put-answer3 .put-answer3 .kept .0 ∙ l .inv .answersLong;
       setsAre = l .inv .setsAre;
       sramIs = l .inv .sramIs;
       setsSmall = l .inv .setsSmall;
       sramSmall = l .inv .sramSmall;
       rest = onward p-turn (reply (f .answer .number) (f .answer .server) (f .answer .value)
-          (state (withL1dSet (l .r) (at-set p-front .set-of .result) (f .set)) (frontL1d p-front) (l .l2) (frontExt p-front)))
-          (front-of (asked p-front) (p-if3 .if3 .taken)) (p-put-answer2 .put-answer2 .last .0) (p-put-answer2 .put-answer2 .ensures);
+          (state (withL1dSet (l .r) (at-set p-front .set-of2 .result) (f .set)) (frontL1d p-front) (l .l2) (frontExt p-front)))
+          (front-of (asked p-front) (p-if7 .if7 .taken)) (p-put-answer3 .put-answer3 .last .0) (p-put-answer3 .put-answer3 .ensures);
     }
 
 -- ---- a miss: room in L1D
-leaving-requires : tie.Need-leaving-requires Inv-loop μ-loop
+leaving-requires : tie.Need-leaving-requires I₂ μ₂ I₁ μ₁ I μ
 leaving-requires c κs = search needs
 
-goes-inside-requires : tie.Need-goes-inside-requires Inv-loop μ-loop
+goes-inside-requires : tie.Need-goes-inside-requires I₂ μ₂ I₁ μ₁ I μ
 goes-inside-requires c κs = search needs
 
-set-of-requires-2 : tie.Need-set-of-requires-2 Inv-loop μ-loop
-set-of-requires-2 c κs = loop-of-front (at-front (c .before .before .before)) .loop .inv .setsSmall
+set-of-requires-3 : tie.Need-set-of-requires-3 I₂ μ₂ I₁ μ₁ I μ
+set-of-requires-3 c κs = loop-of-front (at-front (c .before .before .before)) .loop .inv .setsSmall
 
-mul-hv : tie.Need-mul-hv Inv-loop μ-loop
-mul-hv c = l2-fits (c .set-of2 .ensures .1)
+mul-hv : tie.Need-mul-hv I₂ μ₂ I₁ μ₁ I μ
+mul-hv c = l2-fits (c .set-of3 .ensures .1)
 
-element-copy-out-hv : tie.Need-element-copy-out-hv Inv-loop μ-loop
-element-copy-out-hv c = c .set-of2 .ensures .1
+element-copy-out-hv : tie.Need-element-copy-out-hv I₂ μ₂ I₁ μ₁ I μ
+element-copy-out-hv c = c .set-of3 .ensures .1
 
-send-inside-requires : tie.Need-send-inside-requires Inv-loop μ-loop
+send-inside-requires : tie.Need-send-inside-requires I₂ μ₂ I₁ μ₁ I μ
 send-inside-requires c κs =
-    let p-set-of2 = c .before .before .before in
-    let p-leaving = p-set-of2 .before .before .before .before in
+    let p-set-of3 = c .before .before .before in
+    let p-leaving = p-set-of3 .before .before .before .before in
     let p-front = at-front p-leaving in
     let inv = loop-of-front p-front .loop .inv in
-    (at-set p-front .set-of .ensures .1, (p-leaving .leaving .ensures .1, (inv .sramSmall, (inv .setsSmall, p-set-of2 .set-of2 .ensures .1))))
+    (at-set p-front .set-of2 .ensures .1, (p-leaving .leaving .ensures .1, (inv .sramSmall, (inv .setsSmall, p-set-of3 .set-of3 .ensures .1))))
 
-mul-hu : tie.Need-mul-hu Inv-loop μ-loop
-mul-hu c = l2-fits (c .before .before .before .before .before .before .set-of2 .ensures .1)
+mul-hu : tie.Need-mul-hu I₂ μ₂ I₁ μ₁ I μ
+mul-hu c = l2-fits (c .before .before .before .before .before .before .set-of3 .ensures .1)
 
-element-set-from-hu : tie.Need-element-set-from-hu Inv-loop μ-loop
-element-set-from-hu c = c .before .before .before .before .before .before .set-of2 .ensures .1
+element-set-from-hu : tie.Need-element-set-from-hu I₂ μ₂ I₁ μ₁ I μ
+element-set-from-hu c = c .before .before .before .before .before .before .set-of3 .ensures .1
 
-send-below-requires : tie.Need-send-below-requires Inv-loop μ-loop
+send-below-requires : tie.Need-send-below-requires I₂ μ₂ I₁ μ₁ I μ
 send-below-requires c κs =
     let p-leaving = at-leaving (c .before .before .before) in
-    (at-set (at-front p-leaving) .set-of .ensures .1, p-leaving .leaving .ensures .1)
+    (at-set (at-front p-leaving) .set-of2 .ensures .1, p-leaving .leaving .ensures .1)
 
-emptied-requires : tie.Need-emptied-requires Inv-loop μ-loop
-emptied-requires c κs = at-leaving (at-left (c .before .before .before .before)) .leaving .ensures .1
+emptied-requires-2 : tie.Need-emptied-requires-2 I₂ μ₂ I₁ μ₁ I μ
+emptied-requires-2 c κs = at-leaving (at-left (c .before .before .before .before)) .leaving .ensures .1
 
-mul-se : tie.Need-mul-se Inv-loop μ-loop
-mul-se c = l1d-fits (at-set (front-of-room c) .set-of .ensures .1)
+mul-se : tie.Need-mul-se I₂ μ₂ I₁ μ₁ I μ
+mul-se c = l1d-fits (at-set (front-of-room c) .set-of2 .ensures .1)
 
-element-set-from-se : tie.Need-element-set-from-se Inv-loop μ-loop
-element-set-from-se c = at-set (front-of-room c) .set-of .ensures .1
+element-set-from-se : tie.Need-element-set-from-se I₂ μ₂ I₁ μ₁ I μ
+element-set-from-se c = at-set (front-of-room c) .set-of2 .ensures .1
 
 -- ---- a miss: L2 made ready, where it is the home
-homed-requires : tie.Need-homed-requires Inv-loop μ-loop
+homed-requires : tie.Need-homed-requires I₂ μ₂ I₁ μ₁ I μ
 homed-requires c κs = search needs
 
-server-below-requires : tie.Need-server-below-requires Inv-loop μ-loop
+server-below-requires : tie.Need-server-below-requires I₂ μ₂ I₁ μ₁ I μ
 server-below-requires c κs = search needs
 
-set-of-requires-3 : tie.Need-set-of-requires-3 Inv-loop μ-loop
-set-of-requires-3 c κs = loop-of-front (front-of-room (c .before .before .before)) .loop .inv .setsSmall
+set-of-requires-4 : tie.Need-set-of-requires-4 I₂ μ₂ I₁ μ₁ I μ
+set-of-requires-4 c κs = loop-of-front (front-of-room (c .before .before .before)) .loop .inv .setsSmall
 
-mul-u : tie.Need-mul-u Inv-loop μ-loop
-mul-u c = l2-fits (c .set-of3 .ensures .1)
+mul-u : tie.Need-mul-u I₂ μ₂ I₁ μ₁ I μ
+mul-u c = l2-fits (c .set-of4 .ensures .1)
 
-element-copy-out-u : tie.Need-element-copy-out-u Inv-loop μ-loop
-element-copy-out-u c = c .set-of3 .ensures .1
+element-copy-out-u : tie.Need-element-copy-out-u I₂ μ₂ I₁ μ₁ I μ
+element-copy-out-u c = c .set-of4 .ensures .1
 
-choose-requires : tie.Need-choose-requires Inv-loop μ-loop
+choose-requires : tie.Need-choose-requires I₂ μ₂ I₁ μ₁ I μ
 choose-requires c κs = search needs
 
-data-at-requires : tie.Need-data-at-requires Inv-loop μ-loop
+data-at-requires : tie.Need-data-at-requires I₂ μ₂ I₁ μ₁ I μ
 data-at-requires c κs =
     let p-choose = c .before in
-    let p-set-of3 = p-choose .before .before in
-    let p-room = p-set-of3 .before .before .before .before in
+    let p-set-of4 = p-choose .before .before in
+    let p-room = p-set-of4 .before .before .before .before in
     let inv = loop-of-front (front-of-room p-room) .loop .inv in
-    (inv .sramSmall, (inv .setsSmall, (p-set-of3 .set-of3 .ensures .1, p-choose .choose .ensures .1)))
+    (inv .sramSmall, (inv .setsSmall, (p-set-of4 .set-of4 .ensures .1, p-choose .choose .ensures .1)))
 
-set-of-requires-4 : tie.Need-set-of-requires-4 Inv-loop μ-loop
-set-of-requires-4 c κs = search needs
-
-mul-g : tie.Need-mul-g Inv-loop μ-loop
-mul-g c = l1d-fits (c .set-of4 .ensures .1)
-
-element-copy-out-g : tie.Need-element-copy-out-g Inv-loop μ-loop
-element-copy-out-g c = c .set-of4 .ensures .1
-
-take-half-requires : tie.Need-take-half-requires Inv-loop μ-loop
-take-half-requires c κs = c .before .before .before .before .data-at .ensures .1
-
-mul-xs : tie.Need-mul-xs Inv-loop μ-loop
-mul-xs c = l1d-fits (at-low c .set-of4 .ensures .1)
-
-element-set-from-xs : tie.Need-element-set-from-xs Inv-loop μ-loop
-element-set-from-xs c = at-low c .set-of4 .ensures .1
-
-upper-half-requires : tie.Need-upper-half-requires Inv-loop μ-loop
-upper-half-requires c κs = search needs
-
-set-of-requires-5 : tie.Need-set-of-requires-5 Inv-loop μ-loop
+set-of-requires-5 : tie.Need-set-of-requires-5 I₂ μ₂ I₁ μ₁ I μ
 set-of-requires-5 c κs = search needs
 
-mul-g2 : tie.Need-mul-g2 Inv-loop μ-loop
-mul-g2 c = l1d-fits (c .set-of5 .ensures .1)
+mul-g : tie.Need-mul-g I₂ μ₂ I₁ μ₁ I μ
+mul-g c = l1d-fits (c .set-of5 .ensures .1)
 
-element-copy-out-g2 : tie.Need-element-copy-out-g2 Inv-loop μ-loop
-element-copy-out-g2 c = c .set-of5 .ensures .1
+element-copy-out-g : tie.Need-element-copy-out-g I₂ μ₂ I₁ μ₁ I μ
+element-copy-out-g c = c .set-of5 .ensures .1
 
-take-half-requires-2 : tie.Need-take-half-requires-2 Inv-loop μ-loop
+take-half-requires : tie.Need-take-half-requires I₂ μ₂ I₁ μ₁ I μ
+take-half-requires c κs = c .before .before .before .before .data-at .ensures .1
+
+mul-xs : tie.Need-mul-xs I₂ μ₂ I₁ μ₁ I μ
+mul-xs c = l1d-fits (at-low c .set-of5 .ensures .1)
+
+element-set-from-xs : tie.Need-element-set-from-xs I₂ μ₂ I₁ μ₁ I μ
+element-set-from-xs c = at-low c .set-of5 .ensures .1
+
+upper-half-requires : tie.Need-upper-half-requires I₂ μ₂ I₁ μ₁ I μ
+upper-half-requires c κs = search needs
+
+set-of-requires-6 : tie.Need-set-of-requires-6 I₂ μ₂ I₁ μ₁ I μ
+set-of-requires-6 c κs = search needs
+
+mul-g2 : tie.Need-mul-g2 I₂ μ₂ I₁ μ₁ I μ
+mul-g2 c = l1d-fits (c .set-of6 .ensures .1)
+
+element-copy-out-g2 : tie.Need-element-copy-out-g2 I₂ μ₂ I₁ μ₁ I μ
+element-copy-out-g2 c = c .set-of6 .ensures .1
+
+take-half-requires-2 : tie.Need-take-half-requires-2 I₂ μ₂ I₁ μ₁ I μ
 take-half-requires-2 c κs = at-low (c .before .before .before .before .before) .before .data-at .ensures .1
 
-mul-ys : tie.Need-mul-ys Inv-loop μ-loop
-mul-ys c = l1d-fits (at-high c .set-of5 .ensures .1)
+mul-ys : tie.Need-mul-ys I₂ μ₂ I₁ μ₁ I μ
+mul-ys c = l1d-fits (at-high c .set-of6 .ensures .1)
 
-element-set-from-ys : tie.Need-element-set-from-ys Inv-loop μ-loop
-element-set-from-ys c = at-high c .set-of5 .ensures .1
+element-set-from-ys : tie.Need-element-set-from-ys I₂ μ₂ I₁ μ₁ I μ
+element-set-from-ys c = at-high c .set-of6 .ensures .1
 
-goes-out-requires : tie.Need-goes-out-requires Inv-loop μ-loop
+goes-out-requires : tie.Need-goes-out-requires I₂ μ₂ I₁ μ₁ I μ
 goes-out-requires c κs = search needs
 
-bring-requires : tie.Need-bring-requires Inv-loop μ-loop
+bring-requires : tie.Need-bring-requires I₂ μ₂ I₁ μ₁ I μ
 bring-requires c κs = at-choice (c .before .before .before) .choose .ensures .1
 
-mul-b : tie.Need-mul-b Inv-loop μ-loop
-mul-b c = l2-fits (at-choice (c .before .before .before .before .before .before .before .before) .before .before .set-of3 .ensures .1)
+mul-b : tie.Need-mul-b I₂ μ₂ I₁ μ₁ I μ
+mul-b c = l2-fits (at-choice (c .before .before .before .before .before .before .before .before) .before .before .set-of4 .ensures .1)
 
-element-set-from-b : tie.Need-element-set-from-b Inv-loop μ-loop
-element-set-from-b c = at-choice (c .before .before .before .before .before .before .before .before) .before .before .set-of3 .ensures .1
+element-set-from-b : tie.Need-element-set-from-b I₂ μ₂ I₁ μ₁ I μ
+element-set-from-b c = at-choice (c .before .before .before .before .before .before .before .before) .before .before .set-of4 .ensures .1
 
-server-of-requires : tie.Need-server-of-requires Inv-loop μ-loop
+server-of-requires : tie.Need-server-of-requires I₂ μ₂ I₁ μ₁ I μ
 server-of-requires c κs = search needs
 
 -- ---- a miss: the access itself
-mul-v : tie.Need-mul-v Inv-loop μ-loop
-mul-v c = l1d-fits (at-set (front-of-room (at-room c)) .set-of .ensures .1)
+mul-v : tie.Need-mul-v I₂ μ₂ I₁ μ₁ I μ
+mul-v c = l1d-fits (at-set (front-of-room (at-room c)) .set-of2 .ensures .1)
 
-element-copy-out-v : tie.Need-element-copy-out-v Inv-loop μ-loop
-element-copy-out-v c = at-set (front-of-room (at-room c)) .set-of .ensures .1
+element-copy-out-v : tie.Need-element-copy-out-v I₂ μ₂ I₁ μ₁ I μ
+element-copy-out-v c = at-set (front-of-room (at-room c)) .set-of2 .ensures .1
 
-finish-requires : tie.Need-finish-requires Inv-loop μ-loop
+finish-requires : tie.Need-finish-requires I₂ μ₂ I₁ μ₁ I μ
 finish-requires c κs =
     let p-ready = c .before .before .before .before in
     let p-room = at-room p-ready in
     let p-leaving = at-leaving (at-left (at-below p-room)) in
     let p-front = front-of-room p-room in
-    (at-set p-front .set-of .ensures .1, (p-leaving .leaving .ensures .1, (ready-made p-ready .small, size-of (asked p-front) (roomed p-room))))
+    (at-set p-front .set-of2 .ensures .1, (p-leaving .leaving .ensures .1, (ready-made p-ready .small, size-of (asked p-front) (roomed p-room))))
 
-mul-ns : tie.Need-mul-ns Inv-loop μ-loop
-mul-ns c = l1d-fits (at-set (front-of-room (at-room (at-ready (c .before .before .before .before .before .before .before)))) .set-of .ensures .1)
+mul-ns : tie.Need-mul-ns I₂ μ₂ I₁ μ₁ I μ
+mul-ns c = l1d-fits (at-set (front-of-room (at-room (at-ready (c .before .before .before .before .before .before .before)))) .set-of2 .ensures .1)
 
-element-set-from-ns : tie.Need-element-set-from-ns Inv-loop μ-loop
-element-set-from-ns c = at-set (front-of-room (at-room (at-ready (c .before .before .before .before .before .before .before)))) .set-of .ensures .1
+element-set-from-ns : tie.Need-element-set-from-ns I₂ μ₂ I₁ μ₁ I μ
+element-set-from-ns c = at-set (front-of-room (at-room (at-ready (c .before .before .before .before .before .before .before)))) .set-of2 .ensures .1
 
-put-answer-requires-3 : tie.Need-put-answer-requires-3 Inv-loop μ-loop
-put-answer-requires-3 c κs = going (turn-missed c) .room
+put-answer-requires-4 : tie.Need-put-answer-requires-4 I₂ μ₂ I₁ μ₁ I μ
+put-answer-requires-4 c κs = going (turn-missed c) .room
 
-add-at-3 : tie.Need-add-at-3 Inv-loop μ-loop
-add-at-3 c = at-fits (turn-missed (c .before .before .before .before))
+add-at-4 : tie.Need-add-at-4 I₂ μ₂ I₁ μ₁ I μ
+add-at-4 c = at-fits (turn-missed (c .before .before .before .before))
 
-add-count-3 : tie.Need-add-count-3 Inv-loop μ-loop
-add-count-3 c = count-fits (turn-missed (c .before .before .before .before))
+add-count-4 : tie.Need-add-count-4 I₂ μ₂ I₁ μ₁ I μ
+add-count-4 c = count-fits (turn-missed (c .before .before .before .before))
 
-loop-less-3 : tie.Need-loop-less-3 Inv-loop μ-loop
-loop-less-3 c = nearer (turn-missed (c .before .before .before .before))
+loop-less-4 : tie.Need-loop-less-4 I₂ μ₂ I₁ μ₁ I μ
+loop-less-4 c = nearer (turn-missed (c .before .before .before .before))
 
-loop-again-3 : tie.Need-loop-again-3 Inv-loop μ-loop
-loop-again-3 c =
-    let p-put-answer3 = c .before .before .before in
-    let p-ns = p-put-answer3 .before .before in
+loop-again-4 : tie.Need-loop-again-4 I₂ μ₂ I₁ μ₁ I μ
+loop-again-4 c =
+    let p-put-answer4 = c .before .before .before in
+    let p-ns = p-put-answer4 .before .before in
     let p-finish = p-ns .before .before .before .before .before .before .before in
     let p-ready = at-ready p-finish in
     let p-homed = p-ready .before .before in
     let p-room = at-room p-ready in
     let p-below = at-below p-room in
     let p-front = front-of-room p-room in
-    let p-turn = turn-missed (p-put-answer3 .before) in
+    let p-turn = turn-missed (p-put-answer4 .before) in
     let l = at-loop p-turn .loop in
     let g = going p-turn in
     let m = room-made p-room in
     let y = ready-made p-ready in
-    let j = p-ready .if5 in
+    let j = p-ready .if9 in
     let v = p-finish .finish .result in
     let mode = y .mode ∙ m .mode in let l2len = y .l2len ∙ m .l2len in
     let x = finishedAs v (p-finish .finish .last .1 .1 .1 .1 .1 .1 .0) (p-finish .finish .last .1 .1 .1 .1 .1 .1 .1 .0)
@@ -741,33 +1131,33 @@ loop-again-3 c =
       extLong =
           p-finish .finish .kept .1 .1 .1 .1 .1 .1 .1 .1 .0 ∙ y .extLong ∙ p-below .send-below .kept .1 .1 .1 .1 .1 .1 .0
           ∙ p-front .front .kept .1 .1 .1 .1 .1 .1 .0 ∙ l .inv .extLong;
-      answersLong = p-put-answer3 .put-answer3 .kept .0 ∙ l .inv .answersLong;
+      answersLong = p-put-answer4 .put-answer4 .kept .0 ∙ l .inv .answersLong;
       setsAre = l .inv .setsAre ∙ ap l2Sets (sym mode);
       sramIs = l .inv .sramIs ∙ (λ i. sramLength (sym l2len i) (sym mode i));
       setsSmall = l .inv .setsSmall;
       sramSmall = l .inv .sramSmall;
       rest =
           onward p-turn
-          (reply 0 (j .server) (v .value) (state (withL1dSet (j .r) (at-set p-front .set-of .result) (v .set)) (x .l1d) (x .l2) (x .ext)))
+          (reply 0 (j .server) (v .value) (state (withL1dSet (j .r) (at-set p-front .set-of2 .result) (v .set)) (x .l1d) (x .l2) (x .ext)))
           (miss-of (asked p-front) (roomed p-room) (p-homed .homed .result) (p-homed .homed .ensures) (j .r) (j .l2) (j .ext)
           (y .mode) (y .l2len) (y .made) (j .place) (j .server) (y .placed) (y .served) x (p-finish .finish .ensures))
-          (p-put-answer3 .put-answer3 .last .0) (p-put-answer3 .put-answer3 .ensures);
+          (p-put-answer4 .put-answer4 .last .0) (p-put-answer4 .put-answer4 .ensures);
     }
 
 -- ---- the end is reached
-same-length-5 : tie.Need-same-length-5 Inv-loop μ-loop
+same-length-5 : tie.Need-same-length-5 I₂ μ₂ I₁ μ₁ I μ
 same-length-5 c = c .before .loop .inv .l1dLong
 
-same-length-6 : tie.Need-same-length-6 Inv-loop μ-loop
+same-length-6 : tie.Need-same-length-6 I₂ μ₂ I₁ μ₁ I μ
 same-length-6 c = c .before .loop .inv .l2Long
 
-same-length-7 : tie.Need-same-length-7 Inv-loop μ-loop
+same-length-7 : tie.Need-same-length-7 I₂ μ₂ I₁ μ₁ I μ
 same-length-7 c = c .before .loop .inv .extLong
 
-same-length-8 : tie.Need-same-length-8 Inv-loop μ-loop
+same-length-8 : tie.Need-same-length-8 I₂ μ₂ I₁ μ₁ I μ
 same-length-8 c = c .before .loop .inv .answersLong
 
-returns-2 : tie.Need-returns-2 Inv-loop μ-loop
+returns-2 : tie.Need-returns-2 I₂ μ₂ I₁ μ₁ I μ
 returns-2 c =
     let p-loop = c .before in
     let l = p-loop .loop in
@@ -779,8 +1169,12 @@ pub execute-spec : {M : Type 1} → statement M
 execute-spec =
     tie.close
     (tie.spec
-    Inv-loop
-    μ-loop
+    I₂
+    μ₂
+    I₁
+    μ₁
+    I
+    μ
     no-answer-requires
     sets-requires
     sram-requires
@@ -793,57 +1187,107 @@ execute-spec =
     same-length-3
     same-length-4
     returns
-    carry-out-requires
-    sets-requires-2
-    sram-requires-2
+    begin-requires
+    loop2-holds
+    l2-target-requires
+    mul-ways
+    element-copy-out-ways
+    l2-held-requires
+    add-k
+    loop2-less
+    loop2-again
+    mul-m
+    element-copy-out-m
+    release-requires
+    mul-ml
+    element-set-from-ml
+    mul-n
+    element-copy-out-n
+    release-requires-2
+    mul-nl
+    element-set-from-nl
+    settle-requires
+    mul-left
+    element-set-from-left
+    add-k-2
+    loop2-less-2
+    loop2-again-2
+    loop3-holds
+    l1d-target-requires
+    mul-pair
+    element-copy-out-pair
+    l1d-gone-requires
+    add-k-3
+    loop3-less
+    loop3-again
+    set-of-requires
+    mul-home
+    element-copy-out-home
+    send-home-requires
+    mul-sent
+    element-set-from-sent
+    emptied-requires
+    mul-rest
+    element-set-from-rest
+    add-k-4
+    loop3-less-2
+    loop3-again-2
     put-answer-requires
     add-at
     add-count
     loop-less
     loop-again
+    carry-out-requires
+    sets-requires-2
+    sram-requires-2
+    put-answer-requires-2
+    add-at-2
+    add-count-2
+    loop-less-2
+    loop-again-2
     is-write-requires
     cast-access-due
     checked-requires
     access-due-requires
-    set-of-requires
+    set-of-requires-2
     mul-s
     element-copy-out-s
     is-cached-requires
     front-requires
     mul-fs
     element-set-from-fs
-    put-answer-requires-2
-    add-at-2
-    add-count-2
-    loop-less-2
-    loop-again-2
+    put-answer-requires-3
+    add-at-3
+    add-count-3
+    loop-less-3
+    loop-again-3
     leaving-requires
     goes-inside-requires
-    set-of-requires-2
+    set-of-requires-3
     mul-hv
     element-copy-out-hv
     send-inside-requires
     mul-hu
     element-set-from-hu
     send-below-requires
-    emptied-requires
+    emptied-requires-2
     mul-se
     element-set-from-se
     homed-requires
     server-below-requires
-    set-of-requires-3
+    set-of-requires-4
     mul-u
     element-copy-out-u
     choose-requires
     data-at-requires
-    set-of-requires-4
+    set-of-requires-5
     mul-g
     element-copy-out-g
     take-half-requires
     mul-xs
     element-set-from-xs
     upper-half-requires
-    set-of-requires-5
+    set-of-requires-6
     mul-g2
     element-copy-out-g2
     take-half-requires-2
@@ -859,11 +1303,11 @@ execute-spec =
     finish-requires
     mul-ns
     element-set-from-ns
-    put-answer-requires-3
-    add-at-3
-    add-count-3
-    loop-less-3
-    loop-again-3
+    put-answer-requires-4
+    add-at-4
+    add-count-4
+    loop-less-4
+    loop-again-4
     same-length-5
     same-length-6
     same-length-7

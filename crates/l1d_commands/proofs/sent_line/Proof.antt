@@ -10,16 +10,12 @@ returns : tie.Need-returns
 unfolding sentLine
 returns c = rw (eq-eqb _ _ (c .if1 .taken)) refl
 
-returns-2 : tie.Need-returns-2
-unfolding sentLine
-returns-2 c = rw (ne-eqb _ _ (c .before .if1 .left), eq-eqb _ _ (c .if2 .taken)) refl
-
 empty-line-requires : tie.Need-empty-line-requires
 empty-line-requires c κs = search needs
 
-returns-3 : tie.Need-returns-3
+returns-2 : tie.Need-returns-2
 unfolding sentLine
-returns-3 c = rw (ne-eqb _ _ (c .before .before .if1 .left), ne-eqb _ _ (c .before .if2 .left)) (c .empty-line .ensures)
+returns-2 c = rw (ne-eqb _ _ (c .before .if1 .left)) (c .empty-line .ensures)
 
 pub sent-line-spec : {M : Type 1} → statement M
-sent-line-spec = tie.close (tie.spec returns returns-2 empty-line-requires returns-3)
+sent-line-spec = tie.close (tie.spec returns empty-line-requires returns-2)

@@ -23,7 +23,7 @@ returns-2 : tie.Need-returns-2
 unfolding release
 returns-2 c =
     let p-take-half = c .before .before in
-    let p-if1 = p-take-half .before .before in
+    let p-if1 = p-take-half .before .before .before in
     rw (ne-eqb _ _ (p-if1 .if1 .left)) (p-take-half .take-half .ensures)
 
 pub release-spec : {M : Type 1} → statement M
