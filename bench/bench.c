@@ -460,6 +460,19 @@ static void mixed(struct trace *t)
     }
 }
 
+/* Sixteen lines are read and written, then a block command goes over them, from block to block. */
+static void swept(struct trace *t, uint8_t code)
+{
+    clear(t);
+    for (uint32_t b = 0; t->count < COMMANDS; b = (b + 1024) % 65536) {
+        for (uint32_t a = b; a < b + 1024; a += 64) {
+            put(t, 0, 4, EXTERNAL + a, 0);
+            put(t, 1, 4, EXTERNAL + a + 8, t->count);
+        }
+        put(t, code, EXTERNAL + b, 256, 0);
+    }
+}
+
 static void classes(struct trace *t)
 {
     head("trace run, by the command [servers]");
@@ -528,8 +541,14 @@ static void classes(struct trace *t)
                                            "7 L1D block writeback-invalidate, 16 words", "8 L1D block invalidate, 16 words" };
     for (uint8_t code = 4; code <= 8; code++) {
         clear(t);
-        for (uint32_t i = 0; i < 512; i++) put(t, code, EXTERNAL + 64 * (i % 512), 16, 0);
+        for (uint32_t i = 0; i < COMMANDS; i++) put(t, code, EXTERNAL + 64 * (i % 512), 16, 0);
         class(blocks[code - 4], t);
+    }
+    for (uint8_t code = 4; code <= 8; code++) {
+        char name[60];
+        snprintf(name, sizeof name, "16 lines read and written, then code %d over them", code);
+        swept(t, code);
+        class(name, t);
     }
     clear(t);
     for (int i = 0; i < 512; i++) put(t, 11, 128, 1, 0);

@@ -16,6 +16,7 @@ use Rattle.joins.specs.Miss.{room, ready}
 use Rattle.stages.specs.Stages.{frontAs, sentAs, insideAs, belowAs, sendBelow, takenAs, broughtAs, finishedAs}
 use Rattle.stages.specs.declared.Answer.{Answer}
 use Rattle.decode.specs.declared.Decoded.{Decoded as Next}
+use Rattle.model.specs.Basics.{each}
 use Rattle.model.specs.Memories.{sramLength}
 use Rattle.model.specs.Lines.{l2Sets}
 use Rattle.model.specs.Records.{State, state, l2SetsOf, l2SetOf, l2Data, sramOf, withL1dSet, withL2Set}
@@ -38,7 +39,8 @@ use borrow.Author.Needs.{needs}
 use Rattle.engine.proofs.execute.Statement.{statement}
 use Rattle.engine.proofs.execute.Tie as tie
 
--- ---- what the run's loop keeps: a command takes a byte at least; no length changes; the sets in use and S are those of the record; the rest of the run gives the whole
+-- ---- what the run's loop keeps: a command takes a byte at least; no length changes; the sets in use and S are those of the record; the rest of the run gives
+-- the whole
 record Kept (source : ℕ → Decoded) (whole : Executed) (l1d₀ l2₀ ext₀ answers₀ : List ℕ) (end : ℕ)
     (l1d l2 ext answers : List ℕ) (r : Record) (at count : ℕ) (last : Answer) (sets sram : ℕ) : Type 0 where
   counted : count ≤ at
@@ -296,43 +298,43 @@ record Done (c : tie.Joined4 I₂ μ₂ I₁ μ₁ I μ) : Type 0 where
       reply (begins b .number) 0 0 (state (c .if4 .r) (at-loop (turn-begun b) .loop .l1d) (c .if4 .l2) (c .if4 .ext))
       ≡ step (swept b) (here (at-loop (turn-begun b)))
 
+-- the loop over its lines, whose turns are f, is over at r, m and e: that is what the arms leave, and all lines of f are the command
+gone-through : (c : tie.Joined4 I₂ μ₂ I₁ μ₁ I μ) (f : ℕ → State → State) (k : ℕ) (r : Record) (m e : List ℕ) →
+    let b = c .before .before in let l = at-loop (turn-begun b) .loop in
+    Through f (begins b .lines) (l .r) (l .l1d) (l .l2) (l .ext) k r m e → begins b .lines ≤ k → c .if4 .l2 ≡ m → c .if4 .ext ≡ e → c .if4 .r ≡ r →
+    ((x : State) → x ≡ each f (begins b .lines) (here (at-loop (turn-begun b))) → reply (begins b .number) 0 0 x ≡ step (swept b) (here (at-loop (turn-begun b)))) →
+    Done c
+gone-through c f k r m e t over l2Is extIs rIs all =
+    let p-begun = c .before .before in
+    let l = at-loop (turn-begun p-begun) .loop in
+    let within = t .within in let every : k ≡ begins p-begun .lines = omega arith in
+    record {
+      mode = ap (λ (x : Record). x .mode) rIs ∙ t .mode;
+      l2len = ap (λ (x : Record). x .l2len) rIs ∙ t .l2len;
+      l2Long = ap length l2Is ∙ t .l2Long;
+      extLong = ap length extIs ∙ t .extLong;
+      done = (λ j. reply (begins p-begun .number) 0 0 (state (rIs j) (l .l1d) (l2Is j) (extIs j)))
+          ∙ all (state r (l .l1d) m e) (rw every at (t .made));
+    }
+
+-- an arm: its test, its loop and the loop's end; and what it leaves
 l2-arm : (c : tie.Joined4 I₂ μ₂ I₁ μ₁ I μ) → First (c .if4 .came) → Done c
 l2-arm c w =
     let p-begun = c .before .before in
     let p-if3 = p-begun .before in
-    let p-loop = at-loop (turn-begun p-begun) in let l = p-loop .loop in
-    -- the arm: its test, the loop and its end; and what it leaves
-    let test = w .0 in let loop = w .1 in let over = w .2 .left in let l2Is = w .3 in let extIs = w .4 in let rIs = w .5 in
-    let within = loop .inv .within in let all : loop .k ≡ begins p-begun .lines = omega arith in
-    record {
-      mode = ap (λ (x : Record). x .mode) rIs ∙ loop .inv .mode;
-      l2len = ap (λ (x : Record). x .l2len) rIs ∙ loop .inv .l2len;
-      l2Long = ap length l2Is ∙ loop .inv .l2Long;
-      extLong = ap length extIs ∙ loop .inv .extLong;
-      done = (λ j. reply (begins p-begun .number) 0 0 (state (rIs j) (l .l1d) (l2Is j) (extIs j)))
-          ∙ l2-done (swept p-begun) (here p-loop) (state (loop .r) (l .l1d) (loop .l2) (loop .ext)) (begins p-begun)
-          (p-if3 .before .before .if2 .taken) (p-if3 .if3 .taken) (l .sets) (l .inv .setsAre) (p-begun .begin .ensures) (test .taken)
-          (rw all at (loop .inv .made));
-    }
+    let p-loop = at-loop (turn-begun p-begun) in let l = p-loop .loop in let test = w .0 in let loop = w .1 in
+    gone-through c (l2Turn (swept p-begun .code) (swept p-begun .first)) (loop .k) (loop .r) (loop .l2) (loop .ext) (loop .inv) (w .2 .left) (w .3) (w .4) (w .5)
+    (λ x. l2-done (swept p-begun) (here p-loop) x (begins p-begun) (p-if3 .before .before .if2 .taken) (p-if3 .if3 .taken) (l .sets)
+    (l .inv .setsAre) (p-begun .begin .ensures) (test .taken))
 
 l1d-arm : (c : tie.Joined4 I₂ μ₂ I₁ μ₁ I μ) → Second (c .if4 .came) → Done c
 l1d-arm c w =
     let p-begun = c .before .before in
     let p-if3 = p-begun .before in
-    let p-loop = at-loop (turn-begun p-begun) in let l = p-loop .loop in
-    -- the arm: its test, the loop and its end; and what it leaves
-    let test = w .0 in let loop = w .1 in let over = w .2 .left in let l2Is = w .3 in let extIs = w .4 in let rIs = w .5 in
-    let within = loop .inv .within in let all : loop .k ≡ begins p-begun .lines = omega arith in
-    record {
-      mode = ap (λ (x : Record). x .mode) rIs ∙ loop .inv .mode;
-      l2len = ap (λ (x : Record). x .l2len) rIs ∙ loop .inv .l2len;
-      l2Long = ap length l2Is ∙ loop .inv .l2Long;
-      extLong = ap length extIs ∙ loop .inv .extLong;
-      done = (λ j. reply (begins p-begun .number) 0 0 (state (rIs j) (l .l1d) (l2Is j) (extIs j)))
-          ∙ l1d-done (swept p-begun) (here p-loop) (state (loop .r) (l .l1d) (loop .l2) (loop .ext)) (begins p-begun)
-          (p-if3 .before .before .if2 .taken) (p-if3 .if3 .taken) (l .sets) (l .inv .setsAre) (p-begun .begin .ensures) (test .left)
-          (rw all at (loop .inv .made));
-    }
+    let p-loop = at-loop (turn-begun p-begun) in let l = p-loop .loop in let test = w .0 in let loop = w .1 in
+    gone-through c (l1dTurn (swept p-begun .code) (swept p-begun .first)) (loop .k) (loop .r) (loop .l2) (loop .ext) (loop .inv) (w .2 .left) (w .3) (w .4) (w .5)
+    (λ x. l1d-done (swept p-begun) (here p-loop) x (begins p-begun) (p-if3 .before .before .if2 .taken) (p-if3 .if3 .taken) (l .sets)
+    (l .inv .setsAre) (p-begun .begin .ensures) (test .left))
 
 all-done : (c : tie.Joined4 I₂ μ₂ I₁ μ₁ I μ) → Done c
 all-done c = ⊎-elim (l2-arm c) (l1d-arm c) (c .if4 .came)
