@@ -36,11 +36,13 @@ pub refused-back : (n : ℕ) (c : CRecord) (d m e : List ℕ) → bitsOnly c ≡
 refused-back n c d m e b = ap (λ (r : CRecord). cReply n 0 0 r d m e) (record-back c b)
 
 -- ---- a record goes out
-pub back-joined : (r : Record) (n k v : ℕ) (c : CRecord) → c ≡ recordToC r → record { value = v; number = n; server = k; «record» = c } ≡ givenBack r n k v
+pub back-joined : (r : Record) (n k v : ℕ) (c : CRecord) → c ≡ recordToC r →
+    record { value = v; number = n; server = k; «record» = c } ≡ givenBack r n k v
 unfolding givenBack
 back-joined r n k v c e = rw e refl
 
-back-through : (r : Record) (n k v : ℕ) (y : CCalled) (d m e : List ℕ) → y ≡ givenBack r n k v → calledInC y d m e ≡ through (reply n k v (state r d m e))
+back-through : (r : Record) (n k v : ℕ) (y : CCalled) (d m e : List ℕ) → y ≡ givenBack r n k v →
+    calledInC y d m e ≡ through (reply n k v (state r d m e))
 unfolding givenBack
 back-through r n k v y d m e q = ap (λ (z : CCalled). calledInC z d m e) q
 
@@ -110,7 +112,8 @@ module _ (c : CRecord) (d m e : List ℕ) (x : RecordIn) (eb : x .bits ≡ bitsO
         ∙ ap through (call-done (state (recordFromC c) d m e) n (due-read b) q t o (executedAs k d′ m′ e′ o′) z h (rw (er (eb ∙ b)) at ex))
         ∙ cond-true (bitsOnly c) (through (call q (state (recordFromC c) d m e))) (cReply (unreadDue (c .l2len) (c .extlen) d m e) 0 0 c d m e) b
 
-    pub run-done : executedAs k d′ m′ e′ o′ ≡ executes (sourceOf false q t) (endOf false t) (endOf false t) 0 (state (x .«record») d m e) 0 o noAnswer →
+    pub run-done :
+        executedAs k d′ m′ e′ o′ ≡ executes (sourceOf false q t) (endOf false t) (endOf false t) 0 (state (x .«record») d m e) 0 o noAnswer →
         (y : CCalled) → y ≡ givenBack (k .«record») (k .stop) 0 0 →
         cRan (y .«record») d′ m′ e′ (k .consumed) (k .count) (k .stop) o′ ≡ runBy t o c d m e
     unfolding runBy givenBack
@@ -121,7 +124,8 @@ module _ (c : CRecord) (d m e : List ℕ) (x : RecordIn) (eb : x .bits ≡ bitsO
         ∙ cond-true (bitsOnly c) (ranThrough (runCall t o (state (recordFromC c) d m e))) (cRan c d m e 0 0 (unreadDue (c .l2len) (c .extlen) d m e) o) b
 
 pub fresh-back : (d m e : List ℕ) (x : Called) (y : CCalled) (d′ m′ e′ : List ℕ) →
-    calledAs x d′ m′ e′ ≡ freshCall d m e → y ≡ givenBack (x .«record») (x .number) (x .server) (x .value) → calledInC y d′ m′ e′ ≡ through (freshCall d m e)
+    calledAs x d′ m′ e′ ≡ freshCall d m e → y ≡ givenBack (x .«record») (x .number) (x .server) (x .value) →
+    calledInC y d′ m′ e′ ≡ through (freshCall d m e)
 fresh-back d m e x y d′ m′ e′ ex ey = back-through (x .«record») (x .number) (x .server) (x .value) y d′ m′ e′ ey ∙ ap through ex
 
 -- ---- looking behind L1D

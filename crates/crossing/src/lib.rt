@@ -73,8 +73,8 @@ fn lent_due(given: RecordIn, l2len: u32, extlen: u32, l1d: &[u8], l2: &[u8], ext
     unread_due(l2len, extlen, l1d, l2, ext)
 }
 
-// ---- a command, through the record that C's stands for. The checks and the loop are those of the crate calls; they stand here once more because each
-// function that the record goes through copies it. For the same reason this is the one place where a record goes out.
+// ---- a command, through the record that C's stands for. The checks and the loop are those of the crate calls. They are called from here, without its
+// functions between, because each function that a record goes through copies it; and a record goes out at one place only, which the compiler then inlines.
 fn given_back(r: Record, number: u8, server: u8, value: u64) -> CCalled
     ensures { λ x. ⌜ x ≡ givenBack r number server value ⌝ }
 {

@@ -199,7 +199,8 @@ module _ (c : CRecord) (a b : Bool) (xs : List L1dSet) (ys : List L2Set) (ea : a
   record-bits-joined = rw (ea, eb) refl
 
   pub record-in-joined : ((ltb (c .mar128) 2 && ltb (c .mar129) 2) && (a && b)) ≡ true →
-      record { l2len = c .l2len; extlen = c .extlen; mode = c .mode; mar128 = eqb (c .mar128) 1; mar129 = eqb (c .mar129) 1; l1d = xs; l2 = ys } ≡ recordFromC c
+      record { l2len = c .l2len; extlen = c .extlen; mode = c .mode; mar128 = eqb (c .mar128) 1; mar129 = eqb (c .mar129) 1; l1d = xs; l2 = ys }
+      ≡ recordFromC c
   unfolding recordFromC
   record-in-joined t =
       let w = both-true a b (both-true (ltb (c .mar128) 2 && ltb (c .mar129) 2) (a && b) t .1) in

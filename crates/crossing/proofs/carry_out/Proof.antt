@@ -5,6 +5,7 @@ use Rattle.model.specs.Trace.{command}
 use Rattle.model.specs.declared.Command.{Command}
 use lib.ListN.{length-replicate, replicate}
 use Prim.Native.Nat.{ℕ}
+use mathlib.Core.Path.{refl}
 use borrow.Author.Needs.{needs}
 use Rattle.crossing.proofs.carry_out.Statement.{statement}
 use Rattle.crossing.proofs.carry_out.Tie as tie
@@ -33,13 +34,13 @@ lent-due-requires : tie.Need-lent-due-requires
 lent-due-requires c κs = search needs
 
 same-length : tie.Need-same-length
-same-length c = search needs
+same-length c = refl
 
 same-length-2 : tie.Need-same-length-2
-same-length-2 c = search needs
+same-length-2 c = refl
 
 same-length-3 : tie.Need-same-length-3
-same-length-3 c = search needs
+same-length-3 c = refl
 
 returns : tie.Need-returns
 returns c =

@@ -1,6 +1,7 @@
 -- `crossing::run` meets its contract: as `carry_out`, with the commands of the trace in place of the one command, and the answers as a fourth lent
 -- memory. Assumes nothing.
 use Rattle.crossing.specs.Joined.{run-refused, run-done}
+use mathlib.Core.Path.{refl}
 use borrow.Author.Needs.{needs}
 use Rattle.crossing.proofs.run.Statement.{statement}
 use Rattle.crossing.proofs.run.Tie as tie
@@ -26,13 +27,13 @@ lent-due-requires : tie.Need-lent-due-requires
 lent-due-requires c κs = search needs
 
 same-length : tie.Need-same-length
-same-length c = search needs
+same-length c = refl
 
 same-length-2 : tie.Need-same-length-2
-same-length-2 c = search needs
+same-length-2 c = refl
 
 same-length-3 : tie.Need-same-length-3
-same-length-3 c = search needs
+same-length-3 c = refl
 
 returns : tie.Need-returns
 returns c =
