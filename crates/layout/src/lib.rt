@@ -1,5 +1,6 @@
 // The record as C holds it: the same fields, laid out by C's rules, with a byte for each bool. A byte that is neither 0 nor 1 stands for no bool:
-// `record_in` tells whether there is one, in the same pass over the sets in which it converts them.
+// `record_in` tells whether there is one, in the same pass over the sets in which it converts them. A record that has one stands for none, and what was
+// made of it is not used.
 ghost use mathlib.Core.Bool.{true};
 ghost use mathlib.Core.Path.{_≡_};
 ghost use mathlib.Core.List.{map};
