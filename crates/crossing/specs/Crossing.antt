@@ -13,7 +13,7 @@ use Rattle.model.specs.Records.{state}
 use Rattle.model.specs.Refusals.{viewDue}
 use Rattle.model.specs.Calls.{Reply, Run, call, runCall, viewCall}
 use Rattle.model.specs.declared.Command.{Command}
-use Rattle.start.specs.declared.Called.{Called}
+use Rattle.model.specs.declared.Record.{Record}
 use Rattle.layout.specs.Layout.{bitsOnly, recordFromC, recordToC}
 use Rattle.layout.specs.declared.CRecord.{CRecord}
 use Rattle.crossing.specs.declared.CCalled.{CCalled}
@@ -39,8 +39,8 @@ calledInC x d m e = cReply (x .number) (x .server) (x .value) (x .«record») d 
 abbrev pub through : Reply → CReply
 through q = cReply (q .number) (q .server) (q .value) (recordToC (q .next .rec)) (q .next .l1d) (q .next .l2) (q .next .ext)
 
-unfoldable pub givenBack : Called → CCalled
-givenBack x = record { value = x .value; number = x .number; server = x .server; «record» = recordToC (x .«record») }
+unfoldable pub givenBack : Record → ℕ → ℕ → ℕ → CCalled
+givenBack r n k v = record { value = v; number = n; server = k; «record» = recordToC r }
 
 -- ---- "1: a lent length illegal, or unlike the record's", by the L and E that C's record names; else 2
 unfoldable pub sizesAlike : ℕ → ℕ → List ℕ → List ℕ → Bool

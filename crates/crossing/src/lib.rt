@@ -1,10 +1,16 @@
 // The calls on C's record: it is turned into the record it stands for, the call is made, and the record that comes back is turned into C's. None requires
 // anything. Each contract equates the answer, the record and every lent byte with paper 01's definitions, through C's layout (specs/Crossing).
+ghost use mathlib.Core.Bool.{cond};
 ghost use mathlib.Core.Path.{_≡_};
+ghost use Rattle.model.specs.Records.{state};
+ghost use Rattle.model.specs.Refusals.{lentDue};
 ghost use Rattle.model.specs.Trace.{command};
 ghost use Rattle.model.specs.Calls.{freshCall};
 ghost use Rattle.crossing.specs.Crossing.{sizesAlike, unreadDue, calledInC, ranInC, seenAs, through, givenBack, commandCall, runBy, viewNumber, viewInto};
 use layout::CRecord;
+use layout::RecordIn;
+use model::Command;
+use model::Record;
 
 // What a call returns: the number of its refusal (0: accepted), the server and the value of an access, and the record after it.
 #[repr(C)]
@@ -35,28 +41,48 @@ fn sizes_alike(l2len: u32, extlen: u32, l2: &[u8], ext: &[u8]) -> bool
     l2_lent & ext_lent
 }
 
-fn unread_due(l2len: u32, extlen: u32, l1d: &[u8], l2: &[u8], ext: &[u8]) -> u8
-    ensures { λ n. ⌜ n ≡ unreadDue l2len extlen (now (l1d .entry)) (now (l2 .entry)) (now (ext .entry)) ⌝ }
+// for a view, to which no L1D is lent
+fn unseen_due(l2len: u32, extlen: u32, l2: &[u8], ext: &[u8]) -> u8
+    ensures { λ n. ⌜ n ≡ cond (sizesAlike l2len extlen (now (l2 .entry)) (now (ext .entry))) 2 1 ⌝ }
 {
-    if l1d.len() == 16384 {} else {
-        return 1;
-    }
     if sizes_alike(l2len, extlen, l2, ext) {
         return 2;
     }
     1
 }
 
-// ---- a command, through the record that C's stands for
-fn given_back(x: start::Called) -> CCalled
-    ensures { λ y. ⌜ y ≡ givenBack x ⌝ }
+// for any other call
+fn unread_due(l2len: u32, extlen: u32, l1d: &[u8], l2: &[u8], ext: &[u8]) -> u8
+    ensures { λ n. ⌜ n ≡ unreadDue l2len extlen (now (l1d .entry)) (now (l2 .entry)) (now (ext .entry)) ⌝ }
 {
-    let after = x.record;
-    let back = layout::record_out(after);
+    if l1d.len() == 16384 {
+        return unseen_due(l2len, extlen, l2, ext);
+    }
+    1
+}
+
+// ---- the number due before any command is looked at: 1, 2, or 0 for none; l2len and extlen are L and E as C's record has them
+fn lent_due(given: RecordIn, l2len: u32, extlen: u32, l1d: &[u8], l2: &[u8], ext: &[u8]) -> u8
+    ensures { λ n. ⌜ n ≡ cond (given .bits) (lentDue (state (given .«record») (now (l1d .entry)) (now (l2 .entry)) (now (ext .entry))))
+        (unreadDue l2len extlen (now (l1d .entry)) (now (l2 .entry)) (now (ext .entry))) ⌝ }
+{
+    if given.bits {
+        let r = given.record;
+        return refusals::lent_due(r, l1d, l2, ext);
+    }
+    unread_due(l2len, extlen, l1d, l2, ext)
+}
+
+// ---- a command, through the record that C's stands for. The checks and the loop are those of the crate calls. They are called from here, without its
+// functions between, because each function that a record goes through copies it; and a record goes out at one place only, which the compiler then inlines.
+fn given_back(r: Record, number: u8, server: u8, value: u64) -> CCalled
+    ensures { λ x. ⌜ x ≡ givenBack r number server value ⌝ }
+{
+    let back = layout::record_out(r);
     CCalled {
-        value: x.value,
-        number: x.number,
-        server: x.server,
+        value: value,
+        number: number,
+        server: server,
         record: back,
     }
 }
@@ -74,16 +100,29 @@ pub fn carry_out(
     ensures { λ x. ⌜ calledInC x (now (l1d .exit)) (now (l2 .exit)) (now (ext .exit))
         ≡ commandCall (command code first second value) c (now (l1d .entry)) (now (l2 .entry)) (now (ext .entry)) ⌝ }
 {
-    if layout::bits(c) {
-        let r = layout::record_in(c);
-        return given_back(calls::one_command(r, code, first, second, value, l1d, l2, ext));
+    let given = layout::record_in(c);
+    let due = lent_due(given, c.l2len, c.extlen, l1d, l2, ext);
+    if due != 0 {
+        return CCalled {
+            value: 0,
+            number: due,
+            server: 0,
+            record: c,
+        };
     }
-    CCalled {
-        value: 0,
-        number: unread_due(c.l2len, c.extlen, l1d, l2, ext),
-        server: 0,
-        record: c,
-    }
+    let r = given.record;
+    let asked = Command {
+        code: code,
+        first: first,
+        second: second,
+        value: value,
+    };
+    let none = [0u8; 1];
+    let mut answer = [0u8; 10];
+    let q = engine::execute(r, true, asked, &none, l1d, l2, ext, &mut answer);
+    let last = q.last;
+    let after = q.record;
+    given_back(after, last.number, last.server, last.value)
 }
 
 // A fresh start: L and E are the lengths that are lent.
@@ -91,7 +130,9 @@ pub fn fresh(l1d: &mut [u8], l2: &mut [u8], ext: &mut [u8]) -> CCalled
     ensures { λ x. ⌜ calledInC x (now (l1d .exit)) (now (l2 .exit)) (now (ext .exit))
         ≡ through (freshCall (now (l1d .entry)) (now (l2 .entry)) (now (ext .entry))) ⌝ }
 {
-    given_back(start::fresh(l1d, l2, ext))
+    let x = start::fresh(l1d, l2, ext);
+    let r = x.record;
+    given_back(r, x.number, x.server, x.value)
 }
 
 // A run over a trace; one answer of ten bytes for each command.
@@ -106,23 +147,33 @@ pub fn run(
     ensures { λ x. ⌜ ranInC x (now (l1d .exit)) (now (l2 .exit)) (now (ext .exit)) (now (answers .exit))
         ≡ runBy (now (trace .entry)) (now (answers .entry)) c (now (l1d .entry)) (now (l2 .entry)) (now (ext .entry)) ⌝ }
 {
-    if layout::bits(c) {
-        let r = layout::record_in(c);
-        let x = calls::run(r, trace, l1d, l2, ext, answers);
-        let after = x.record;
-        let back = layout::record_out(after);
+    let given = layout::record_in(c);
+    let due = lent_due(given, c.l2len, c.extlen, l1d, l2, ext);
+    if due != 0 {
         return CRun {
-            consumed: x.consumed,
-            count: x.count,
-            stop: x.stop,
-            record: back,
+            consumed: 0,
+            count: 0,
+            stop: due,
+            record: c,
         };
     }
+    let r = given.record;
+    // the commands come from the trace, and the loop does not look at this one
+    let unused = Command {
+        code: 0,
+        first: 0,
+        second: 0,
+        value: 0,
+    };
+    let q = engine::execute(r, false, unused, trace, l1d, l2, ext, answers);
+    let after = q.record;
+    let x = given_back(after, q.stop, 0, 0);
+    let back = x.record;
     CRun {
-        consumed: 0,
-        count: 0,
-        stop: unread_due(c.l2len, c.extlen, l1d, l2, ext),
-        record: c,
+        consumed: q.consumed,
+        count: q.count,
+        stop: q.stop,
+        record: back,
     }
 }
 
@@ -130,14 +181,12 @@ pub fn run(
 pub fn view_due(c: CRecord, address: u32, l2: &[u8], ext: &[u8]) -> u8
     ensures { λ n. ⌜ n ≡ viewNumber c address (now (l2 .entry)) (now (ext .entry)) ⌝ }
 {
-    if layout::bits(c) {
-        let r = layout::record_in(c);
+    let given = layout::record_in(c);
+    if given.bits {
+        let r = given.record;
         return view::view_number(r, l2, ext, address);
     }
-    if sizes_alike(c.l2len, c.extlen, l2, ext) {
-        return 2;
-    }
-    1
+    unseen_due(c.l2len, c.extlen, l2, ext)
 }
 
 // The 64 bytes go into the front of the lent buffer; one of fewer bytes is refused with 1. Returns the number, 0 when accepted.
@@ -147,12 +196,16 @@ pub fn view<'a>(c: CRecord, address: u32, l2: &'a [u8], ext: &'a [u8], seen: &mu
     if seen.len() < 64 {
         return 1;
     }
-    let number = view_due(c, address, l2, ext);
-    if number != 0 {
-        return number;
+    let given = layout::record_in(c);
+    if given.bits {} else {
+        return unseen_due(c.l2len, c.extlen, l2, ext);
     }
-    let r = layout::record_in(c);
+    // a refused view is empty: its number is asked for only then, so that the record of an accepted one is tested once
+    let r = given.record;
     let part = view::view(r, l2, ext, address);
+    if part.len() < 64 {
+        return view::view_number(r, l2, ext, address);
+    }
     memory::move64(seen, 0, part, 0);
     0
 }

@@ -1,6 +1,6 @@
--- How the loops go: a list of two or four written out, an array that is filled from the front with what a map makes, and one that is tested from the front.
-use Prim.Native.Nat.{ℕ, suc, _+_, _≤_, _<_}
-use mathlib.Core.Bool.{Bool, true, false, _&&_, and-true, and-assoc}
+-- How the loops go: a list of two or four written out, an array that is filled from the front with what a map makes, and one that is tested on the way.
+use Prim.Native.Nat.{ℕ, zero, suc, _+_, _%_, _≤_, _<_}
+use mathlib.Core.Bool.{Bool, true, _&&_, and-true, and-assoc}
 use mathlib.Core.List.{List, [], _∷_, _++_, map, append-nil, map-append}
 use mathlib.Core.Path.{_≡_, refl, sym, ap, _∙_}
 use native.Mathlib.Omega.{arith}
@@ -8,9 +8,11 @@ use native.Mathlib.Numerals.{add-one}
 use lib.ListN.{length, getD, take, drop, set, replicate, length-replicate, length-map, length-set, drop-of-length-le}
 use lib.Seq.{drop-cons, set-at, append-snoc, take-suc, take-all, length-take-le}
 use lib.Dec.{ltb, eqb}
+use borrow.Author.Tests.{ltb-true}
 use Rattle.model.specs.Basics.{allIndexed}
+use Rattle.model.specs.Laws.{both-true}
 use Rattle.model.specs.Lines.{emptyLine, l1dGet, l2Get}
-use Rattle.wellformed.specs.Sets.{all-next, all-stop, all-end}
+use Rattle.wellformed.specs.Sets.{all-end}
 use Rattle.ways.specs.Ways.{two, four}
 use Rattle.model.specs.declared.Line.{Line}
 use Rattle.model.specs.declared.L1dSet.{L1dSet}
@@ -72,22 +74,39 @@ module _ {ℓ κ} {A : Type ℓ} {B : Type κ} (f : A → B) (d : A) (e : B) whe
     pub filling-last : n ≤ i → ys ≡ map f xs
     filling-last k = let m = length-replicate n b in h .2 ∙ filled-all xs (replicate n b) i (omega arith) (omega arith)
 
--- ---- an array tested from the front: what both loops that test keep, after i of n elements
-abbrev pub Passing {ℓ} : {A : Type ℓ} → (A → Bool) → ℕ → List A → ℕ → Type 0
-Passing p n xs i = (i ≤ n) × (allIndexed (λ _ x. p x) i (drop i xs) ≡ allIndexed (λ _ x. p x) 0 xs)
+-- ---- an array filled and tested from the front: what both loops that read in keep, after i of n elements. The tests so far and those to come decide as
+-- all of them do; as long as the tests so far have passed, the array is filled.
+abbrev pub Reading {ℓ κ} : {A : Type ℓ} {B : Type κ} → (A → B) → (A → Bool) → ℕ → List A → List B → List B → Bool → ℕ → Type κ
+Reading f p n xs zs ys b i =
+    (i ≤ n) × (length ys ≡ n) × ((b && allIndexed (λ _ x. p x) i (drop i xs)) ≡ allIndexed (λ _ x. p x) 0 xs) × (b ≡ true → ys ≡ filled f xs zs i)
 
-pub passing-first {ℓ} : {A : Type ℓ} (p : A → Bool) (n : ℕ) (xs : List A) → Passing p n xs 0
-passing-first p n xs = (omega arith, refl)
+pub reading-first {ℓ κ} : {A : Type ℓ} {B : Type κ} (f : A → B) (p : A → Bool) (n : ℕ) (xs : List A) (y : B) →
+    Reading f p n xs (replicate n y) (replicate n y) true 0
+reading-first f p n xs y = (omega arith, length-replicate n y, refl, λ t. refl)
 
-module _ {ℓ} {A : Type ℓ} (p : A → Bool) (d : A) (n : ℕ) (xs : List A) (long : length xs ≡ n) (i : ℕ) (h : Passing p n xs i) where
-  pub passing-next : i < n → p (getD xs i d) ≡ true → Passing p n xs (i + 1)
-  passing-next k e = (omega arith, sym (all-next (λ _ x. p x) xs i d (omega arith) e) ∙ h .1)
+-- the tests to come are that of the next element and the rest
+all-step {ℓ} : {A : Type ℓ} (p : A → Bool) (xs : List A) (i : ℕ) (d : A) → i < length xs →
+    (p (getD xs i d) && allIndexed (λ _ x. p x) (i + 1) (drop (i + 1) xs)) ≡ allIndexed (λ _ x. p x) i (drop i xs)
+unfolding allIndexed
+all-step p xs i d h = rw (add-one, drop-cons xs i d h) refl
 
-  pub passing-stop : i < n → p (getD xs i d) ≡ false → false ≡ allIndexed (λ _ x. p x) 0 xs
-  passing-stop k e = sym (all-stop (λ _ x. p x) xs i d (omega arith) e) ∙ h .1
+module _ {ℓ κ} {A : Type ℓ} {B : Type κ} (f : A → B) (p : A → Bool) (d : A) (e : B) (n : ℕ) (xs : List A) (long : length xs ≡ n) (y : B) (ys : List B)
+    (b : Bool) (i : ℕ) (h : Reading f p n xs (replicate n y) ys b i) where
+  pub reading-next : (q : Bool) → q ≡ p (getD xs i d) → (v : B) → (p (getD xs i d) ≡ true → v ≡ f (getD xs i d)) → i < n →
+      Reading f p n xs (replicate n y) (set ys i v) (b && q) (i + 1)
+  reading-next q eq v ev k = (
+    omega arith,
+    simp length-set (h .1),
+    rw (eq, and-assoc b (p (getD xs i d)) (allIndexed (λ _ x. p x) (i + 1) (drop (i + 1) xs)), all-step p xs i d (omega arith)) (h .2),
+    λ t. let w = both-true b q t in
+        filling-next f d e n xs long y ys i (h .0, h .1, h .3 (w .0)) v (ev (sym eq ∙ w .1)) k .2,
+  )
 
-  pub passing-end : n ≤ i → true ≡ allIndexed (λ _ x. p x) 0 xs
-  passing-end k = sym (all-end (λ _ x. p x) xs i d (omega arith)) ∙ h .1
+  pub reading-last : n ≤ i → (b ≡ allIndexed (λ _ x. p x) 0 xs) × (b ≡ true → ys ≡ map f xs)
+  reading-last k = (
+    rw (all-end (λ _ x. p x) xs i d (omega arith), and-true b) at (h .2),
+    λ t. filling-last f d e n xs long y ys i (h .0, h .1, h .3 t) k,
+  )
 
 -- ---- the tests, as the code joins them
 pub line-joined : (x : CLine) → (ltb (x .valid) 2 && ltb (x .dirty) 2) ≡ lineBits x
@@ -110,45 +129,59 @@ l2-set-joined v a b p q n ea eb ep eq =
     (simp and-assoc
     (sym (ap (allIndexed (λ _ x. lineBits x) 0) (four noCLine (v .lines) n) ∙ simp and-true)))
 
--- ---- the record's bytes: by the MAR bits, by the L1D sets, by the L2 sets
-module _ (c : CRecord) where
-  pub bits-mar : (ltb (c .mar128) 2 && ltb (c .mar129) 2) ≡ false → false ≡ bitsOnly c
-  unfolding bitsOnly
-  bits-mar e = rw e refl
-
-  pub bits-l1d : (ltb (c .mar128) 2 && ltb (c .mar129) 2) ≡ true → allIndexed (λ _ v. l1dSetBits v) 0 (c .l1d) ≡ false → false ≡ bitsOnly c
-  unfolding bitsOnly
-  bits-l1d e g = rw (e, g) refl
-
-  pub bits-l2 : (ltb (c .mar128) 2 && ltb (c .mar129) 2) ≡ true → allIndexed (λ _ v. l1dSetBits v) 0 (c .l1d) ≡ true →
-      (b : Bool) → b ≡ allIndexed (λ _ v. l2SetBits v) 0 (c .l2) → b ≡ bitsOnly c
-  unfolding bitsOnly
-  bits-l2 e g b h = rw (e, g) h
-
 -- ---- one line, one set, the record, from the parts that the calls gave
 pub line-out-joined : (x : Line) (p q : ℕ) → p ≡ byteOf (x .valid) → q ≡ byteOf (x .dirty) →
     record { valid = p; dirty = q; address = x .address } ≡ lineToC x
 unfolding lineToC
 line-out-joined x p q ep eq = rw (ep, eq) refl
 
-module _ (v : CL1dSet) (x y : Line) (n : length (v .lines) ≡ 2) (ex : x ≡ lineFromC (getD (v .lines) 0 noCLine)) (ey : y ≡ lineFromC (getD (v .lines) 1 noCLine)) where
-  pub l1d-in-joined : record { lines = x ∷ y ∷ []; order = record { first = v .order .first; second = v .order .second } } ≡ l1dSetFromC v
+-- the last bit of a byte that is 0 or 1 is the bool that it stands for
+low-bit : (n : ℕ) → ltb n 2 ≡ true → eqb (n % 2) 1 ≡ eqb n 1
+low-bit zero e = refl
+low-bit (suc zero) e = refl
+low-bit (suc (suc n)) e = let h = ltb-true (suc (suc n)) 2 e in absurd (omega arith)
+
+pub line-in-joined : (x : CLine) → lineBits x ≡ true →
+    record { valid = eqb (x .valid % 2) 1; dirty = eqb (x .dirty % 2) 1; address = x .address } ≡ lineFromC x
+unfolding lineBits lineFromC
+line-in-joined x t = let w = both-true (ltb (x .valid) 2) (ltb (x .dirty) 2) t in rw (low-bit (x .valid) (w .0), low-bit (x .dirty) (w .1)) refl
+
+-- what reading a line in gives: the line that it stands for, if it stands for one
+abbrev LineRead : Line → CLine → Type 0
+LineRead y x = lineBits x ≡ true → y ≡ lineFromC x
+
+module _ (v : CL1dSet) (x y : Line) (n : length (v .lines) ≡ 2) (ex : LineRead x (getD (v .lines) 0 noCLine))
+    (ey : LineRead y (getD (v .lines) 1 noCLine)) where
+  pub l1d-in-joined : l1dSetBits v ≡ true →
+      record { lines = x ∷ y ∷ []; order = record { first = v .order .first; second = v .order .second } } ≡ l1dSetFromC v
   unfolding l1dSetFromC
-  l1d-in-joined = rw (ex, ey, map-two lineFromC noCLine (v .lines) n) refl
+  l1d-in-joined t =
+      let a = lineBits (getD (v .lines) 0 noCLine) in
+      let b = lineBits (getD (v .lines) 1 noCLine) in
+      let w = both-true a b (l1d-set-joined v a b n refl refl ∙ t) in
+      rw (ex (w .0), ey (w .1), map-two lineFromC noCLine (v .lines) n) refl
 
 module _ (v : L1dSet) (x y : CLine) (n : length (v .lines) ≡ 2) (ex : x ≡ lineToC (l1dGet v 0)) (ey : y ≡ lineToC (l1dGet v 1)) where
   pub l1d-out-joined : record { lines = x ∷ y ∷ []; order = record { first = v .order .first; second = v .order .second } } ≡ l1dSetToC v
   unfolding l1dSetToC
   l1d-out-joined = rw (ex, ey, map-two lineToC emptyLine (v .lines) n) refl
 
-module _ (v : CL2Set) (w x y z : Line) (n : length (v .lines) ≡ 4) (ew : w ≡ lineFromC (getD (v .lines) 0 noCLine)) (ex : x ≡ lineFromC (getD (v .lines) 1 noCLine))
-    (ey : y ≡ lineFromC (getD (v .lines) 2 noCLine)) (ez : z ≡ lineFromC (getD (v .lines) 3 noCLine)) where
-  pub l2-in-joined : record {
+module _ (v : CL2Set) (w x y z : Line) (n : length (v .lines) ≡ 4) (ew : LineRead w (getD (v .lines) 0 noCLine))
+    (ex : LineRead x (getD (v .lines) 1 noCLine)) (ey : LineRead y (getD (v .lines) 2 noCLine)) (ez : LineRead z (getD (v .lines) 3 noCLine)) where
+  pub l2-in-joined : l2SetBits v ≡ true → record {
     lines = w ∷ x ∷ y ∷ z ∷ [];
     order = record { first = v .order .first; second = v .order .second; third = v .order .third; fourth = v .order .fourth };
   } ≡ l2SetFromC v
   unfolding l2SetFromC
-  l2-in-joined = rw (ew, ex, ey, ez, map-four lineFromC noCLine (v .lines) n) refl
+  l2-in-joined t =
+      let a = lineBits (getD (v .lines) 0 noCLine) in
+      let b = lineBits (getD (v .lines) 1 noCLine) in
+      let p = lineBits (getD (v .lines) 2 noCLine) in
+      let q = lineBits (getD (v .lines) 3 noCLine) in
+      let h = both-true (a && b) (p && q) (l2-set-joined v a b p q n refl refl refl refl ∙ t) in
+      let f = both-true a b (h .0) in
+      let g = both-true p q (h .1) in
+      rw (ew (f .0), ex (f .1), ey (g .0), ez (g .1), map-four lineFromC noCLine (v .lines) n) refl
 
 module _ (v : L2Set) (w x y z : CLine) (n : length (v .lines) ≡ 4) (ew : w ≡ lineToC (l2Get v 0)) (ex : x ≡ lineToC (l2Get v 1))
     (ey : y ≡ lineToC (l2Get v 2)) (ez : z ≡ lineToC (l2Get v 3)) where
@@ -159,10 +192,19 @@ module _ (v : L2Set) (w x y z : CLine) (n : length (v .lines) ≡ 4) (ew : w ≡
   unfolding l2SetToC
   l2-out-joined = rw (ew, ex, ey, ez, map-four lineToC emptyLine (v .lines) n) refl
 
-pub record-in-joined : (c : CRecord) (xs : List L1dSet) (ys : List L2Set) → xs ≡ map l1dSetFromC (c .l1d) → ys ≡ map l2SetFromC (c .l2) →
-    record { l2len = c .l2len; extlen = c .extlen; mode = c .mode; mar128 = eqb (c .mar128) 1; mar129 = eqb (c .mar129) 1; l1d = xs; l2 = ys } ≡ recordFromC c
-unfolding recordFromC
-record-in-joined c xs ys ex ey = rw (ex, ey) refl
+module _ (c : CRecord) (a b : Bool) (xs : List L1dSet) (ys : List L2Set) (ea : a ≡ allIndexed (λ _ v. l1dSetBits v) 0 (c .l1d))
+    (eb : b ≡ allIndexed (λ _ v. l2SetBits v) 0 (c .l2)) (ex : a ≡ true → xs ≡ map l1dSetFromC (c .l1d)) (ey : b ≡ true → ys ≡ map l2SetFromC (c .l2)) where
+  pub record-bits-joined : ((ltb (c .mar128) 2 && ltb (c .mar129) 2) && (a && b)) ≡ bitsOnly c
+  unfolding bitsOnly
+  record-bits-joined = rw (ea, eb) refl
+
+  pub record-in-joined : ((ltb (c .mar128) 2 && ltb (c .mar129) 2) && (a && b)) ≡ true →
+      record { l2len = c .l2len; extlen = c .extlen; mode = c .mode; mar128 = eqb (c .mar128) 1; mar129 = eqb (c .mar129) 1; l1d = xs; l2 = ys }
+      ≡ recordFromC c
+  unfolding recordFromC
+  record-in-joined t =
+      let w = both-true a b (both-true (ltb (c .mar128) 2 && ltb (c .mar129) 2) (a && b) t .1) in
+      rw (ex (w .0), ey (w .1)) refl
 
 pub record-out-joined : (r : Record) (a b : ℕ) (xs : List CL1dSet) (ys : List CL2Set) → a ≡ byteOf (r .mar128) → b ≡ byteOf (r .mar129) →
     xs ≡ map l1dSetToC (r .l1d) → ys ≡ map l2SetToC (r .l2) →

@@ -1,5 +1,7 @@
 // The record as C holds it: the same fields, laid out by C's rules, with a byte for each bool. A byte that is neither 0 nor 1 stands for no bool:
-// `bits` tells whether there is one, and a record that has one is never converted.
+// `record_in` tells whether there is one, in the same pass over the sets in which it converts them. A record that has one stands for none, and what was
+// made of it is not used.
+ghost use mathlib.Core.Bool.{true};
 ghost use mathlib.Core.Path.{_≡_};
 ghost use mathlib.Core.List.{map};
 ghost use Rattle.model.specs.Basics.{allIndexed};
@@ -75,55 +77,20 @@ fn l2_set_bits(v: CL2Set) -> bool
     front & (line_bits(v.lines[2]) & line_bits(v.lines[3]))
 }
 
-fn l1d_bits(xs: [CL1dSet; 128]) -> bool
-    ensures { λ b. ⌜ b ≡ allIndexed (λ _ v. l1dSetBits v) 0 xs ⌝ }
-{
-    for s in 0..128 {
-        if l1d_set_bits(xs[s]) {} else {
-            return false;
-        }
-    }
-    true
-}
-
-fn l2_bits(xs: [CL2Set; 512]) -> bool
-    ensures { λ b. ⌜ b ≡ allIndexed (λ _ v. l2SetBits v) 0 xs ⌝ }
-{
-    for t in 0..512 {
-        if l2_set_bits(xs[t]) {} else {
-            return false;
-        }
-    }
-    true
-}
-
-pub fn bits(c: CRecord) -> bool
-    ensures { λ b. ⌜ b ≡ bitsOnly c ⌝ }
-{
-    if (c.mar128 < 2) & (c.mar129 < 2) {} else {
-        return false;
-    }
-    let l1d = c.l1d;
-    if l1d_bits(l1d) {} else {
-        return false;
-    }
-    let l2 = c.l2;
-    l2_bits(l2)
-}
-
 // ---- from C's layout to the record
+// The last bit of a byte is the bool, if the byte is 0 or 1: that costs one mask for a whole line, where a comparison of each byte with 1 costs many steps.
 fn line_in(x: CLine) -> Line
-    ensures { λ y. ⌜ y ≡ lineFromC x ⌝ }
+    ensures { λ y. ⌜ (lineBits x ≡ true → y ≡ lineFromC x) ⌝ }
 {
     Line {
-        valid: x.valid == 1,
-        dirty: x.dirty == 1,
+        valid: x.valid % 2 == 1,
+        dirty: x.dirty % 2 == 1,
         address: x.address,
     }
 }
 
 fn l1d_set_in(v: CL1dSet) -> L1dSet
-    ensures { λ w. ⌜ w ≡ l1dSetFromC v ⌝ }
+    ensures { λ w. ⌜ (l1dSetBits v ≡ true → w ≡ l1dSetFromC v) ⌝ }
 {
     let x = line_in(v.lines[0]);
     let y = line_in(v.lines[1]);
@@ -137,7 +104,7 @@ fn l1d_set_in(v: CL1dSet) -> L1dSet
 }
 
 fn l2_set_in(v: CL2Set) -> L2Set
-    ensures { λ w. ⌜ w ≡ l2SetFromC v ⌝ }
+    ensures { λ w. ⌜ (l2SetBits v ≡ true → w ≡ l2SetFromC v) ⌝ }
 {
     let w = line_in(v.lines[0]);
     let x = line_in(v.lines[1]);
@@ -154,38 +121,70 @@ fn l2_set_in(v: CL2Set) -> L2Set
     }
 }
 
-fn l1d_in(xs: [CL1dSet; 128]) -> [L1dSet; 128]
-    ensures { λ ys. ⌜ ys ≡ map l1dSetFromC xs ⌝ }
+// The sets of a cache, and whether every byte of theirs that stands for a bool is 0 or 1; if not, the sets say nothing.
+struct L1dIn {
+    sets: [L1dSet; 128],
+    bits: bool,
+}
+
+struct L2In {
+    sets: [L2Set; 512],
+    bits: bool,
+}
+
+fn l1d_in(xs: [CL1dSet; 128]) -> L1dIn
+    ensures { λ x. ⌜ x .bits ≡ allIndexed (λ _ v. l1dSetBits v) 0 xs ⌝ }
+    ensures sets { λ x. ⌜ (x .bits ≡ true → x .sets ≡ map l1dSetFromC xs) ⌝ }
 {
     let first = l1d_set_in(xs[0]);
     let mut ys = [first; 128];
+    let mut bits = true;
     for s in 0..128 {
+        bits = bits & l1d_set_bits(xs[s]);
         let v = l1d_set_in(xs[s]);
         ys[s] = v;
     }
-    ys
+    L1dIn {
+        sets: ys,
+        bits: bits,
+    }
 }
 
-fn l2_in(xs: [CL2Set; 512]) -> [L2Set; 512]
-    ensures { λ ys. ⌜ ys ≡ map l2SetFromC xs ⌝ }
+fn l2_in(xs: [CL2Set; 512]) -> L2In
+    ensures { λ x. ⌜ x .bits ≡ allIndexed (λ _ v. l2SetBits v) 0 xs ⌝ }
+    ensures sets { λ x. ⌜ (x .bits ≡ true → x .sets ≡ map l2SetFromC xs) ⌝ }
 {
     let first = l2_set_in(xs[0]);
     let mut ys = [first; 512];
+    let mut bits = true;
     for t in 0..512 {
+        bits = bits & l2_set_bits(xs[t]);
         let v = l2_set_in(xs[t]);
         ys[t] = v;
     }
-    ys
+    L2In {
+        sets: ys,
+        bits: bits,
+    }
 }
 
-pub fn record_in(c: CRecord) -> Record
-    ensures { λ r. ⌜ r ≡ recordFromC c ⌝ }
+// A record of C's that was read: whether it stands for a record (`bits`), and for which.
+pub struct RecordIn {
+    pub record: Record,
+    pub bits: bool,
+}
+
+pub fn record_in(c: CRecord) -> RecordIn
+    ensures { λ x. ⌜ x .bits ≡ bitsOnly c ⌝ }
+    ensures same { λ x. ⌜ (x .bits ≡ true → x .«record» ≡ recordFromC c) ⌝ }
 {
     let xs = c.l1d;
     let ys = c.l2;
-    let l1d = l1d_in(xs);
-    let l2 = l2_in(ys);
-    Record {
+    let x = l1d_in(xs);
+    let y = l2_in(ys);
+    let l1d = x.sets;
+    let l2 = y.sets;
+    let r = Record {
         l2len: c.l2len,
         extlen: c.extlen,
         mode: c.mode,
@@ -193,6 +192,10 @@ pub fn record_in(c: CRecord) -> Record
         mar129: c.mar129 == 1,
         l1d: l1d,
         l2: l2,
+    };
+    RecordIn {
+        record: r,
+        bits: ((c.mar128 < 2) & (c.mar129 < 2)) & (x.bits & y.bits),
     }
 }
 

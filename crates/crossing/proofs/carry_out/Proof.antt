@@ -1,94 +1,108 @@
--- `crossing::carry_out` meets its contract: a record with bits only goes in, through the call and back out, as the definition goes; any other comes back
--- as given, with the number that the lengths decide. Assumes nothing.
-use Rattle.crossing.specs.Joined.{command-read, command-unread}
+-- `crossing::carry_out` meets its contract: where a number is due before the command, C's record comes back as given; else the record that it stands
+-- for goes through one step of the loop and back out. Assumes nothing.
+use Rattle.crossing.specs.Joined.{command-refused, command-done}
 use Rattle.model.specs.Trace.{command}
 use Rattle.model.specs.declared.Command.{Command}
-use mathlib.Core.Path.{sym, _∙_}
+use lib.ListN.{length-replicate, replicate}
+use Prim.Native.Nat.{ℕ}
+use mathlib.Core.Path.{refl}
 use borrow.Author.Needs.{needs}
 use Rattle.crossing.proofs.carry_out.Statement.{statement}
 use Rattle.crossing.proofs.carry_out.Tie as tie
 
--- ---- the way back, and the command that is asked for
-abbrev at-start : tie.After-bits → tie.Start
-at-start c = c .before .before .before .before
+-- ---- the way back: from the end to the loop, whose memories have been given back since; from the checks to the record as it was read in, and from there
+-- to the arguments; and the command that is asked for
+abbrev at-execute : tie.After-given-back → tie.After-execute
+at-execute c =
+    let p-ext = c .before .before .before .before .before in
+    p-ext .before .before .before .before .before
 
-abbrev at-one-command : tie.After-given-back → tie.After-one-command
-at-one-command c = c .before .before .before .before .before .before .before
+abbrev at-record-in : tie.After-lent-due → tie.After-record-in
+at-record-in c = c .before .before .before .before
+
+abbrev at-start : tie.After-record-in → tie.Start
+at-start c = c .before .before .before .before
 
 abbrev asked : tie.Start → Command
 asked c = command (c .args .code) (c .args .first) (c .args .second) (c .args .value)
 
 -- ---- the needs
-bits-requires : tie.Need-bits-requires
-bits-requires c κs = search needs
-
 record-in-requires : tie.Need-record-in-requires
 record-in-requires c κs = search needs
 
-one-command-requires : tie.Need-one-command-requires
-one-command-requires c κs = search needs
+lent-due-requires : tie.Need-lent-due-requires
+lent-due-requires c κs = search needs
+
+same-length : tie.Need-same-length
+same-length c = refl
+
+same-length-2 : tie.Need-same-length-2
+same-length-2 c = refl
+
+same-length-3 : tie.Need-same-length-3
+same-length-3 c = refl
+
+returns : tie.Need-returns
+returns c =
+    let p-lent-due = c .before in
+    let p-record-in = at-record-in p-lent-due in
+    let start = at-start p-record-in in
+    let a = start .args in
+    let x = p-record-in .record-in in
+    command-refused (a .c) (a .l1d .now) (a .l2 .now) (a .ext .now) (x .result) (x .ensures .0) (x .ensures .1) (p-lent-due .lent-due .result)
+    (p-lent-due .lent-due .ensures) (asked start) (c .if1 .taken)
+
+slice-aggregate-execute : tie.Need-slice-aggregate-execute
+slice-aggregate-execute c = search needs
+
+slice-aggregate-execute-2 : tie.Need-slice-aggregate-execute-2
+slice-aggregate-execute-2 c = search needs
+
+execute-requires : tie.Need-execute-requires
+execute-requires c κs = search needs
 
 given-back-requires : tie.Need-given-back-requires
 given-back-requires c κs = search needs
 
--- the call keeps the length of each lent memory
-same-length : tie.Need-same-length
-same-length c = at-one-command c .one-command .kept .1 .1 .1 .1 .1 .0
-
-same-length-2 : tie.Need-same-length-2
-same-length-2 c = at-one-command c .one-command .kept .1 .1 .1 .1 .1 .1 .0
-
-same-length-3 : tie.Need-same-length-3
-same-length-3 c = at-one-command c .one-command .kept .1 .1 .1 .1 .1 .1 .1 .0
-
-returns : tie.Need-returns
-returns c =
-    let p-one-command = at-one-command c in
-    let p-record-in = p-one-command .before .before .before .before in
-    let p-if1 = p-record-in .before in
-    let p-bits = p-if1 .before in
-    let start = at-start p-bits in
-    let a = start .args in
-    let after = p-one-command .one-command .last .1 .1 .1 .1 .1 in
-    command-read (asked start) (a .c) (a .l1d .now) (a .l2 .now) (a .ext .now) (sym (p-bits .bits .ensures) ∙ p-if1 .if1 .taken)
-    (p-record-in .record-in .result) (p-record-in .record-in .ensures)
-    (p-one-command .one-command .result) (c .given-back .result) (after .0) (after .1 .0) (after .1 .1 .0)
-    (p-one-command .one-command .ensures) (c .given-back .ensures)
-
-unread-due-requires : tie.Need-unread-due-requires
-unread-due-requires c κs = search needs
-
+-- the loop keeps the length of each lent memory
 same-length-4 : tie.Need-same-length-4
-same-length-4 c = search needs
+same-length-4 c = at-execute c .execute .kept .1 .1 .1 .1 .0
 
 same-length-5 : tie.Need-same-length-5
-same-length-5 c = search needs
+same-length-5 c = at-execute c .execute .kept .1 .1 .1 .1 .1 .0
 
 same-length-6 : tie.Need-same-length-6
-same-length-6 c = search needs
+same-length-6 c = at-execute c .execute .kept .1 .1 .1 .1 .1 .1 .0
 
 returns-2 : tie.Need-returns-2
 returns-2 c =
-    let p-if1 = c .before .before .before .before in
-    let p-bits = p-if1 .before in
-    let start = at-start p-bits in
+    let p-execute = at-execute c in
+    let p-if1 = p-execute .before .before .before .before .before .before .before in
+    let p-lent-due = p-if1 .before in
+    let p-record-in = at-record-in p-lent-due in
+    let start = at-start p-record-in in
     let a = start .args in
-    command-unread (asked start) (a .c) (a .l1d .now) (a .l2 .now) (a .ext .now) (sym (p-bits .bits .ensures) ∙ p-if1 .if1 .left)
-    (c .unread-due .result) (c .unread-due .ensures)
+    let x = p-record-in .record-in in
+    let last = p-execute .execute .last .1 .1 .1 .1 in
+    command-done (a .c) (a .l1d .now) (a .l2 .now) (a .ext .now) (x .result) (x .ensures .0) (x .ensures .1) (p-lent-due .lent-due .result)
+    (p-lent-due .lent-due .ensures) (p-if1 .if1 .left) (asked start) (replicate 1 0) (replicate 10 0) (p-execute .execute .result)
+    (last .0) (last .1 .0) (last .1 .1 .0) (last .1 .1 .1 .0) (length-replicate {A = ℕ} 10 0) (p-execute .execute .ensures)
+    (c .given-back .result) (c .given-back .ensures)
 
 pub carry-out-spec : {M : Type 1} → statement M
 carry-out-spec =
     tie.close
     (tie.spec
-    bits-requires
     record-in-requires
-    one-command-requires
-    given-back-requires
+    lent-due-requires
     same-length
     same-length-2
     same-length-3
     returns
-    unread-due-requires
+    slice-aggregate-execute
+    slice-aggregate-execute-2
+    execute-requires
+    given-back-requires
     same-length-4
     same-length-5
     same-length-6

@@ -8,7 +8,9 @@ record-out-requires : tie.Need-record-out-requires
 record-out-requires c κs = search needs
 
 returns : tie.Need-returns
-returns c = back-joined (c .before .before .args .x) (c .record-out .result) (c .record-out .ensures)
+returns c =
+    let a = c .before .args in
+    back-joined (a .r) (a .number) (a .server) (a .value) (c .record-out .result) (c .record-out .ensures)
 
 pub given-back-spec : {M : Type 1} → statement M
 given-back-spec = tie.close (tie.spec record-out-requires returns)

@@ -1,7 +1,7 @@
--- `layout::l2_in` meets its contract: after each turn the sets passed so far are converted, so that at the end all are. Assumes nothing.
+-- `layout::l2_in` meets its contract: after each turn the flag has the tests of the sets passed so far, and if it stands they are converted. Assumes nothing.
 use Rattle.model.specs.Records.{noL2Set}
-use Rattle.layout.specs.Loops.{Filling, filling-first, filling-next, filling-last, noCL2Set}
-use Rattle.layout.specs.Layout.{l2SetFromC}
+use Rattle.layout.specs.Loops.{Reading, reading-first, reading-next, reading-last, noCL2Set}
+use Rattle.layout.specs.Layout.{l2SetBits, l2SetFromC}
 use native.Mathlib.Omega.{arith}
 use lib.ListN.{length}
 use mathlib.Core.Path.{_≡_}
@@ -11,10 +11,10 @@ use Rattle.layout.proofs.l2_in.Statement.{statement}
 use Rattle.layout.proofs.l2_in.Tie as tie
 
 abbrev Inv-loop : tie.InvT-loop
-Inv-loop xs ys₀ t₀ ys t = Filling l2SetFromC 512 xs ys₀ ys t
+Inv-loop xs ys₀ bits₀ t₀ ys bits t = Reading l2SetFromC l2SetBits 512 xs ys₀ ys bits t
 
 abbrev μ-loop : tie.MeasureT-loop
-μ-loop xs ys₀ t₀ ys t = 512 - t
+μ-loop xs ys₀ bits₀ t₀ ys bits t = 512 - t
 
 -- the array has its length
 long : (start : tie.Start Inv-loop μ-loop) → length (start .args .t1) ≡ 512
@@ -27,7 +27,16 @@ l2-set-in-requires : tie.Need-l2-set-in-requires Inv-loop μ-loop
 l2-set-in-requires c κs = search needs
 
 loop-holds : tie.Need-loop-holds Inv-loop μ-loop
-loop-holds c = filling-first l2SetFromC 512 (c .before .before .args .t1) (c .l2-set-in .result)
+loop-holds c = reading-first l2SetFromC l2SetBits 512 (c .before .before .args .t1) (c .l2-set-in .result)
+
+mul-l2-set-bits : tie.Need-mul-l2-set-bits Inv-loop μ-loop
+mul-l2-set-bits c = search needs
+
+array-copy-out-l2-set-bits : tie.Need-array-copy-out-l2-set-bits Inv-loop μ-loop
+array-copy-out-l2-set-bits c = search needs
+
+l2-set-bits-requires : tie.Need-l2-set-bits-requires Inv-loop μ-loop
+l2-set-bits-requires c κs = search needs
 
 mul-l2-set-in : tie.Need-mul-l2-set-in Inv-loop μ-loop
 mul-l2-set-in c = search needs
@@ -52,19 +61,21 @@ loop-less c = search needs
 
 loop-again : tie.Need-loop-again Inv-loop μ-loop
 loop-again c =
-    let p-loop = c .before .before .before in
+    let p-bits = c .before .before in
+    let p-loop = p-bits .before .before .before in
     let p-first = p-loop .before in
     let start = p-first .before .before in
-    filling-next l2SetFromC noCL2Set noL2Set 512 (start .args .t1) (long start) (p-first .l2-set-in .result) (p-loop .loop .ys) (p-loop .loop .t)
-    (p-loop .loop .inv) (c .l2-set-in2 .result) (c .l2-set-in2 .ensures) (omega arith)
+    reading-next l2SetFromC l2SetBits noCL2Set noL2Set 512 (start .args .t1) (long start) (p-first .l2-set-in .result) (p-loop .loop .ys)
+    (p-loop .loop .bits) (p-loop .loop .t) (p-loop .loop .inv) (p-bits .l2-set-bits .result) (p-bits .l2-set-bits .ensures)
+    (c .l2-set-in2 .result) (c .l2-set-in2 .ensures) (omega arith)
 
 returns : tie.Need-returns Inv-loop μ-loop
 returns c =
     let p-loop = c .before in
     let p-first = p-loop .before in
     let start = p-first .before .before in
-    filling-last l2SetFromC noCL2Set noL2Set 512 (start .args .t1) (long start) (p-first .l2-set-in .result) (p-loop .loop .ys) (p-loop .loop .t)
-    (p-loop .loop .inv) (omega arith)
+    reading-last l2SetFromC l2SetBits noCL2Set noL2Set 512 (start .args .t1) (long start) (p-first .l2-set-in .result) (p-loop .loop .ys)
+    (p-loop .loop .bits) (p-loop .loop .t) (p-loop .loop .inv) (omega arith)
 
 pub l2-in-spec : {M : Type 1} → statement M
 l2-in-spec =
@@ -75,6 +86,9 @@ l2-in-spec =
     array-copy-out-l2-set-in
     l2-set-in-requires
     loop-holds
+    mul-l2-set-bits
+    array-copy-out-l2-set-bits
+    l2-set-bits-requires
     mul-l2-set-in
     array-copy-out-l2-set-in-2
     l2-set-in-requires-2
