@@ -90,21 +90,23 @@ pub fn execute(
                             continue;
                         }
                         let al = away.line;
-                        let th = L2::set_of(sets, al.address);
-                        let home = r.l2[th];
-                        let sent = eviction::send_home(
-                            home,
-                            sram,
-                            sets,
-                            th,
-                            j,
-                            away.way,
-                            al,
-                            l1d,
-                            l2,
-                            ext,
-                        );
-                        r.l2[th] = sent;
+                        if stages::goes_inside(sets, al) {
+                            let th = L2::set_of(sets, al.address);
+                            let home = r.l2[th];
+                            let sent = eviction::send_inside(
+                                home,
+                                sram,
+                                sets,
+                                th,
+                                j,
+                                away.way,
+                                al.address,
+                                l1d,
+                                l2,
+                            );
+                            r.l2[th] = sent;
+                        }
+                        eviction::send_below(sets, j, away.way, al, l1d, l2, ext);
                         let rest = stages::emptied(pair, away);
                         r.l1d[j] = rest;
                     }

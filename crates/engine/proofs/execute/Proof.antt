@@ -6,20 +6,20 @@ use Rattle.turns.specs.Turn.{size-known, cached-is, due-is, Asked, Roomed, room
 use Rattle.turns.specs.Executed.{sourceOf, endOf, noAnswer, answerOf, Executed, executes, turn, stopped, at-end, Going, goes-on, First, Second}
 use Rattle.blocks.specs.Sweeping.{Kept as Through, kept-none, kept-next, sets-now, sram-now}
 use Rattle.l1d_commands.specs.Sweep.{l1dTurn}
-use Rattle.l1d_commands.specs.Turn.{l1d-off, l1d-on}
+use Rattle.l1d_commands.specs.Turn.{l1d-off, Leaves, l1d-inside, l1d-below}
 use Rattle.l2_commands.specs.Sweep.{l2Turn, settledAs}
 use Rattle.l2_commands.specs.Turn.{l2-off, l2-on}
 use Rattle.commands.specs.Commands.{line-l2, line-l1d, l2-done, l1d-done}
 use Rattle.commands.specs.declared.Begun.{Begun}
 use Rattle.joins.specs.Sets.{withSets}
 use Rattle.joins.specs.Miss.{room, ready}
-use Rattle.stages.specs.Stages.{frontAs, sentAs, insideAs, belowAs, sendBelow, takenAs, broughtAs, finishedAs}
+use Rattle.stages.specs.Stages.{frontAs, insideAs, belowAs, sendBelow, takenAs, broughtAs, finishedAs}
 use Rattle.stages.specs.declared.Answer.{Answer}
 use Rattle.decode.specs.declared.Decoded.{Decoded as Next}
 use Rattle.model.specs.Basics.{each}
 use Rattle.model.specs.Memories.{sramLength}
 use Rattle.model.specs.Lines.{l2Sets}
-use Rattle.model.specs.Records.{State, state, l2SetsOf, l2SetOf, l2Data, sramOf, withL1dSet, withL2Set}
+use Rattle.model.specs.Records.{State, state, l2SetsOf, l2SetOf, l2Data, sramOf, withL1dSet}
 use Rattle.model.specs.Homes.{homeIsL2, l2WayFor, homeServer}
 use Rattle.model.specs.Trace.{Decoded}
 use Rattle.model.specs.Calls.{Reply, reply, step, putAnswer}
@@ -118,9 +118,18 @@ line-known c = c .before .before
 abbrev line-aimed : tie.After-l2-held I₂ μ₂ I₁ μ₁ I μ → tie.After-l2-target I₂ μ₂ I₁ μ₁ I μ
 line-aimed c = c .before .before
 
--- a line of an L1D command, from where its way is emptied: it leaves
-abbrev line-gone : tie.After-slice-known9 I₂ μ₂ I₁ μ₁ I μ → tie.Else6 I₂ μ₂ I₁ μ₁ I μ
-line-gone c = c .before .before .before .before .before .before .before .before .before .before .before
+-- a line of an L1D command, from where its way is emptied: it has gone below if it goes there; arms meet, it has gone into the L2 cache if it goes there; it leaves
+abbrev line-below : tie.After-slice-known10 I₂ μ₂ I₁ μ₁ I μ → tie.After-send-below I₂ μ₂ I₁ μ₁ I μ
+line-below c = c .before .before .before .before
+
+abbrev line-sent : tie.After-send-below I₂ μ₂ I₁ μ₁ I μ → tie.Joined7 I₂ μ₂ I₁ μ₁ I μ
+line-sent c = c .before .before .before .before
+
+abbrev line-gone : tie.Joined7 I₂ μ₂ I₁ μ₁ I μ → tie.Else6 I₂ μ₂ I₁ μ₁ I μ
+line-gone c = c .before .before .before
+
+abbrev line-loop : tie.Else6 I₂ μ₂ I₁ μ₁ I μ → tie.At-loop3 I₂ μ₂ I₁ μ₁ I μ
+line-loop c = c .before .before .before .before .before .before
 
 abbrev at-turn : tie.After-set-of2 I₂ μ₂ I₁ μ₁ I μ → tie.Else1 I₂ μ₂ I₁ μ₁ I μ
 at-turn c = c .before .before .before .before .before .before .before
@@ -131,19 +140,19 @@ at-set c = c .before .before .before .before .before
 abbrev at-front : tie.After-leaving I₂ μ₂ I₁ μ₁ I μ → tie.After-front I₂ μ₂ I₁ μ₁ I μ
 at-front c = c .before .before .before .before .before .before
 
-abbrev at-leaving : tie.Joined8 I₂ μ₂ I₁ μ₁ I μ → tie.After-leaving I₂ μ₂ I₁ μ₁ I μ
+abbrev at-leaving : tie.Joined9 I₂ μ₂ I₁ μ₁ I μ → tie.After-leaving I₂ μ₂ I₁ μ₁ I μ
 at-leaving c = c .before .before .before
 
-abbrev at-left : tie.After-send-below I₂ μ₂ I₁ μ₁ I μ → tie.Joined8 I₂ μ₂ I₁ μ₁ I μ
+abbrev at-left : tie.After-send-below2 I₂ μ₂ I₁ μ₁ I μ → tie.Joined9 I₂ μ₂ I₁ μ₁ I μ
 at-left c = c .before .before .before .before
 
-abbrev at-below : tie.After-emptied2 I₂ μ₂ I₁ μ₁ I μ → tie.After-send-below I₂ μ₂ I₁ μ₁ I μ
+abbrev at-below : tie.After-emptied2 I₂ μ₂ I₁ μ₁ I μ → tie.After-send-below2 I₂ μ₂ I₁ μ₁ I μ
 at-below c = c .before .before .before .before .before
 
-abbrev at-room : tie.Joined9 I₂ μ₂ I₁ μ₁ I μ → tie.After-emptied2 I₂ μ₂ I₁ μ₁ I μ
+abbrev at-room : tie.Joined10 I₂ μ₂ I₁ μ₁ I μ → tie.After-emptied2 I₂ μ₂ I₁ μ₁ I μ
 at-room c = c .before .before .before
 
-abbrev at-ready : tie.After-finish I₂ μ₂ I₁ μ₁ I μ → tie.Joined9 I₂ μ₂ I₁ μ₁ I μ
+abbrev at-ready : tie.After-finish I₂ μ₂ I₁ μ₁ I μ → tie.Joined10 I₂ μ₂ I₁ μ₁ I μ
 at-ready c = c .before .before .before .before .before
 
 abbrev at-low : tie.After-xs I₂ μ₂ I₁ μ₁ I μ → tie.After-set-of5 I₂ μ₂ I₁ μ₁ I μ
@@ -207,11 +216,11 @@ frontL1d c = c .front .last .1 .1 .1 .1 .1 .0
 abbrev frontExt : tie.After-front I₂ μ₂ I₁ μ₁ I μ → List ℕ
 frontExt c = c .front .last .1 .1 .1 .1 .1 .1 .0
 
-abbrev belowL2 : tie.After-send-below I₂ μ₂ I₁ μ₁ I μ → List ℕ
-belowL2 c = c .send-below .last .1 .1 .1 .1 .1 .0
+abbrev belowL2 : tie.After-send-below2 I₂ μ₂ I₁ μ₁ I μ → List ℕ
+belowL2 c = c .send-below2 .last .1 .1 .1 .1 .1 .0
 
-abbrev belowExt : tie.After-send-below I₂ μ₂ I₁ μ₁ I μ → List ℕ
-belowExt c = c .send-below .last .1 .1 .1 .1 .1 .1 .0
+abbrev belowExt : tie.After-send-below2 I₂ μ₂ I₁ μ₁ I μ → List ℕ
+belowExt c = c .send-below2 .last .1 .1 .1 .1 .1 .1 .0
 
 -- ---- what is known there
 -- the place of a set in its array does not wrap
@@ -339,6 +348,89 @@ l1d-arm c w =
 all-done : (c : tie.Joined4 I₂ μ₂ I₁ μ₁ I μ) → Done c
 all-done c = ⊎-elim (l2-arm c) (l1d-arm c) (c .if4 .came)
 
+-- ---- a line of an L1D command has left: it has gone into the L2 cache, or below it, and its way is empty. Neither changes the mode or a length
+abbrev sentL2 : tie.After-send-below I₂ μ₂ I₁ μ₁ I μ → List ℕ
+sentL2 c = c .send-below .last .1 .1 .1 .1 .1 .0
+
+abbrev sentExt : tie.After-send-below I₂ μ₂ I₁ μ₁ I μ → List ℕ
+sentExt c = c .send-below .last .1 .1 .1 .1 .1 .1 .0
+
+abbrev meant : tie.After-emptied I₂ μ₂ I₁ μ₁ I μ → tie.Joined7 I₂ μ₂ I₁ μ₁ I μ
+meant c = line-sent (line-below (c .before))
+
+record LineLeft (c : tie.After-emptied I₂ μ₂ I₁ μ₁ I μ) : Type 0 where
+  mode : meant c .if7 .r .mode ≡ line-loop (line-gone (meant c)) .loop3 .r .mode
+  l2len : meant c .if7 .r .l2len ≡ line-loop (line-gone (meant c)) .loop3 .r .l2len
+  l2Long : length (meant c .if7 .l2) ≡ length (line-loop (line-gone (meant c)) .loop3 .l2)
+  made : let p-below = line-below (c .before) in let p-loop3 = line-loop (line-gone (meant c)) in let i = p-loop3 .loop3 in
+      let b = begun-l1d p-loop3 in let d = at-loop (turn-begun b) .loop .l1d in
+      state (withL1dSet (meant c .if7 .r) (line-gone (meant c) .before .before .before .before .l1d-target .result .set) (c .emptied .result)) d
+      (sentL2 p-below) (sentExt p-below)
+      ≡ l1dTurn (swept b .code) (swept b .first) (i .k) (state (i .r) d (i .l2) (i .ext))
+
+-- what is known of it
+abbrev aims : tie.Joined7 I₂ μ₂ I₁ μ₁ I μ → tie.After-l1d-target I₂ μ₂ I₁ μ₁ I μ
+aims c = line-gone c .before .before .before .before
+
+leaves : (c : tie.After-emptied I₂ μ₂ I₁ μ₁ I μ) →
+    let p-loop3 = line-loop (line-gone (meant c)) in let b = begun-l1d p-loop3 in let l = at-loop (turn-begun b) .loop in
+    Leaves (swept b .code) (swept b .first) (p-loop3 .loop3 .k) (p-loop3 .loop3 .r) (aims (meant c) .l1d-target .result)
+    (line-gone (meant c) .before .before .l1d-gone .result) (l .sram) (l .sets) (c .emptied .result)
+leaves c =
+    let p-if6 = line-gone (meant c) in
+    let p-l1d-gone = p-if6 .before .before in
+    let p-loop3 = line-loop p-if6 in
+    let p-begun = begun-l1d p-loop3 in
+    let i = p-loop3 .loop3 in
+    record {
+      at = aims (meant c) .l1d-target .ensures .0;
+      gone = p-l1d-gone .l1d-gone .ensures .0;
+      empties = not-false (p-l1d-gone .l1d-gone .result .empties) (p-if6 .if6 .left);
+      ram = sram-is p-begun (i .r) (i .inv .mode) (i .inv .l2len);
+      same = sets-are p-begun (i .r) (i .inv .mode);
+      rest = c .emptied .ensures;
+    }
+
+line-inside : (c : tie.After-emptied I₂ μ₂ I₁ μ₁ I μ) → First (meant c .if7 .came) → LineLeft c
+line-inside c w =
+    let p-below = line-below (c .before) in
+    let p-loop3 = line-loop (line-gone (meant c)) in
+    let l = at-loop (turn-begun (begun-l1d p-loop3)) .loop in let i = p-loop3 .loop3 in
+    let p = aims (meant c) .l1d-target .result in let g = line-gone (meant c) .before .before .l1d-gone .result in
+    -- the arm: its test, L2's set for the line, the call; and what it leaves
+    let test = w .0 in let home = w .1 in let sent = w .5 in let l2Is = w .8 in let rIs = w .9 in
+    record {
+      mode = ap (λ (x : Record). x .mode) rIs;
+      l2len = ap (λ (x : Record). x .l2len) rIs;
+      l2Long = ap length l2Is ∙ sent .kept .1 .1 .1 .1 .1 .1 .1 .1 .0;
+      made = (λ j. state (withL1dSet (rIs j) (p .set) (c .emptied .result)) (l .l1d) (sentL2 p-below) (sentExt p-below))
+          ∙ l1d-inside (leaves c) (l .l1d) (i .l2) (i .ext) (belowAs (sentL2 p-below) (sentExt p-below)) (home .result)
+          (insideAs (sent .result) (sent .last .1 .1 .1 .1 .1 .1 .1 .1 .0))
+          (sym (meant c .before .goes-inside .ensures) ∙ test .taken) (home .ensures .0) (sent .ensures)
+          (p-below .send-below .ensures ∙ (λ j. sendBelow (l .sets) (p .set) (g .way) (g .line) (l .l1d) (l2Is j) (i .ext)));
+    }
+
+line-outside : (c : tie.After-emptied I₂ μ₂ I₁ μ₁ I μ) → Second (meant c .if7 .came) → LineLeft c
+line-outside c w =
+    let p-below = line-below (c .before) in
+    let p-loop3 = line-loop (line-gone (meant c)) in
+    let l = at-loop (turn-begun (begun-l1d p-loop3)) .loop in let i = p-loop3 .loop3 in
+    let p = aims (meant c) .l1d-target .result in let g = line-gone (meant c) .before .before .l1d-gone .result in
+    -- the arm: its test, and that nothing was done
+    let test = w .0 in let l2Is = w .1 in let rIs = w .2 in
+    record {
+      mode = ap (λ (x : Record). x .mode) rIs;
+      l2len = ap (λ (x : Record). x .l2len) rIs;
+      l2Long = ap length l2Is;
+      made = (λ j. state (withL1dSet (rIs j) (p .set) (c .emptied .result)) (l .l1d) (sentL2 p-below) (sentExt p-below))
+          ∙ l1d-below (leaves c) (l .l1d) (i .l2) (i .ext) (belowAs (sentL2 p-below) (sentExt p-below))
+          (sym (meant c .before .goes-inside .ensures) ∙ test .left)
+          (p-below .send-below .ensures ∙ (λ j. sendBelow (l .sets) (p .set) (g .way) (g .line) (l .l1d) (l2Is j) (i .ext)));
+    }
+
+line-left : (c : tie.After-emptied I₂ μ₂ I₁ μ₁ I μ) → LineLeft c
+line-left c = ⊎-elim (line-inside c) (line-outside c) (meant c .if7 .came)
+
 -- ---- a read or write, once the front is done
 abbrev asked : tie.After-front I₂ μ₂ I₁ μ₁ I μ → Asked
 asked c =
@@ -376,14 +468,14 @@ asked c =
 
 -- ---- a read miss has made room: the line that left has gone into the L2 cache, or below it. Neither changes the mode or a length
 record RoomMade (c : tie.After-emptied2 I₂ μ₂ I₁ μ₁ I μ) : Type 0 where
-  mode : at-left (at-below c) .if8 .r .mode ≡ asked (front-of-room c) .r .mode
-  l2len : at-left (at-below c) .if8 .r .l2len ≡ asked (front-of-room c) .r .l2len
-  l2Long : length (at-left (at-below c) .if8 .l2) ≡ length (asked (front-of-room c) .m)
+  mode : at-left (at-below c) .if9 .r .mode ≡ asked (front-of-room c) .r .mode
+  l2len : at-left (at-below c) .if9 .r .l2len ≡ asked (front-of-room c) .r .l2len
+  l2Long : length (at-left (at-below c) .if9 .l2) ≡ length (asked (front-of-room c) .m)
   made : let q = asked (front-of-room c) in
-      state (withL1dSet (at-left (at-below c) .if8 .r) (q .i) (c .emptied2 .result)) (q .f .l1d) (belowL2 (at-below c)) (belowExt (at-below c))
+      state (withL1dSet (at-left (at-below c) .if9 .r) (q .i) (c .emptied2 .result)) (q .f .l1d) (belowL2 (at-below c)) (belowExt (at-below c))
       ≡ room (q .write) (q .c .second) (state (q .r) (q .f .l1d) (q .m) (q .f .ext))
 
-inside-arm : (c : tie.After-emptied2 I₂ μ₂ I₁ μ₁ I μ) → First (at-left (at-below c) .if8 .came) → RoomMade c
+inside-arm : (c : tie.After-emptied2 I₂ μ₂ I₁ μ₁ I μ) → First (at-left (at-below c) .if9 .came) → RoomMade c
 inside-arm c w =
     let p-below = at-below c in
     let p-goes-inside = at-left p-below .before in
@@ -397,12 +489,12 @@ inside-arm c w =
       l2Long = ap length l2Is ∙ sent .kept .1 .1 .1 .1 .1 .1 .1 .1 .0;
       made = (λ j. state (withL1dSet (rIs j) (q .i) (c .emptied2 .result)) (q .f .l1d) (belowL2 p-below) (belowExt p-below))
           ∙ inside-of q g (c .emptied2 .result) (belowAs (belowL2 p-below) (belowExt p-below)) (p-leaving .leaving .ensures .0) (c .emptied2 .ensures) (set .result)
-          (insideAs (sent .result) (sent .last .1 .1 .1 .1 .1 .1 .1 .1 .0)) (sym (p-goes-inside .goes-inside .ensures) ∙ test .taken)
+          (insideAs (sent .result) (sent .last .1 .1 .1 .1 .1 .1 .1 .1 .0)) (sym (p-goes-inside .goes-inside2 .ensures) ∙ test .taken)
           (set .ensures .0) (sent .ensures)
-          (p-below .send-below .ensures ∙ (λ j. sendBelow (q .sets) (q .i) (g .way) (g .line) (q .f .l1d) (l2Is j) (q .f .ext)));
+          (p-below .send-below2 .ensures ∙ (λ j. sendBelow (q .sets) (q .i) (g .way) (g .line) (q .f .l1d) (l2Is j) (q .f .ext)));
     }
 
-below-arm : (c : tie.After-emptied2 I₂ μ₂ I₁ μ₁ I μ) → Second (at-left (at-below c) .if8 .came) → RoomMade c
+below-arm : (c : tie.After-emptied2 I₂ μ₂ I₁ μ₁ I μ) → Second (at-left (at-below c) .if9 .came) → RoomMade c
 below-arm c w =
     let p-below = at-below c in
     let p-goes-inside = at-left p-below .before in
@@ -416,12 +508,12 @@ below-arm c w =
       l2Long = ap length l2Is;
       made = (λ j. state (withL1dSet (rIs j) (q .i) (c .emptied2 .result)) (q .f .l1d) (belowL2 p-below) (belowExt p-below))
           ∙ below-of q g (c .emptied2 .result) (belowAs (belowL2 p-below) (belowExt p-below)) (p-leaving .leaving .ensures .0) (c .emptied2 .ensures)
-          (sym (p-goes-inside .goes-inside .ensures) ∙ test .left)
-          (p-below .send-below .ensures ∙ (λ j. sendBelow (q .sets) (q .i) (g .way) (g .line) (q .f .l1d) (l2Is j) (q .f .ext)));
+          (sym (p-goes-inside .goes-inside2 .ensures) ∙ test .left)
+          (p-below .send-below2 .ensures ∙ (λ j. sendBelow (q .sets) (q .i) (g .way) (g .line) (q .f .l1d) (l2Is j) (q .f .ext)));
     }
 
 room-made : (c : tie.After-emptied2 I₂ μ₂ I₁ μ₁ I μ) → RoomMade c
-room-made c = ⊎-elim (inside-arm c) (below-arm c) (at-left (at-below c) .if8 .came)
+room-made c = ⊎-elim (inside-arm c) (below-arm c) (at-left (at-below c) .if9 .came)
 
 abbrev roomed : (c : tie.After-emptied2 I₂ μ₂ I₁ μ₁ I μ) → Roomed (asked (front-of-room c))
 roomed c =
@@ -429,9 +521,9 @@ roomed c =
     let p-left = at-left p-below in
     let p-leaving = at-leaving p-left in
     record {
-      dn = p-leaving .before .if7 .left;
+      dn = p-leaving .before .if8 .left;
       g = p-leaving .leaving .result;
-      r₁ = p-left .if8 .r;
+      r₁ = p-left .if9 .r;
       m₁ = belowL2 p-below;
       e₁ = belowExt p-below;
       emptiedSet = c .emptied2 .result;
@@ -442,20 +534,20 @@ roomed c =
     }
 
 -- ---- L2 is ready, where it is the home, or it is not: the place and the server are those of the line's home, and neither changes the mode or a length
-record ReadyMade (c : tie.Joined9 I₂ μ₂ I₁ μ₁ I μ) : Type 0 where
-  mode : c .if9 .r .mode ≡ roomed (at-room c) .r₁ .mode
-  l2len : c .if9 .r .l2len ≡ roomed (at-room c) .r₁ .l2len
-  l2Long : length (c .if9 .l2) ≡ length (roomed (at-room c) .m₁)
-  extLong : length (c .if9 .ext) ≡ length (roomed (at-room c) .e₁)
+record ReadyMade (c : tie.Joined10 I₂ μ₂ I₁ μ₁ I μ) : Type 0 where
+  mode : c .if10 .r .mode ≡ roomed (at-room c) .r₁ .mode
+  l2len : c .if10 .r .l2len ≡ roomed (at-room c) .r₁ .l2len
+  l2Long : length (c .if10 .l2) ≡ length (roomed (at-room c) .m₁)
+  extLong : length (c .if10 .ext) ≡ length (roomed (at-room c) .e₁)
   made : let q = asked (front-of-room (at-room c)) in let n = roomed (at-room c) in
-      state (c .if9 .r) (q .f .l1d) (c .if9 .l2) (c .if9 .ext) ≡ ready (q .write) (q .c .second) (roomState q n)
+      state (c .if10 .r) (q .f .l1d) (c .if10 .l2) (c .if10 .ext) ≡ ready (q .write) (q .c .second) (roomState q n)
   placed : let q = asked (front-of-room (at-room c)) in let n = roomed (at-room c) in let a = q .c .second in
-      homeIsL2 (roomRecord q n) a ≡ true → c .if9 .place ≡ l2Data (roomRecord q n) (l2SetOf (roomRecord q n) a) (l2WayFor (roomState q n) a)
-  small : c .if9 .place < 8589934592
+      homeIsL2 (roomRecord q n) a ≡ true → c .if10 .place ≡ l2Data (roomRecord q n) (l2SetOf (roomRecord q n) a) (l2WayFor (roomState q n) a)
+  small : c .if10 .place < 8589934592
   served : let q = asked (front-of-room (at-room c)) in let n = roomed (at-room c) in
-      c .if9 .server ≡ homeServer (q .c .second) (roomState q n)
+      c .if10 .server ≡ homeServer (q .c .second) (roomState q n)
 
-homed-arm : (c : tie.Joined9 I₂ μ₂ I₁ μ₁ I μ) → First (c .if9 .came) → ReadyMade c
+homed-arm : (c : tie.Joined10 I₂ μ₂ I₁ μ₁ I μ) → First (c .if10 .came) → ReadyMade c
 homed-arm c w =
     let p-homed = c .before .before in
     let q = asked (front-of-room (at-room c)) in let n = roomed (at-room c) in let h = p-homed .homed .result in let eh = p-homed .homed .ensures in
@@ -483,10 +575,10 @@ homed-arm c w =
       served =
           server-homed q n h eh (test .taken) (set .result) (chosen .result) (set .ensures .0) (chosen .ensures .0) (place .result)
           (place .ensures .0)
-          (c .if9 .server) (serverIs ∙ server .ensures);
+          (c .if10 .server) (serverIs ∙ server .ensures);
     }
 
-other-arm : (c : tie.Joined9 I₂ μ₂ I₁ μ₁ I μ) → Second (c .if9 .came) → ReadyMade c
+other-arm : (c : tie.Joined10 I₂ μ₂ I₁ μ₁ I μ) → Second (c .if10 .came) → ReadyMade c
 other-arm c w =
     let p-server-below = c .before in
     let p-homed = p-server-below .before in
@@ -499,13 +591,13 @@ other-arm c w =
       l2Long = ap length l2Is;
       extLong = ap length extIs;
       made = (λ j. state (rIs j) (q .f .l1d) (l2Is j) (extIs j)) ∙ unhomed-of q n h eh (test .left);
-      placed = place-unhomed q n h eh (test .left) (c .if9 .place);
+      placed = place-unhomed q n h eh (test .left) (c .if10 .place);
       small = rw placeIs (search needs);
-      served = server-unhomed q n h eh (test .left) (c .if9 .server) (serverIs ∙ p-server-below .server-below .ensures);
+      served = server-unhomed q n h eh (test .left) (c .if10 .server) (serverIs ∙ p-server-below .server-below .ensures);
     }
 
-ready-made : (c : tie.Joined9 I₂ μ₂ I₁ μ₁ I μ) → ReadyMade c
-ready-made c = ⊎-elim (homed-arm c) (other-arm c) (c .if9 .came)
+ready-made : (c : tie.Joined10 I₂ μ₂ I₁ μ₁ I μ) → ReadyMade c
+ready-made c = ⊎-elim (homed-arm c) (other-arm c) (c .if10 .came)
 
 -- ---- the needs, in the order of the code: before the loop, and at its head
 no-answer-requires : tie.Need-no-answer-requires I₂ μ₂ I₁ μ₁ I μ
@@ -730,10 +822,11 @@ loop3-again c =
     (p-l1d-gone .l1d-gone .result) (p-l1d-target .l1d-target .ensures .0) (p-l1d-gone .l1d-gone .ensures .0)
     (not-true (p-l1d-gone .l1d-gone .result .empties) (c .if6 .taken)))
 
+goes-inside-requires : tie.Need-goes-inside-requires I₂ μ₂ I₁ μ₁ I μ
+goes-inside-requires c κs = search needs
+
 set-of-requires : tie.Need-set-of-requires I₂ μ₂ I₁ μ₁ I μ
-set-of-requires c κs =
-    let p-loop3 = c .before .before .before .before .before .before .before in
-    at-loop (turn-begun (begun-l1d p-loop3)) .loop .inv .setsSmall
+set-of-requires c κs = at-loop (turn-begun (begun-l1d (line-loop (c .before .before .before)))) .loop .inv .setsSmall
 
 mul-home : tie.Need-mul-home I₂ μ₂ I₁ μ₁ I μ
 mul-home c = l2-fits (c .set-of .ensures .1)
@@ -741,59 +834,53 @@ mul-home c = l2-fits (c .set-of .ensures .1)
 element-copy-out-home : tie.Need-element-copy-out-home I₂ μ₂ I₁ μ₁ I μ
 element-copy-out-home c = c .set-of .ensures .1
 
-send-home-requires : tie.Need-send-home-requires I₂ μ₂ I₁ μ₁ I μ
-send-home-requires c κs =
-    let p-set-of = c .before .before .before .before in
-    let p-l1d-gone = p-set-of .before .before .before .before in
-    let p-l1d-target = p-l1d-gone .before .before in
-    let inv = at-loop (turn-begun (begun-l1d (p-l1d-target .before .before))) .loop .inv in (
-      p-l1d-target .l1d-target .ensures .1 .0,
+send-inside-requires : tie.Need-send-inside-requires I₂ μ₂ I₁ μ₁ I μ
+send-inside-requires c κs =
+    let p-set-of = c .before .before .before in
+    let p-if6 = p-set-of .before .before .before .before in
+    let p-l1d-gone = p-if6 .before .before in
+    let inv = at-loop (turn-begun (begun-l1d (line-loop p-if6))) .loop .inv in (
+      p-l1d-gone .before .before .l1d-target .ensures .1 .0,
       (p-l1d-gone .l1d-gone .ensures .1, (inv .sramSmall, (inv .setsSmall, p-set-of .set-of .ensures .1))),
     )
 
 mul-sent : tie.Need-mul-sent I₂ μ₂ I₁ μ₁ I μ
-mul-sent c = l2-fits (c .before .before .before .before .before .before .before .before .before .set-of .ensures .1)
+mul-sent c = l2-fits (c .before .before .before .before .before .before .set-of .ensures .1)
 
 element-set-from-sent : tie.Need-element-set-from-sent I₂ μ₂ I₁ μ₁ I μ
-element-set-from-sent c = c .before .before .before .before .before .before .before .before .before .set-of .ensures .1
+element-set-from-sent c = c .before .before .before .before .before .before .set-of .ensures .1
+
+send-below-requires : tie.Need-send-below-requires I₂ μ₂ I₁ μ₁ I μ
+send-below-requires c κs =
+    let p-l1d-gone = line-gone (c .before .before .before) .before .before in
+    (p-l1d-gone .before .before .l1d-target .ensures .1 .0, p-l1d-gone .l1d-gone .ensures .1)
 
 emptied-requires : tie.Need-emptied-requires I₂ μ₂ I₁ μ₁ I μ
-emptied-requires c κs = line-gone c .before .before .l1d-gone .ensures .1
+emptied-requires c κs = line-gone (line-sent (line-below c)) .before .before .l1d-gone .ensures .1
 
 mul-rest : tie.Need-mul-rest I₂ μ₂ I₁ μ₁ I μ
-mul-rest c = l1d-fits (line-gone (c .before) .before .before .before .before .l1d-target .ensures .1 .0)
+mul-rest c = l1d-fits (line-gone (line-sent (line-below (c .before))) .before .before .before .before .l1d-target .ensures .1 .0)
 
 element-set-from-rest : tie.Need-element-set-from-rest I₂ μ₂ I₁ μ₁ I μ
-element-set-from-rest c = line-gone (c .before) .before .before .before .before .l1d-target .ensures .1 .0
+element-set-from-rest c = line-gone (line-sent (line-below (c .before))) .before .before .before .before .l1d-target .ensures .1 .0
 
 add-k-4 : tie.Need-add-k-4 I₂ μ₂ I₁ μ₁ I μ
 add-k-4 c =
-    let p-turn = line-gone (c .before) .before .before .before .before .before in
-    line-fits (begun-l1d (p-turn .before)) (p-turn .before .loop3 .k) (p-turn .loop3-test .taken)
+    let p-loop3 = line-loop (line-gone (line-sent (line-below (c .before)))) in
+    line-fits (begun-l1d p-loop3) (p-loop3 .loop3 .k) (line-gone (line-sent (line-below (c .before))) .before .before .before .before .before .loop3-test .taken)
 
 loop3-less-2 : tie.Need-loop3-less-2 I₂ μ₂ I₁ μ₁ I μ
-loop3-less-2 c = let t = line-gone (c .before) .before .before .before .before .before .loop3-test .taken in omega arith
+loop3-less-2 c = let t = line-gone (line-sent (line-below (c .before))) .before .before .before .before .before .loop3-test .taken in omega arith
 
 loop3-again-2 : tie.Need-loop3-again-2 I₂ μ₂ I₁ μ₁ I μ
 loop3-again-2 c =
-    let p-send-home = c .before .before .before .before .before in
-    let p-set-of = p-send-home .before .before .before .before .before in
-    let p-if6 = line-gone (c .before) in
-    let p-l1d-gone = p-if6 .before .before in
-    let p-l1d-target = p-l1d-gone .before .before in
-    let p-loop3 = p-l1d-target .before .before in
-    let p-begun = begun-l1d p-loop3 in
-    let l = at-loop (turn-begun p-begun) .loop in let i = p-loop3 .loop3 in
-    let p = p-l1d-target .l1d-target .result in let j = p-set-of .set-of .result in
-    let s = sentAs (p-send-home .send-home .result) (p-send-home .send-home .last .1 .1 .1 .1 .1 .1 .1 .1 .0)
-    (p-send-home .send-home .last .1 .1 .1 .1 .1 .1 .1 .1 .1 .0) in
-    kept-next (i .inv) (p-l1d-target .before .loop3-test .taken) (withL1dSet (withL2Set (i .r) j (s .set)) (p .set) (c .emptied .result)) (s .l2) (s .ext)
-    (p-send-home .send-home .kept .1 .1 .1 .1 .1 .1 .1 .1 .0) (p-send-home .send-home .kept .1 .1 .1 .1 .1 .1 .1 .1 .1 .0) refl refl
-    (l1d-on (swept p-begun .code) (swept p-begun .first) (i .k) (i .r) (l .l1d) (i .l2) (i .ext) p (p-l1d-gone .l1d-gone .result)
-    (p-l1d-target .l1d-target .ensures .0) (p-l1d-gone .l1d-gone .ensures .0) (l .sram) (l .sets) j s (c .emptied .result)
-    (not-false (p-l1d-gone .l1d-gone .result .empties) (p-if6 .if6 .left))
-    (sram-is p-begun (i .r) (i .inv .mode) (i .inv .l2len)) (sets-are p-begun (i .r) (i .inv .mode)) (p-set-of .set-of .ensures .0)
-    (p-send-home .send-home .ensures) (c .emptied .ensures))
+    let p-below = line-below (c .before) in
+    let p-sent = line-sent p-below in
+    let p-if6 = line-gone p-sent in
+    let i = line-loop p-if6 .loop3 in let y = line-left c in
+    kept-next (i .inv) (p-if6 .before .before .before .before .before .loop3-test .taken)
+    (withL1dSet (p-sent .if7 .r) (p-if6 .before .before .before .before .l1d-target .result .set) (c .emptied .result)) (sentL2 p-below) (sentExt p-below)
+    (p-below .send-below .kept .1 .1 .1 .1 .1 .0 ∙ y .l2Long) (p-below .send-below .kept .1 .1 .1 .1 .1 .1 .0) (y .mode) (y .l2len) (y .made)
 
 -- ---- a cache command: its answer
 put-answer-requires : tie.Need-put-answer-requires I₂ μ₂ I₁ μ₁ I μ
@@ -929,8 +1016,8 @@ loop-less-3 c = nearer (turn-fronted (c .before .before .before .before))
 loop-again-3 : tie.Need-loop-again-3 I₂ μ₂ I₁ μ₁ I μ
 loop-again-3 c =
     let p-put-answer3 = c .before .before .before in
-    let p-if7 = p-put-answer3 .before .before .before .before in
-    let p-front = p-if7 .before .before .before .before .before in
+    let p-if8 = p-put-answer3 .before .before .before .before in
+    let p-front = p-if8 .before .before .before .before .before in
     let p-turn = turn-fronted (p-put-answer3 .before) in
     let l = at-loop p-turn .loop in let g = going p-turn in let f = p-front .front .result in
     record {
@@ -945,15 +1032,15 @@ loop-again-3 c =
       sramSmall = l .inv .sramSmall;
       rest = onward p-turn (reply (f .answer .number) (f .answer .server) (f .answer .value)
           (state (withL1dSet (l .r) (at-set p-front .set-of2 .result) (f .set)) (frontL1d p-front) (l .l2) (frontExt p-front)))
-          (front-of (asked p-front) (p-if7 .if7 .taken)) (p-put-answer3 .put-answer3 .last .0) (p-put-answer3 .put-answer3 .ensures);
+          (front-of (asked p-front) (p-if8 .if8 .taken)) (p-put-answer3 .put-answer3 .last .0) (p-put-answer3 .put-answer3 .ensures);
     }
 
 -- ---- a miss: room in L1D
 leaving-requires : tie.Need-leaving-requires I₂ μ₂ I₁ μ₁ I μ
 leaving-requires c κs = search needs
 
-goes-inside-requires : tie.Need-goes-inside-requires I₂ μ₂ I₁ μ₁ I μ
-goes-inside-requires c κs = search needs
+goes-inside-requires-2 : tie.Need-goes-inside-requires-2 I₂ μ₂ I₁ μ₁ I μ
+goes-inside-requires-2 c κs = search needs
 
 set-of-requires-3 : tie.Need-set-of-requires-3 I₂ μ₂ I₁ μ₁ I μ
 set-of-requires-3 c κs = loop-of-front (at-front (c .before .before .before)) .loop .inv .setsSmall
@@ -964,8 +1051,8 @@ mul-hv c = l2-fits (c .set-of3 .ensures .1)
 element-copy-out-hv : tie.Need-element-copy-out-hv I₂ μ₂ I₁ μ₁ I μ
 element-copy-out-hv c = c .set-of3 .ensures .1
 
-send-inside-requires : tie.Need-send-inside-requires I₂ μ₂ I₁ μ₁ I μ
-send-inside-requires c κs =
+send-inside-requires-2 : tie.Need-send-inside-requires-2 I₂ μ₂ I₁ μ₁ I μ
+send-inside-requires-2 c κs =
     let p-set-of3 = c .before .before .before in
     let p-leaving = p-set-of3 .before .before .before .before in
     let p-front = at-front p-leaving in
@@ -978,8 +1065,8 @@ mul-hu c = l2-fits (c .before .before .before .before .before .before .set-of3 .
 element-set-from-hu : tie.Need-element-set-from-hu I₂ μ₂ I₁ μ₁ I μ
 element-set-from-hu c = c .before .before .before .before .before .before .set-of3 .ensures .1
 
-send-below-requires : tie.Need-send-below-requires I₂ μ₂ I₁ μ₁ I μ
-send-below-requires c κs =
+send-below-requires-2 : tie.Need-send-below-requires-2 I₂ μ₂ I₁ μ₁ I μ
+send-below-requires-2 c κs =
     let p-leaving = at-leaving (c .before .before .before) in
     (at-set (at-front p-leaving) .set-of2 .ensures .1, p-leaving .leaving .ensures .1)
 
@@ -1121,7 +1208,7 @@ loop-again-4 c =
     let g = going p-turn in
     let m = room-made p-room in
     let y = ready-made p-ready in
-    let j = p-ready .if9 in
+    let j = p-ready .if10 in
     let v = p-finish .finish .result in
     let mode = y .mode ∙ m .mode in let l2len = y .l2len ∙ m .l2len in
     let x = finishedAs v (p-finish .finish .last .1 .1 .1 .1 .1 .1 .0) (p-finish .finish .last .1 .1 .1 .1 .1 .1 .1 .0)
@@ -1129,9 +1216,9 @@ loop-again-4 c =
     record {
       counted = g .up;
       l1dLong = p-finish .finish .kept .1 .1 .1 .1 .1 .1 .0 ∙ p-front .front .kept .1 .1 .1 .1 .1 .0 ∙ l .inv .l1dLong;
-      l2Long = p-finish .finish .kept .1 .1 .1 .1 .1 .1 .1 .0 ∙ y .l2Long ∙ p-below .send-below .kept .1 .1 .1 .1 .1 .0 ∙ m .l2Long ∙ l .inv .l2Long;
+      l2Long = p-finish .finish .kept .1 .1 .1 .1 .1 .1 .1 .0 ∙ y .l2Long ∙ p-below .send-below2 .kept .1 .1 .1 .1 .1 .0 ∙ m .l2Long ∙ l .inv .l2Long;
       extLong =
-          p-finish .finish .kept .1 .1 .1 .1 .1 .1 .1 .1 .0 ∙ y .extLong ∙ p-below .send-below .kept .1 .1 .1 .1 .1 .1 .0
+          p-finish .finish .kept .1 .1 .1 .1 .1 .1 .1 .1 .0 ∙ y .extLong ∙ p-below .send-below2 .kept .1 .1 .1 .1 .1 .1 .0
           ∙ p-front .front .kept .1 .1 .1 .1 .1 .1 .0 ∙ l .inv .extLong;
       answersLong = p-put-answer4 .put-answer4 .kept .0 ∙ l .inv .answersLong;
       setsAre = l .inv .setsAre ∙ ap l2Sets (sym mode);
@@ -1222,12 +1309,14 @@ execute-spec =
     add-k-3
     loop3-less
     loop3-again
+    goes-inside-requires
     set-of-requires
     mul-home
     element-copy-out-home
-    send-home-requires
+    send-inside-requires
     mul-sent
     element-set-from-sent
+    send-below-requires
     emptied-requires
     mul-rest
     element-set-from-rest
@@ -1264,14 +1353,14 @@ execute-spec =
     loop-less-3
     loop-again-3
     leaving-requires
-    goes-inside-requires
+    goes-inside-requires-2
     set-of-requires-3
     mul-hv
     element-copy-out-hv
-    send-inside-requires
+    send-inside-requires-2
     mul-hu
     element-set-from-hu
-    send-below-requires
+    send-below-requires-2
     emptied-requires-2
     mul-se
     element-set-from-se
