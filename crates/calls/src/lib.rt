@@ -7,7 +7,6 @@ ghost use Rattle.model.specs.Trace.{command};
 ghost use Rattle.model.specs.Calls.{call, runCall};
 ghost use Rattle.start.specs.Called.{calledAs};
 ghost use Rattle.calls.specs.Done.{ranAs};
-use model::Command;
 use model::Record;
 use start::Called;
 
@@ -36,12 +35,7 @@ pub fn one_command(
     if due != 0 {
         return start::answered(due, r);
     }
-    let c = Command {
-        code: code,
-        first: first,
-        second: second,
-        value: value,
-    };
+    let c = start::asked(code, first, second, value);
     let none = [0u8; 1];
     let mut answer = [0u8; 10];
     let q = engine::execute(r, true, c, &none, l1d, l2, ext, &mut answer);
@@ -77,12 +71,7 @@ pub fn run(
         };
     }
     // the commands come from the trace, and the loop does not look at this one
-    let unused = Command {
-        code: 0,
-        first: 0,
-        second: 0,
-        value: 0,
-    };
+    let unused = start::asked(0, 0, 0, 0);
     let q = engine::execute(r, false, unused, trace, l1d, l2, ext, answers);
     let after = q.record;
     RunResult {

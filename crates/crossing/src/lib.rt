@@ -9,7 +9,6 @@ ghost use Rattle.model.specs.Calls.{freshCall};
 ghost use Rattle.crossing.specs.Crossing.{sizesAlike, unreadDue, calledInC, ranInC, seenAs, through, givenBack, commandCall, runBy, viewNumber, viewInto};
 use layout::CRecord;
 use layout::RecordIn;
-use model::Command;
 use model::Record;
 
 // What a call returns: the number of its refusal (0: accepted), the server and the value of an access, and the record after it.
@@ -111,12 +110,7 @@ pub fn carry_out(
         };
     }
     let r = given.record;
-    let asked = Command {
-        code: code,
-        first: first,
-        second: second,
-        value: value,
-    };
+    let asked = start::asked(code, first, second, value);
     let none = [0u8; 1];
     let mut answer = [0u8; 10];
     let q = engine::execute(r, true, asked, &none, l1d, l2, ext, &mut answer);
@@ -159,12 +153,7 @@ pub fn run(
     }
     let r = given.record;
     // the commands come from the trace, and the loop does not look at this one
-    let unused = Command {
-        code: 0,
-        first: 0,
-        second: 0,
-        value: 0,
-    };
+    let unused = start::asked(0, 0, 0, 0);
     let q = engine::execute(r, false, unused, trace, l1d, l2, ext, answers);
     let after = q.record;
     let x = given_back(after, q.stop, 0, 0);

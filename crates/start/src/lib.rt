@@ -1,8 +1,10 @@
-// The fresh start, and what every call returns. Nothing is required: any length of a lent buffer meets the check, and a refused start leaves all as it was.
+// The fresh start, and what every call asks for and returns. Nothing is required: any length of a lent buffer meets the check, and a refused start leaves all as it was.
 // The contract equates the answer, the record and every lent byte with paper 01's definitions (model/specs/Calls).
 ghost use mathlib.Core.Path.{_≡_};
+ghost use Rattle.model.specs.Trace.{command};
 ghost use Rattle.model.specs.Calls.{freshCall, freshOk};
 ghost use Rattle.start.specs.Called.{calledAs};
+use model::Command;
 use model::Record;
 
 // What a call returns: the number of its refusal (0: accepted), the server and the value of an access, and the record after it.
@@ -11,6 +13,18 @@ pub struct Called {
     pub server: u8,
     pub value: u64,
     pub record: Record,
+}
+
+// The command that a call asks for, from its numbers.
+pub fn asked(code: u8, first: u32, second: u32, value: u64) -> Command
+    ensures { λ c. ⌜ c ≡ command code first second value ⌝ }
+{
+    Command {
+        code: code,
+        first: first,
+        second: second,
+        value: value,
+    }
 }
 
 // An answer without server and value: a refusal, or a fresh start.

@@ -3,9 +3,11 @@ use Rattle.turns.specs.Executed.{Executed, executedAs}
 use Rattle.calls.specs.Done.{call-refused, call-done}
 use Rattle.model.specs.Records.{State, state}
 use Rattle.model.specs.Trace.{command}
+use Rattle.model.specs.Calls.{call}
 use Rattle.model.specs.declared.Command.{Command}
 use lib.ListN.{length-replicate, replicate}
 use Prim.Native.Nat.{ℕ}
+use mathlib.Core.Path.{ap, _∙_}
 use borrow.Author.Needs.{needs}
 use Rattle.calls.proofs.one_command.Statement.{statement}
 use Rattle.calls.proofs.one_command.Tie as tie
@@ -49,6 +51,9 @@ returns c =
     rw (c .answered .ensures)
     (call-refused (lent start) (p-lent-due .lent-due .result) (p-lent-due .lent-due .ensures) (asked start) (p-if1 .if1 .taken))
 
+asked-requires : tie.Need-asked-requires
+asked-requires c κs = search needs
+
 slice-aggregate-execute : tie.Need-slice-aggregate-execute
 slice-aggregate-execute c = search needs
 
@@ -70,11 +75,13 @@ same-length-6 c = search needs
 returns-2 : tie.Need-returns-2
 returns-2 c =
     let p-execute = c .before .before .before .before .before .before .before .before .before in
-    let p-if1 = p-execute .before .before .before .before .before .before in
+    let p-asked = p-execute .before .before .before .before .before .before in
+    let p-if1 = p-asked .before in
     let p-lent-due = p-if1 .before in
     let start = at-start p-lent-due in
-    call-done (lent start) (p-lent-due .lent-due .result) (p-lent-due .lent-due .ensures) (asked start) (replicate 1 0) (replicate 10 0)
+    call-done (lent start) (p-lent-due .lent-due .result) (p-lent-due .lent-due .ensures) (p-asked .asked .result) (replicate 1 0) (replicate 10 0)
     (executed p-execute) (p-if1 .if1 .left) (length-replicate {A = ℕ} 10 0) (p-execute .execute .ensures)
+    ∙ ap (λ (q : Command). call q (lent start)) (p-asked .asked .ensures)
 
 pub one-command-spec : {M : Type 1} → statement M
 one-command-spec =
@@ -86,6 +93,7 @@ one-command-spec =
     same-length-2
     same-length-3
     returns
+    asked-requires
     slice-aggregate-execute
     slice-aggregate-execute-2
     execute-requires

@@ -32,6 +32,9 @@ returns c =
     run-refused (state (a .r) (a .l1d .now) (a .l2 .now) (a .ext .now)) (p-lent-due .lent-due .result) (p-lent-due .lent-due .ensures) (a .trace .now)
     (a .answers .now) (c .if1 .taken)
 
+asked-requires : tie.Need-asked-requires
+asked-requires c κs = search needs
+
 execute-requires : tie.Need-execute-requires
 execute-requires c κs = search needs
 
@@ -51,11 +54,12 @@ returns-2 : tie.Need-returns-2
 returns-2 c =
     let p-ext = c .before .before .before .before in
     let p-execute = p-ext .before .before .before .before .before in
-    let p-if1 = p-execute .before .before .before .before .before in
+    let p-asked = p-execute .before .before .before .before .before in
+    let p-if1 = p-asked .before in
     let p-lent-due = p-if1 .before in
     let a = at-start p-lent-due .args in
     run-done (state (a .r) (a .l1d .now) (a .l2 .now) (a .ext .now)) (p-lent-due .lent-due .result) (p-lent-due .lent-due .ensures)
-    (record { code = 0; first = 0; second = 0; value = 0 }) (a .trace .now) (a .answers .now)
+    (p-asked .asked .result) (a .trace .now) (a .answers .now)
     (executedAs (p-execute .execute .result) (p-execute .execute .last .1 .1 .1 .1 .0) (p-execute .execute .last .1 .1 .1 .1 .1 .0)
     (p-execute .execute .last .1 .1 .1 .1 .1 .1 .0) (p-execute .execute .last .1 .1 .1 .1 .1 .1 .1 .0)) (p-if1 .if1 .left) (p-execute .execute
     .ensures)
@@ -69,6 +73,7 @@ run-spec =
     same-length-2
     same-length-3
     returns
+    asked-requires
     execute-requires
     same-length-4
     same-length-5

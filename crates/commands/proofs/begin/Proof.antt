@@ -1,5 +1,5 @@
 -- `commands::begin` meets its contract: refused by the operands' number, or with the lines of its sweep.
-use mathlib.Core.Path.{refl, sym, _∙_}
+use mathlib.Core.Path.{refl}
 use borrow.Author.Tests.{eq-eqb, ne-eqb, lt-ltb, le-ltb}
 use borrow.Author.Needs.{needs}
 use Rattle.commands.specs.Commands.{begun}

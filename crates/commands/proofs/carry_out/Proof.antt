@@ -68,7 +68,7 @@ returns-2 c =
     let p-if2 = p-flush-l1d .before .before .before in
     let o = p-if2 .before .before in let e = is-mode p-if2 in
     carried (asked o) (before o) (not-access o) (none-due o) (λ q. absurd (omega arith)) _
-    (p-change-mode .change-mode .ensures (before o .l1d) ∙ changed-mode (asked o) (before o) e _ (p-flush-l1d .flush-l1d .ensures .0))
+    (p-change-mode .change-mode .ensures (before o .l1d) ∙ changed-mode (asked o) (before o) e _ (p-flush-l1d .flush-l1d .ensures))
 
 change-mar-requires : tie.Need-change-mar-requires
 change-mar-requires c κs = search needs

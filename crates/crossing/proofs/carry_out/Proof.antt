@@ -1,11 +1,12 @@
 -- `crossing::carry_out` meets its contract: where a number is due before the command, C's record comes back as given; else the record that it stands
 -- for goes through one step of the loop and back out. Assumes nothing.
+use Rattle.crossing.specs.Crossing.{commandCall}
 use Rattle.crossing.specs.Joined.{command-refused, command-done}
 use Rattle.model.specs.Trace.{command}
 use Rattle.model.specs.declared.Command.{Command}
 use lib.ListN.{length-replicate, replicate}
 use Prim.Native.Nat.{ℕ}
-use mathlib.Core.Path.{refl}
+use mathlib.Core.Path.{refl, ap, _∙_}
 use borrow.Author.Needs.{needs}
 use Rattle.crossing.proofs.carry_out.Statement.{statement}
 use Rattle.crossing.proofs.carry_out.Tie as tie
@@ -52,6 +53,9 @@ returns c =
     command-refused (a .c) (a .l1d .now) (a .l2 .now) (a .ext .now) (x .result) (x .ensures .0) (x .ensures .1) (p-lent-due .lent-due .result)
     (p-lent-due .lent-due .ensures) (asked start) (c .if1 .taken)
 
+asked-requires : tie.Need-asked-requires
+asked-requires c κs = search needs
+
 slice-aggregate-execute : tie.Need-slice-aggregate-execute
 slice-aggregate-execute c = search needs
 
@@ -77,7 +81,8 @@ same-length-6 c = at-execute c .execute .kept .1 .1 .1 .1 .1 .1 .0
 returns-2 : tie.Need-returns-2
 returns-2 c =
     let p-execute = at-execute c in
-    let p-if1 = p-execute .before .before .before .before .before .before .before in
+    let p-asked = p-execute .before .before .before .before .before .before in
+    let p-if1 = p-asked .before .before in
     let p-lent-due = p-if1 .before in
     let p-record-in = at-record-in p-lent-due in
     let start = at-start p-record-in in
@@ -85,9 +90,10 @@ returns-2 c =
     let x = p-record-in .record-in in
     let last = p-execute .execute .last .1 .1 .1 .1 in
     command-done (a .c) (a .l1d .now) (a .l2 .now) (a .ext .now) (x .result) (x .ensures .0) (x .ensures .1) (p-lent-due .lent-due .result)
-    (p-lent-due .lent-due .ensures) (p-if1 .if1 .left) (asked start) (replicate 1 0) (replicate 10 0) (p-execute .execute .result)
+    (p-lent-due .lent-due .ensures) (p-if1 .if1 .left) (p-asked .asked .result) (replicate 1 0) (replicate 10 0) (p-execute .execute .result)
     (last .0) (last .1 .0) (last .1 .1 .0) (last .1 .1 .1 .0) (length-replicate {A = ℕ} 10 0) (p-execute .execute .ensures)
     (c .given-back .result) (c .given-back .ensures)
+    ∙ ap (λ (q : Command). commandCall q (a .c) (a .l1d .now) (a .l2 .now) (a .ext .now)) (p-asked .asked .ensures)
 
 pub carry-out-spec : {M : Type 1} → statement M
 carry-out-spec =
@@ -99,6 +105,7 @@ carry-out-spec =
     same-length-2
     same-length-3
     returns
+    asked-requires
     slice-aggregate-execute
     slice-aggregate-execute-2
     execute-requires

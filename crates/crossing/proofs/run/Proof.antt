@@ -44,6 +44,9 @@ returns c =
     run-refused (a .c) (a .l1d .now) (a .l2 .now) (a .ext .now) (x .result) (x .ensures .0) (x .ensures .1) (p-lent-due .lent-due .result)
     (p-lent-due .lent-due .ensures) (a .trace .now) (a .answers .now) (c .if1 .taken)
 
+asked-requires : tie.Need-asked-requires
+asked-requires c κs = search needs
+
 execute-requires : tie.Need-execute-requires
 execute-requires c κs = search needs
 
@@ -67,14 +70,15 @@ returns-2 : tie.Need-returns-2
 returns-2 c =
     let p-given-back = c .before in
     let p-execute = at-execute p-given-back in
-    let p-if1 = p-execute .before .before .before .before .before .before in
+    let p-asked = p-execute .before .before .before .before .before in
+    let p-if1 = p-asked .before .before in
     let p-lent-due = p-if1 .before in
     let p-record-in = at-record-in p-lent-due in
     let a = at-start p-record-in .args in
     let x = p-record-in .record-in in
     let last = p-execute .execute .last .1 .1 .1 .1 in
     run-done (a .c) (a .l1d .now) (a .l2 .now) (a .ext .now) (x .result) (x .ensures .0) (x .ensures .1) (p-lent-due .lent-due .result)
-    (p-lent-due .lent-due .ensures) (p-if1 .if1 .left) (record { code = 0; first = 0; second = 0; value = 0 }) (a .trace .now) (a .answers .now)
+    (p-lent-due .lent-due .ensures) (p-if1 .if1 .left) (p-asked .asked .result) (a .trace .now) (a .answers .now)
     (p-execute .execute .result) (last .0) (last .1 .0) (last .1 .1 .0) (last .1 .1 .1 .0) (p-execute .execute .ensures)
     (p-given-back .given-back .result) (p-given-back .given-back .ensures)
 
@@ -88,6 +92,7 @@ run-spec =
     same-length-2
     same-length-3
     returns
+    asked-requires
     execute-requires
     given-back-requires
     same-length-4

@@ -107,7 +107,7 @@ unfolding flushL1d
 returns c =
     let l = c .before .loop in let h = l .inv .within in
     let e : l .k ≡ 256 = omega arith in
-    (rw e at (l .inv .made), l .inv .l2len)
+    rw e at (l .inv .made)
 
 pub flush-l1d-spec : {M : Type 1} → statement M
 flush-l1d-spec =
