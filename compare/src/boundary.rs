@@ -471,3 +471,58 @@ pub fn record_difference(ours: &CRecord, theirs: &CRecord) -> String {
     }
     text
 }
+
+#[cfg(test)]
+mod tests {
+    use super::{byte_difference, dirty_external_line, padding_of, record_of, Held};
+    use oracle::{Line, Record};
+
+    /// The record's own byte, 2 for each of 128 sets of L1D, 2 for each line.
+    const PADDING_BYTES: usize = 1 + 128 * 2 + (128 * 2 + 512 * 4) * 2;
+
+    #[test]
+    fn padding_is_no_field() {
+        let (clean, random) = (padding_of(0), padding_of(7));
+        assert!(*clean == *random);
+        let other = clean.bytes().iter().zip(random.bytes()).filter(|(a, b)| a != b).count();
+        // Of random bytes one in 256 is 0.
+        assert!(other <= PADDING_BYTES && other > PADDING_BYTES * 9 / 10, "{other}");
+        assert!(byte_difference(&random, &clean).starts_with("padding byte 11 is"));
+    }
+
+    #[test]
+    fn all_of_the_padding_is_filled() {
+        let (mut record, random) = (padding_of(9), padding_of(7));
+        record.pad_like(&random);
+        assert!(record.bytes() == random.bytes());
+    }
+
+    #[test]
+    fn a_field_is_told_before_padding() {
+        let (mut record, clean) = (padding_of(7), padding_of(0));
+        record.mar129 = 1;
+        assert_eq!(byte_difference(&record, &clean), "mar129 is 1, expected 0");
+    }
+
+    #[test]
+    fn records_stand_at_a_multiple_of_four_alone() {
+        let record = Held::new(&padding_of(0));
+        assert_eq!((&**record as *const super::CRecord).addr() % 16, 4);
+    }
+
+    #[test]
+    fn dirty_lines_of_external_memory_are_found() {
+        let mut record = Record::fresh(65_536, 65_536);
+        assert_eq!(dirty_external_line(&record_of(&record)), None);
+        // SRAM stays dirty through a global writeback.
+        record.l1d[1].lines[1] = Line { valid: true, dirty: true, address: 64 };
+        record.l2[0].lines[0] = Line { valid: true, dirty: false, address: 0x8000_0000 };
+        assert_eq!(dirty_external_line(&record_of(&record)), None);
+        record.l2[511].lines[3] = Line { valid: true, dirty: true, address: 0x8000_FF80 };
+        let found = dirty_external_line(&record_of(&record));
+        assert_eq!(found.as_deref(), Some("L2 line 0x8000ff80"));
+        record.l1d[127].lines[1] = Line { valid: true, dirty: true, address: 0x8000_1FC0 };
+        let found = dirty_external_line(&record_of(&record));
+        assert_eq!(found.as_deref(), Some("L1D line 0x80001fc0"));
+    }
+}
