@@ -1,5 +1,5 @@
 /*
- * c64x.h: the data memory of TI's C64x processor, for programs in C and C++.
+ * c64x.h: the data memory of TI's C64x processor, for programs in C and C++. An h behind a number: hexadecimal.
  *
  * A load or a store of the C64x meets up to three levels of memory:
  *
@@ -12,7 +12,8 @@
  * A line that the CPU has written in a cache is dirty: the memory behind it still has the old bytes, until the line
  * is written back. The calls below do what the processor does, and say which level served each access.
  *
- * ONE CHIP is one record and three memories. All four are yours, and they are the whole state:
+ * ONE CHIP is one record and three memories. All four are yours, and they are the whole state: a copy of all four is
+ * a copy of the chip.
  *
  *   record    a c64x_record: the mode, the MAR bits, and which lines the caches hold. c64x_fresh writes it. You may
  *             read it at any time; there is no need ever to write to it.
@@ -45,7 +46,8 @@
  *   12  fewer than 10 answer bytes are left
  *
  * Where several are due, the lowest counts (only in a trace 11, then 12, come before 3 to 10). A refused call changes
- * nothing: no byte of the record and no byte of a memory. (The one exception is c64x_fresh; see there.)
+ * nothing: no byte of the record and no byte of a memory. (The one exception is c64x_fresh; see there. A run that is
+ * stopped by 11 or 12 keeps what it did before.)
  *
  * PADDING. The record has bytes between its fields that mean nothing. No call looks at them. An accepted call may
  * change them, so compare two records field by field and not with memcmp.
