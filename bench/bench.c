@@ -13,8 +13,8 @@
 
 #define EXTERNAL 0x80000000u
 #define COMMANDS 32768 /* of the trace of a class */
-#define RUNS 25        /* of a class, on each side */
-#define CALLS 601      /* of a direct call, on each side */
+#define RUNS 101       /* of a class, on each side */
+#define CALLS 1001     /* of a direct call, on each side */
 
 /* A record as both sides name it. */
 union both {
