@@ -13,7 +13,7 @@ use lib.Dec.{leb, eqb}
 use borrow.Author.Tests.{leb-true, le-leb, lt-leb, eqb-true, eqb-false}
 use Rattle.model.specs.Basics.{each}
 use Rattle.model.specs.Bytes.{splice, part, stored, littleBytes}
-use Rattle.model.specs.Lines.{Permutation2, Permutation4, used2, used4, l1dGet, l2Get}
+use Rattle.model.specs.Lines.{Permutation2, Permutation4, inFront, without, used2, used4, l1dGet, l2Get}
 use Rattle.model.specs.Records.{State, l2SetsOf}
 use Rattle.model.specs.Ways.{lowestInvalid, l1dVictim, l2Victim}
 use Rattle.model.specs.Commands.{eachL2, unlessMode0}
@@ -128,10 +128,28 @@ module _ (m bs : List ℕ) (a i : ℕ) (fits : a + length bs ≤ length m) where
 pub part-at : (m : List ℕ) (a n i : ℕ) → a + n ≤ length m → i < n → getD (part m a n) i 0 ≡ getD m (a + i) 0
 part-at m a n i f h = rw (part-inside m a n f) (getD-take n (drop a m) i 0 h ∙ getD-drop a m i 0)
 
--- ---- laws of the order
+-- ---- laws of the order: the cases by which the code moves a way to the front, whatever the order
+pub used2-cases : (o : Order2) (w : ℕ) → used2 o w ≡ cond (eqb (o .first) w) o (record { first = w; second = o .first })
+unfolding used2 inFront without
+used2-cases o w =
+    bool (eqb (o .first) w) (λ e. let m = eqb-true (o .first) w e in rw (e, ← m) refl)
+    (λ e. rw e refl)
+
+pub used4-cases : (o : Order4) (w : ℕ) → used4 o w ≡
+    cond (eqb (o .first) w) o
+    (cond (eqb (o .second) w) (record { first = w; second = o .first; third = o .third; fourth = o .fourth })
+    (cond (eqb (o .third) w) (record { first = w; second = o .first; third = o .second; fourth = o .fourth })
+    (record { first = w; second = o .first; third = o .second; fourth = o .third })))
+unfolding used4 inFront without
+used4-cases o w =
+    bool (eqb (o .first) w) (λ e. let m = eqb-true (o .first) w e in rw (e, ← m) refl)
+    (λ e. bool (eqb (o .second) w) (λ f. rw (e, f) refl)
+    (λ f. bool (eqb (o .third) w) (λ g. rw (e, f, g) refl)
+    (λ g. rw (e, f, g) refl)))
+
+-- a permutation stays one
 pub used2-permutation : (o : Order2) (w : ℕ) → w < 2 → Permutation2 o → Permutation2 (used2 o w)
-unfolding used2
-used2-permutation o w h p = go (eqb (o .first) w) refl
+used2-permutation o w h p = rw (used2-cases o w) (go (eqb (o .first) w) refl)
   where
     go : (b : Bool) → eqb (o .first) w ≡ b → Permutation2 (cond b o (record { first = w; second = o .first }))
     go true e = p
@@ -155,8 +173,7 @@ in-front w a b c hw ha hb hc aw bw cw ab ac bc =
     }
 
 pub used4-permutation : (o : Order4) (w : ℕ) → w < 4 → Permutation4 o → Permutation4 (used4 o w)
-unfolding used4
-used4-permutation o w h p = go (eqb (o .first) w) refl (eqb (o .second) w) refl (eqb (o .third) w) refl
+used4-permutation o w h p = rw (used4-cases o w) (go (eqb (o .first) w) refl (eqb (o .second) w) refl (eqb (o .third) w) refl)
   where
     go : (x : Bool) → eqb (o .first) w ≡ x → (y : Bool) → eqb (o .second) w ≡ y → (z : Bool) → eqb (o .third) w ≡ z →
         Permutation4 (cond x o

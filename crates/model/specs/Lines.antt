@@ -4,6 +4,7 @@
 use Prim.Native.Nat.{ℕ, _*_, _<_, _+_, _/_, _%_}
 use mathlib.Core.Bool.{Bool, true, false, cond, _&&_}
 use mathlib.Core.Logic.{_≢_}
+use mathlib.Core.List.{List, [], _∷_}
 use lib.ListN.{getD, set}
 use lib.Dec.{eqb}
 use Rattle.model.specs.Memories.{cacheSize}
@@ -62,15 +63,27 @@ pub record Permutation4 (o : Order4) : Type 0 where
   pub apart34 : o .third ≢ o .fourth
 
 -- "Using a way takes an order and gives back the new one, that way in front, the others as they stood."
+-- the ways without w, where it stands first; w in front of them
+unfoldable pub without : ℕ → List ℕ → List ℕ
+without w [] = []
+without w (x ∷ xs) = cond (eqb x w) xs (x ∷ without w xs)
+
+unfoldable pub inFront : ℕ → List ℕ → List ℕ
+inFront w xs = w ∷ without w xs
+
+-- the order whose ways are the first of a list
+abbrev pub order2 : List ℕ → Order2
+order2 xs = record { first = getD xs 0 0; second = getD xs 1 0 }
+
+abbrev pub order4 : List ℕ → Order4
+order4 xs = record { first = getD xs 0 0; second = getD xs 1 0; third = getD xs 2 0; fourth = getD xs 3 0 }
+
+-- the code's cases: `used2-cases`, `used4-cases` (Laws)
 unfoldable pub used2 : Order2 → ℕ → Order2
-used2 o w = cond (eqb (o .first) w) o (record { first = w; second = o .first })
+used2 o w = order2 (inFront w (o .first ∷ o .second ∷ []))
 
 unfoldable pub used4 : Order4 → ℕ → Order4
-used4 o w =
-    cond (eqb (o .first) w) o
-    (cond (eqb (o .second) w) (record { first = w; second = o .first; third = o .third; fourth = o .fourth })
-    (cond (eqb (o .third) w) (record { first = w; second = o .first; third = o .second; fourth = o .fourth })
-    (record { first = w; second = o .first; third = o .second; fourth = o .third })))
+used4 o w = order4 (inFront w (o .first ∷ o .second ∷ o .third ∷ o .fourth ∷ []))
 
 -- ---- "An invalid way is clean with address 0."
 abbrev pub emptyLine : Line
