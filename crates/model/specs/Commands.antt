@@ -14,7 +14,8 @@ use Rattle.model.specs.Modes.{smaller}
 unfoldable pub blockEnd : ℕ → ℕ → ℕ
 blockEnd b c = smaller (b + c * 4) 0x100000000
 
--- "It touches each line with a byte in it; count 0 touches none;": how many lines of n bytes, from the line of the base address on
+-- "It touches each line with a byte in it; count 0 touches none;": how many lines of n bytes, from the line of the base address on.
+-- That these are the lines with a byte in them, and no others: `touched-lines` (Laws).
 unfoldable pub linesTouched : ℕ → ℕ → ℕ → ℕ
 linesTouched n b c = cond (eqb c 0) 0 ((blockEnd b c - 1) / n - b / n + 1)
 

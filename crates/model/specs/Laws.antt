@@ -1,22 +1,23 @@
 -- Laws of the definitions, which callers cite in place of their text: choices and tests, parts of a memory and bytes stored in it, the order of
 -- use, the way that is chosen, commands in mode 0. No definition stands here.
-use Prim.Native.Nat.{ℕ, zero, suc, _<_, _≤_, _%_, _/_, _+_, _-_}
+use Prim.Native.Nat.{ℕ, zero, suc, _<_, _≤_, _%_, _/_, _+_, _*_, _-_}
 use mathlib.Core.Bool.{Bool, true, false, cond, _&&_}
 use mathlib.Core.List.{List, [], map, _++_}
-use mathlib.Core.Logic.{_≢_}
+use mathlib.Core.Logic.{_≢_, _↔_, _⊎_, inl, inr, ⊎-elim}
 use mathlib.Core.Path.{_≡_, refl, sym, ap, _∙_, subst}
 use native.Mathlib.Omega.{arith}
-use native.Mathlib.Nat.{add-sub-of-le}
+use native.Mathlib.Nat.{add-sub-of-le, eq-of-mul-eq-mul-right, mul-le-mul-right, div-mul-le-self, le-div-iff-mul-le, lt-div-mul-add, mul-div-cancel}
 use lib.ListN.{length, getD, take, drop, length-append, length-take, length-drop, take-append-drop, List·getD-append, length-map}
 use lib.Seq.{getD-take, getD-drop, getD-append-add, length-take-le}
 use lib.Dec.{leb, eqb}
-use borrow.Author.Tests.{leb-true, le-leb, lt-leb, eqb-true, eqb-false}
+use borrow.Author.Tests.{leb-true, le-leb, lt-leb, eqb-true, eqb-false, eq-eqb, ne-eqb}
 use Rattle.model.specs.Basics.{each}
 use Rattle.model.specs.Bytes.{splice, part, stored, littleBytes}
 use Rattle.model.specs.Lines.{Permutation2, Permutation4, inFront, without, used2, used4, l1dGet, l2Get}
 use Rattle.model.specs.Records.{State, l2SetsOf}
 use Rattle.model.specs.Ways.{lowestInvalid, l1dVictim, l2Victim}
-use Rattle.model.specs.Commands.{eachL2, unlessMode0}
+use Rattle.model.specs.Modes.{smaller}
+use Rattle.model.specs.Commands.{blockEnd, linesTouched, eachL2, unlessMode0}
 use Rattle.model.specs.declared.L1dSet.{L1dSet}
 use Rattle.model.specs.declared.L2Set.{L2Set}
 use Rattle.model.specs.declared.Order2.{Order2}
@@ -213,3 +214,62 @@ l2-victim v p = let h = p .below4 in let e : v .order .fourth % 4 ≡ v .order .
 pub no-ways : (f : ℕ → ℕ → State → State) (z : State) → unlessMode0 (eachL2 f) z ≡ eachL2 f z
 unfolding unlessMode0 eachL2 each
 no-ways f z = bool (eqb (l2SetsOf (z .rec)) 0) (λ e. let n = eqb-true (l2SetsOf (z .rec)) 0 e in rw (e, n) refl) (λ e. rw e refl)
+
+-- ---- "It touches each line with a byte in it": the lines that `eachTouched` goes through are those and no others
+abbrev pub GoneThrough : (n b c l : ℕ) → Type 0
+GoneThrough n b c l = (k : ℕ) × (k < linesTouched n b c) × (l * n ≡ (b / n + k) * n)
+
+abbrev pub HasByte : (n b c l : ℕ) → Type 0
+HasByte n b c l = (x : ℕ) × (b ≤ x) × (x < blockEnd b c) × (x / n ≡ l)
+
+-- a block of no words has no byte; the end of any other lies after its base
+block-end : (b c : ℕ) → b < 0x100000000 → ((c ≡ 0) × (blockEnd b c ≡ b)) ⊎ ((c ≢ 0) × (b < blockEnd b c))
+unfolding blockEnd smaller
+block-end b c low =
+    bool (eqb c 0)
+    (λ t. let e = eqb-true c 0 t in
+    let f : b + c * 4 ≡ b = omega arith in
+    let g : leb b 0x100000000 ≡ true = le-leb b 0x100000000 (omega arith) in
+    inl (e, rw (f, g) refl))
+    (λ t. let e = eqb-false c 0 t in
+    let more : b < cond (leb (b + c * 4) 0x100000000) (b + c * 4) 0x100000000 =
+    cond-elim (λ (y : ℕ). b < y) (leb (b + c * 4) 0x100000000) (b + c * 4) 0x100000000 (λ _. omega arith) (λ _. low) in
+    inr (e, more))
+
+module _ (n b c l : ℕ) (some : 0 < n) (low : b < 0x100000000) where
+  quotient-le : (x y : ℕ) → x ≤ y → x / n ≤ y / n
+  quotient-le x y k = let d = div-mul-le-self x n in let g : x / n * n ≤ y = omega arith in le-div-iff-mul-le some .1 g
+
+  byte-in : (k : ℕ) → k < linesTouched n b c → l ≡ b / n + k → HasByte n b c l
+  unfolding linesTouched
+  byte-in k h e =
+      ⊎-elim
+      (λ p. let z : k < 0 = rw (eq-eqb c 0 (p .0)) at h in absurd (omega arith))
+      (λ p. let u : k < (blockEnd b c - 1) / n - b / n + 1 = rw (ne-eqb c 0 (p .0)) at h in
+      let g = p .1 in
+      let last : b / n ≤ (blockEnd b c - 1) / n = quotient-le b (blockEnd b c - 1) (omega arith) in
+      bool (eqb k 0)
+      (λ t. let i = eqb-true k 0 t in (b, omega arith, g, omega arith))
+      (λ t. let i = eqb-false k 0 t in
+      let m : (b / n + 1) * n ≤ l * n = mul-le-mul-right n (omega arith) in
+      let o : (b / n + 1) * n ≡ b / n * n + n = omega arith in
+      let f = lt-div-mul-add {a = b} some in
+      let m′ : l * n ≤ (blockEnd b c - 1) / n * n = mul-le-mul-right n (omega arith) in
+      let d = div-mul-le-self (blockEnd b c - 1) n in
+      (l * n, omega arith, omega arith, mul-div-cancel l some)))
+      (block-end b c low)
+
+  pub touched-lines : GoneThrough n b c l ↔ HasByte n b c l
+  unfolding linesTouched
+  touched-lines = (
+    λ g. byte-in (g .0) (g .1) (eq-of-mul-eq-mul-right n some l (b / n + g .0) (g .2)),
+    λ g. let x = g .0 in let from = g .1 in let to = g .2 in let e = g .3 in
+        ⊎-elim
+        (λ p. let z = p .1 in absurd (omega arith))
+        (λ p. let f = quotient-le b x from in
+        let t = quotient-le x (blockEnd b c - 1) (omega arith) in
+        let i : b / n + (l - b / n) ≡ l = omega arith in
+        let u : l - b / n < cond (eqb c 0) 0 ((blockEnd b c - 1) / n - b / n + 1) = rw (ne-eqb c 0 (p .0)) (omega arith) in
+        (l - b / n, u, rw i refl))
+        (block-end b c low),
+  )
