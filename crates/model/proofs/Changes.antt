@@ -12,12 +12,12 @@ use native.Mathlib.Nat.{add-sub-of-le}
 use lib.ListN.{length, getD, take, replicate, length-append, length-replicate, getD-replicate, List·getD-eq-default, List·getD-append}
 use lib.Seq.{getD-take, getD-append-add, length-take-le}
 use lib.Dec.{ltb, leb, eqb}
-use borrow.Author.Tests.{ltb-true, ltb-false, leb-true, leb-false, eq-eqb, eqb-true}
+use borrow.Author.Tests.{ltb-true, ltb-false, leb-true, leb-false, eq-eqb, eqb-true, eqb-false}
 use Rattle.model.specs.Basics.{anyOf}
 use Rattle.model.specs.Bytes.{zeroFrom}
 use Rattle.model.specs.Memories.{externalBase, cacheSize, isMode, sramLength}
 use Rattle.model.specs.Lines.{emptyLine, Permutation2, Permutation4}
-use Rattle.model.specs.Records.{State, sramOf, marBit, noL2Set, l1dLineAt, l2LineAt, freshL1dSet, freshL2Set}
+use Rattle.model.specs.Records.{State, sramOf, covers, marBit, noL2Set, l1dLineAt, l2LineAt, freshL1dSet, freshL2Set}
 use Rattle.model.specs.Modes.{smaller, newMode, changeMar}
 use Rattle.model.specs.Refusals.{inRange, holdsRange}
 use Rattle.model.specs.Laws.{bool, false-true}
@@ -172,9 +172,13 @@ module _ (n : ℕ) (r : Record) (h : holdsRange n r ≡ false) where
   unfolding inRange
   l2-none = none-found l2Kind (r .l2) (inRange n) refl l2-range
 
-outside-range : (n : ℕ) (l : Line) → inRange n l ≡ false → l .valid ≡ true → l .address / 16777216 ≢ n
+outside-range : (n : ℕ) (l : Line) → inRange n l ≡ false → l .valid ≡ true → covers n (l .address) ≡ false
 unfolding inRange
-outside-range n l h v e = false-true (sym (rw (v, eq-eqb (l .address / 16777216) n e) at h))
+outside-range n l h v = rw v at h
+
+covered-by-129 : (a : ℕ) → externalBase ≤ a → a < externalBase + 33554432 → covers 128 a ≡ false → covers 129 a ≡ true
+unfolding covers
+covered-by-129 a lo hi t = let k = eqb-false (a / 16777216) 128 t in eq-eqb (a / 16777216) 129 (omega arith)
 
 -- every line that is held keeps its bit
 module _ (z : State) (F : Allowed) (q : Good z F) (n b : ℕ) (allowed : (b ≡ 1) ⊎ (holdsRange n (z .rec) ≡ false)) where
@@ -182,15 +186,11 @@ module _ (z : State) (F : Allowed) (q : Good z F) (n b : ℕ) (allowed : (b ≡ 
       (holdsRange n (z .rec) ≡ false → inRange n l ≡ false) → marBit (z .rec) (l .address) ≡ true → marBit (changeMar n b z .rec) (l .address) ≡ true
   unfolding changeMar marBit
   keeps-bit l v lo hi none e =
-      bool (ltb (l .address) 2164260864)
-      (λ t. let t′ = ltb-true (l .address) 2164260864 t in
-      rw t (bool (eqb n 128)
-      (λ y. let y′ = eqb-true n 128 y in rw y (⊎-elim (λ c. rw c refl) (λ c. absurd (outside-range n l (none c) v (omega arith))) allowed))
-      (λ y. rw y (rw t at e))))
-      (λ t. let t′ = ltb-false (l .address) 2164260864 t in
-      rw t (bool (eqb n 129)
-      (λ y. let y′ = eqb-true n 129 y in rw y (⊎-elim (λ c. rw c refl) (λ c. absurd (outside-range n l (none c) v (omega arith))) allowed))
-      (λ y. rw y (rw t at e))))
+      let set-to-1 : (k : ℕ) → covers k (l .address) ≡ true → eqb n k ≡ true → eqb b 1 ≡ true =
+      λ k y i. ⊎-elim (λ c. rw c refl) (λ c. false-true (sym (rw (eqb-true n k i) at (outside-range n l (none c) v)) ∙ y)) allowed in
+      bool (covers 128 (l .address))
+      (λ t. rw t (bool (eqb n 128) (λ y. rw y (set-to-1 128 t y)) (λ y. rw y (rw t at e))))
+      (λ t. rw t (bool (eqb n 129) (λ y. rw y (set-to-1 129 (covered-by-129 (l .address) lo hi t) y)) (λ y. rw y (rw t at e))))
 
   pub changeMar-good : Good (changeMar n b z) F
   unfolding changeMar

@@ -9,12 +9,13 @@ use native.Mathlib.Omega.{arith}
 use native.Mathlib.Nat.{add-sub-of-le, eq-of-mul-eq-mul-right, mul-le-mul-right, div-mul-le-self, le-div-iff-mul-le, lt-div-mul-add, mul-div-cancel}
 use lib.ListN.{length, getD, take, drop, length-append, length-take, length-drop, take-append-drop, List·getD-append, length-map}
 use lib.Seq.{getD-take, getD-drop, getD-append-add, length-take-le}
-use lib.Dec.{leb, eqb}
-use borrow.Author.Tests.{leb-true, le-leb, lt-leb, eqb-true, eqb-false, eq-eqb, ne-eqb}
+use lib.Dec.{ltb, leb, eqb}
+use borrow.Author.Tests.{ltb-true, ltb-false, leb-true, le-leb, lt-leb, eqb-true, eqb-false, eq-eqb, ne-eqb}
 use Rattle.model.specs.Basics.{each}
 use Rattle.model.specs.Bytes.{splice, part, stored, littleBytes}
+use Rattle.model.specs.Memories.{externalBase}
 use Rattle.model.specs.Lines.{Permutation2, Permutation4, inFront, without, used2, used4, l1dGet, l2Get}
-use Rattle.model.specs.Records.{State, l2SetsOf}
+use Rattle.model.specs.Records.{State, l2SetsOf, covers, marBit}
 use Rattle.model.specs.Ways.{lowestInvalid, l1dVictim, l2Victim}
 use Rattle.model.specs.Modes.{smaller}
 use Rattle.model.specs.Commands.{blockEnd, linesTouched, eachL2, unlessMode0}
@@ -22,6 +23,7 @@ use Rattle.model.specs.declared.L1dSet.{L1dSet}
 use Rattle.model.specs.declared.L2Set.{L2Set}
 use Rattle.model.specs.declared.Order2.{Order2}
 use Rattle.model.specs.declared.Order4.{Order4}
+use Rattle.model.specs.declared.Record.{Record}
 
 -- ---- choices and tests
 pub false-true {ℓ} : {A : Type ℓ} → false ≡ true → A
@@ -128,6 +130,14 @@ module _ (m bs : List ℕ) (a i : ℕ) (fits : a + length bs ≤ length m) where
 
 pub part-at : (m : List ℕ) (a n i : ℕ) → a + n ≤ length m → i < n → getD (part m a n) i 0 ≡ getD m (a + i) 0
 part-at m a n i f h = rw (part-inside m a n f) (getD-take n (drop a m) i 0 h ∙ getD-drop a m i 0)
+
+-- ---- the bit of an external address, as the code asks for it: in the first 16 MiB or behind them
+pub mar-bit : (r : Record) (a : ℕ) → externalBase ≤ a → marBit r a ≡ cond (ltb a (129 * 0x1000000)) (r .mar128) (r .mar129)
+unfolding marBit covers
+mar-bit r a h =
+    bool (ltb a (129 * 0x1000000))
+    (λ t. let l = ltb-true a (129 * 0x1000000) t in rw (t, eq-eqb (a / 0x1000000) 128 (omega arith)) refl)
+    (λ t. let l = ltb-false a (129 * 0x1000000) t in rw (t, ne-eqb (a / 0x1000000) 128 (omega arith)) refl)
 
 -- ---- laws of the order: the cases by which the code moves a way to the front, whatever the order
 pub used2-cases : (o : Order2) (w : ℕ) → used2 o w ≡ cond (eqb (o .first) w) o (record { first = w; second = o .first })

@@ -1,5 +1,5 @@
 -- Paper 01, "Lines and the record": the record with the lent memories, which records are well formed, the fresh record.
-use Prim.Native.Nat.{ℕ, _+_, _%_, _*_}
+use Prim.Native.Nat.{ℕ, _+_, _/_, _%_}
 use mathlib.Core.Bool.{Bool, true, false, not, cond, _&&_}
 use mathlib.Core.List.{List, [], _∷_}
 use lib.ListN.{length, getD, set, replicate}
@@ -37,9 +37,13 @@ l2SetOf r a = l2SetIn (l2SetsOf r) a
 abbrev pub l2Data : Record → ℕ → ℕ → ℕ
 l2Data r t v = l2DataIn (sramOf r) (l2SetsOf r) t v
 
--- "MAR n covers the 16 MiB from n × 1000000h (001, Table 28)": the bit of an external address
+-- "MAR n covers the 16 MiB from n × 1000000h (001, Table 28)."
+unfoldable pub covers : ℕ → ℕ → Bool
+covers n a = eqb (a / 0x1000000) n
+
+-- the bit of the MAR that covers an external address: E is at most 32 MiB, so that it is 128 or 129
 unfoldable pub marBit : Record → ℕ → Bool
-marBit r a = cond (ltb a (129 * 0x1000000)) (r .mar128) (r .mar129)
+marBit r a = cond (covers 128 a) (r .mar128) (r .mar129)
 
 -- ---- "the lines, held by set and by way": a set of the record, and a line of a set.
 -- What stands for a set past the end of the array is what the language gives: no lines, order 0.

@@ -1,12 +1,12 @@
 -- Paper 01, "Refusal table": each number's condition, and the lowest number due. 0: none is due.
-use Prim.Native.Nat.{ℕ, zero, suc, _+_, _/_, _%_}
+use Prim.Native.Nat.{ℕ, zero, suc, _+_, _%_}
 use mathlib.Core.Bool.{Bool, true, false, not, cond, _&&_, _||_}
 use mathlib.Core.List.{List}
 use lib.ListN.{length}
 use lib.Dec.{ltb, leb, eqb}
 use Rattle.model.specs.Basics.{anyOf}
 use Rattle.model.specs.Memories.{l1dLength, legalL2, legalExternal, externalBase, cacheSize, isMode}
-use Rattle.model.specs.Records.{State, sramOf, wellFormed}
+use Rattle.model.specs.Records.{State, sramOf, covers, wellFormed}
 use Rattle.model.specs.declared.Line.{Line}
 use Rattle.model.specs.declared.L1dSet.{L1dSet}
 use Rattle.model.specs.declared.L2Set.{L2Set}
@@ -61,9 +61,9 @@ modeOk l m = isMode m && leb (cacheSize m) l
 abbrev pub marOk : ℕ → ℕ → Bool
 marOk n b = (eqb n 128 || eqb n 129) && leb b 1
 
--- ---- "10: bit 0 while either cache holds a line of that range": a valid line with an address in the 16 MiB from n × 1000000h on
+-- ---- "10: bit 0 while either cache holds a line of that range": a valid line with an address that MAR n covers
 unfoldable pub inRange : ℕ → Line → Bool
-inRange n x = x .valid && eqb (x .address / 0x1000000) n
+inRange n x = x .valid && covers n (x .address)
 
 unfoldable pub holdsRange : ℕ → Record → Bool
 holdsRange n r = anyOf (λ (v : L1dSet). anyOf (inRange n) (v .lines)) (r .l1d) || anyOf (λ (v : L2Set). anyOf (inRange n) (v .lines)) (r .l2)
