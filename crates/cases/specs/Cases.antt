@@ -9,7 +9,7 @@ use Rattle.model.specs.Basics.{each, anyOf, allIndexed}
 use Rattle.model.specs.Bytes.{part, stored, splice, little, littleBytes, zeroFrom}
 use Rattle.model.specs.Memories.{legalL2, legalExternal, cacheSize, isMode, sramLength}
 use Rattle.model.specs.Lines.{l1dSetOf, l2SetIn, l2Sets, l2Slot, without, inFront, used2, used4, l1dPut, l2Put, l1dUse, l2Use, holds}
-use Rattle.model.specs.Records.{State, covers, marBit, withL1dLine, withL2Line, l1dLineAt, freshRecord, freshState, legalSizes, permuted2, permuted4, emptyWay, ownL1dSet, ownL2Set, inSram, inCacheable, l1dRegion, l2Region, coveredByL2, insideL2Line, l1dPlace, l2Place, l1dLineOk, l2LineOk, noneTwice, freshUnlessUsed, l1dSetOk, l2SetOk, wellFormed}
+use Rattle.model.specs.Records.{State, mode0, covers, marBit, withL1dLine, withL2Line, l1dLineAt, freshRecord, freshState, legalSizes, permuted2, permuted4, emptyWay, ownL1dSet, ownL2Set, inSram, inCacheable, l1dRegion, l2Region, coveredByL2, insideL2Line, l1dPlace, l2Place, l1dLineOk, l2LineOk, noneTwice, freshUnlessUsed, l1dSetOk, l2SetOk, wellFormed}
 use Rattle.model.specs.Ways.{wayHolding, lowestInvalid, l1dFind, l2Find, l1dVictim, l2Victim, l1dWay, l2Way, inL1d, inL2, useL1d, useL2, emptyL1d, emptyL2}
 use Rattle.model.specs.Access.{cacheable, putL1d, writebackL1d, evictL1d, homeLine, fillL1d, readHit, readFilled, readEmptied, readMiss, readAccess, writeHit, writeHome, writeMiss, writeAccess}
 use Rattle.model.specs.Homes.{homeIsL2, memoryPart, putMemory, putL2, putHome, takeHalf, takeHalves, writeOutL2, writebackL2, evictL2, fillL2, l2WayFor, fetchL2, homeServer}
@@ -85,7 +85,7 @@ pub cases-hold : map (λ (c : Case). c .given) cases ≡ map (λ (c : Case). c .
 unfolding
     after cases each anyOf allIndexed part stored splice little littleBytes zeroFrom legalL2 legalExternal cacheSize isMode l2Slot without inFront used2 used4 l1dPut
     l2Put l1dUse l2Use
-    wayHolding lowestInvalid l1dFind l2Find l1dVictim l2Victim holds covers marBit withL1dLine withL2Line freshRecord freshState legalSizes permuted2
+    wayHolding lowestInvalid l1dFind l2Find l1dVictim l2Victim holds mode0 covers marBit withL1dLine withL2Line freshRecord freshState legalSizes permuted2
     permuted4 emptyWay
     ownL1dSet ownL2Set inSram inCacheable l1dRegion l2Region coveredByL2 insideL2Line l1dPlace l2Place l1dLineOk l2LineOk noneTwice freshUnlessUsed
     l1dSetOk l2SetOk wellFormed l1dWay l2Way inL1d inL2 cacheable homeIsL2 memoryPart putMemory

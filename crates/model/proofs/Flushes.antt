@@ -12,7 +12,7 @@ use Rattle.model.specs.Basics.{each}
 use Rattle.model.specs.Bytes.{part}
 use Rattle.model.specs.Memories.{externalBase}
 use Rattle.model.specs.Lines.{l1dData, emptyLine}
-use Rattle.model.specs.Records.{State, state, l2SetsOf, l1dLineAt, l2LineAt, withL1dLine, withL2Line}
+use Rattle.model.specs.Records.{State, state, l2SetsOf, mode0, l1dLineAt, l2LineAt, withL1dLine, withL2Line}
 use Rattle.model.specs.Ways.{inL2, l2Way, emptyL1d}
 use Rattle.model.specs.Access.{writebackL1d, evictL1d}
 use Rattle.model.specs.Homes.{homeIsL2, putMemory, putL2, putHome, writeOutL2}
@@ -46,10 +46,10 @@ written x s w z = cond (x .valid) (cond (x .dirty) (putHome (x .address) (part (
 
 module _ (xs : List L1dSet) where
   put-relined : (a : ℕ) (bs : List ℕ) (z : State) → putHome a bs (relined xs z) ≡ relined xs (putHome a bs z)
-  unfolding putHome homeIsL2 inL2 l2Way putL2 putMemory withL2Line
+  unfolding putHome homeIsL2 mode0 inL2 l2Way putL2 putMemory withL2Line
   put-relined a bs z =
       bool (ltb a externalBase) (λ l. rw l refl)
-      (λ l. bool (eqb (l2SetsOf (z .rec)) 0) (λ n. rw (l, n) refl)
+      (λ l. bool (mode0 (z .rec)) (λ n. rw (l, n) refl)
       (λ n. bool (inL2 z a) (λ i. rw (l, n, i) refl) (λ i. rw (l, n, i) refl)))
 
   out-relined : (t v : ℕ) (z : State) → writeOutL2 t v (relined xs z) ≡ relined xs (writeOutL2 t v z)

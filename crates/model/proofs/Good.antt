@@ -15,10 +15,10 @@ use borrow.Author.Tests.{ltb-true, ltb-false, eqb-true, eqb-false, eq-eqb}
 use Rattle.model.specs.Bytes.{stored}
 use Rattle.model.specs.Memories.{externalBase, cacheSize, isMode}
 use Rattle.model.specs.Lines.{l1dSetOf, l1dData, l2Slot, l1dLine, l2Line, emptyLine, holds, l1dGet, l2Get, l2Put, l1dUse, l2Use}
-use Rattle.model.specs.Records.{State, state, sramOf, l2SetsOf, l2SetOf, l2Data, marBit, noL2Set, l1dSetAt, l2SetAt, l1dLineAt, l2LineAt, withL1dLine, withL2Line, freshL2Set}
+use Rattle.model.specs.Records.{State, state, sramOf, l2SetsOf, mode0, l2SetOf, l2Data, marBit, noL2Set, l1dSetAt, l2SetAt, l1dLineAt, l2LineAt, withL1dLine, withL2Line, freshL2Set}
 use Rattle.model.specs.Ways.{wayHolding, lowestInvalid, l1dFind, l2Find, l1dVictim, l2Victim, l1dWay, l2Way, inL1d, inL2, useL1d, useL2}
 use Rattle.model.specs.Homes.{homeIsL2}
-use Rattle.model.specs.Laws.{bool, false-true, both-true, cond-elim, used2-permutation, used4-permutation}
+use Rattle.model.specs.Laws.{bool, false-true, both-true, cond-elim, used2-permutation, used4-permutation, mode0-sets}
 use Rattle.model.specs.declared.Line.{Line}
 use Rattle.model.specs.declared.L1dSet.{L1dSet}
 use Rattle.model.specs.declared.L2Set.{L2Set}
@@ -209,13 +209,15 @@ pub home-memory {ℓ} : {A : Type ℓ} (r : Record) (b : ℕ) → homeIsL2 r b �
 unfolding homeIsL2
 home-memory r b e f g =
     bool (ltb b externalBase) (λ t. f (ltb-true b externalBase t))
-    (λ t. bool (eqb (l2SetsOf r) 0) (λ u. g (ltb-false b externalBase t) (eqb-true (l2SetsOf r) 0 u)) (λ u. false-true (sym (rw (t, u) at e))))
+    (λ t. bool (mode0 r) (λ u. g (ltb-false b externalBase t) (eqb-true (l2SetsOf r) 0 (sym (mode0-sets r) ∙ u)))
+    (λ u. false-true (sym (rw (t, u) at e))))
 
 pub home-l2 : (r : Record) (b : ℕ) → homeIsL2 r b ≡ true → (externalBase ≤ b) × (l2SetsOf r ≢ 0)
 unfolding homeIsL2
 home-l2 r b e =
     bool (ltb b externalBase) (λ t. false-true (rw t at e))
-    (λ t. bool (eqb (l2SetsOf r) 0) (λ u. false-true (rw (t, u) at e)) (λ u. (ltb-false b externalBase t, eqb-false (l2SetsOf r) 0 u)))
+    (λ t. bool (mode0 r) (λ u. false-true (rw (t, u) at e))
+    (λ u. (ltb-false b externalBase t, eqb-false (l2SetsOf r) 0 (sym (mode0-sets r) ∙ u))))
 
 -- ---- slots: ways of n sets. The product `w * n` is no linear term, so the way is taken by cases first
 four-ways {ℓ} : (P : ℕ → Type ℓ) → P 0 → P 1 → P 2 → P 3 → (w : ℕ) → w < 4 → P w

@@ -13,11 +13,11 @@ use borrow.Author.Tests.{le-ltb, ne-eqb}
 use Rattle.model.specs.Bytes.{stored}
 use Rattle.model.specs.Memories.{externalBase}
 use Rattle.model.specs.Lines.{l1dSetOf, l1dData, l1dLine, l2Line, lineOf, l2Sets, l2SetIn}
-use Rattle.model.specs.Records.{State, state, l2SetsOf, l2SetOf, l2Data, marBit, l1dSetAt, l1dLineAt, l2LineAt, withL1dLine, withL2Line}
+use Rattle.model.specs.Records.{State, mode0, state, l2SetsOf, l2SetOf, l2Data, marBit, l1dSetAt, l1dLineAt, l2LineAt, withL1dLine, withL2Line}
 use Rattle.model.specs.Ways.{l1dVictim, l1dWay, inL1d, useL1d}
 use Rattle.model.specs.Access.{cacheable, putL1d, evictL1d, fillL1d, Access, access, l1dBytes, readHit, readFilled, readEmptied, readMiss, readAccess, writeHit, writeHome, writeMiss, writeAccess}
 use Rattle.model.specs.Homes.{homeIsL2, memoryPart, putMemory, putL2, l2WayFor, fetchL2, homeServer}
-use Rattle.model.specs.Laws.{false-true, cond-elim, length-stored, length-part, part-at}
+use Rattle.model.specs.Laws.{false-true, cond-elim, mode0-sets, length-stored, length-part, part-at}
 use Rattle.model.specs.declared.Line.{Line}
 use Rattle.model.specs.declared.Record.{Record}
 use Rattle.model.proofs.Level.{Valid, Free, Replaced}
@@ -29,10 +29,10 @@ use Rattle.model.proofs.Fetch.{AccessFits, cacheable-yes, cacheable-no,
 
 home-l2-yes : (r : Record) (a : ℕ) → externalBase ≤ a → l2SetsOf r ≢ 0 → homeIsL2 r a ≡ true
 unfolding homeIsL2
-home-l2-yes r a h n = rw (le-ltb a externalBase h, ne-eqb (l2SetsOf r) 0 n) refl
+home-l2-yes r a h n = rw (le-ltb a externalBase h, mode0-sets r, ne-eqb (l2SetsOf r) 0 n) refl
 
 home-same : (z z′ : State) (a : ℕ) → z′ .rec .mode ≡ z .rec .mode → homeIsL2 (z′ .rec) a ≡ homeIsL2 (z .rec) a
-unfolding homeIsL2
+unfolding homeIsL2 mode0
 home-same z z′ a e = rw e refl
 
 -- the same slot by the mode that was and by the mode that is

@@ -14,7 +14,7 @@ use borrow.Author.Tests.{eqb-true, eqb-false}
 use Rattle.model.specs.Basics.{each}
 use Rattle.model.specs.Memories.{externalBase}
 use Rattle.model.specs.Lines.{l1dSetOf, emptyLine, l2Sets}
-use Rattle.model.specs.Records.{State, l2SetsOf, l2SetOf, l1dLineAt, l2LineAt}
+use Rattle.model.specs.Records.{State, l2SetsOf, mode0, l2SetOf, l1dLineAt, l2LineAt}
 use Rattle.model.specs.Ways.{l1dWay, l2Way, inL1d, inL2}
 use Rattle.model.specs.Access.{evictL1d}
 use Rattle.model.specs.Homes.{writeOutL2, writebackL2, evictL2}
@@ -127,7 +127,7 @@ module _ (z : State) (F : Allowed) (q : Good z F) where
 
   pub unless-good : (f : State → State) → Step z F (f z) → Step z F (unlessMode0 f z)
   unfolding unlessMode0
-  unless-good f s = cond-elim (Step z F) (eqb (l2SetsOf (z .rec)) 0) z (f z) (λ _. step-refl z F q) (λ _. s)
+  unless-good f s = cond-elim (Step z F) (mode0 (z .rec)) z (f z) (λ _. step-refl z F q) (λ _. s)
 
 evictL1d-step : (z : State) (F : Allowed) → Good z F → (s w : ℕ) → s < 128 → w < 2 → Step z F (evictL1d s w z)
 evictL1d-step z F q s w hs hw = let l = evictL1d-good z F q s w hs hw .left in record { good = l .good; kept = l .kept }

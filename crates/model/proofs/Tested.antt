@@ -14,10 +14,10 @@ use borrow.Author.Tests.{ltb-true, ltb-false, leb-true, le-leb, eqb-true, eqb-fa
 use Rattle.model.specs.Basics.{anyOf, allIndexed}
 use Rattle.model.specs.Memories.{externalBase, legalL2, legalExternal, cacheSize, isMode}
 use Rattle.model.specs.Lines.{l1dSetOf, l1dData, l2Line, emptyLine, holds, Permutation2, Permutation4}
-use Rattle.model.specs.Records.{State, sramOf, l2SetsOf, l2SetOf, l2Data, marBit, noL1dSet, noL2Set, l1dSetAt, l2SetAt, l1dLineAt, l2LineAt, legalSizes, permuted2, permuted4, emptyWay, insideL2Line, l1dPlace, l2Place, l1dLineOk, l2LineOk, noneTwice, freshUnlessUsed, l1dSetOk, l2SetOk, wellFormed, freshL2Set, coveredByL2, ownL1dSet, l1dRegion, ownL2Set, inSram, l2Region, inCacheable, inUse}
+use Rattle.model.specs.Records.{State, sramOf, l2SetsOf, mode0, l2SetOf, l2Data, marBit, noL1dSet, noL2Set, l1dSetAt, l2SetAt, l1dLineAt, l2LineAt, legalSizes, permuted2, permuted4, emptyWay, insideL2Line, l1dPlace, l2Place, l1dLineOk, l2LineOk, noneTwice, freshUnlessUsed, l1dSetOk, l2SetOk, wellFormed, freshL2Set, coveredByL2, ownL1dSet, l1dRegion, ownL2Set, inSram, l2Region, inCacheable, inUse}
 use Rattle.model.specs.Refusals.{first, unless, lentL1d, lentL2, lentExternal, lentDue}
 use Rattle.model.specs.Calls.{Reply, refused, step, call}
-use Rattle.model.specs.Laws.{bool, false-true, both-true, cond-elim}
+use Rattle.model.specs.Laws.{bool, false-true, both-true, cond-elim, mode0-sets}
 use Rattle.model.specs.declared.Line.{Line}
 use Rattle.model.specs.declared.Order2.{Order2}
 use Rattle.model.specs.declared.Order4.{Order4}
@@ -296,8 +296,8 @@ l2-place-makes r t v a p =
 inside-tells : (z : State) (a : ℕ) → l2SetsOf (z .rec) ≢ 0 → insideL2Line (z .rec) a ≡ true → InL2Line (l2Level z) a
 unfolding insideL2Line
 inside-tells z a n h =
-    bool (eqb (l2SetsOf (z .rec)) 0)
-    (λ t. absurd (n (eqb-true (l2SetsOf (z .rec)) 0 t)))
+    bool (mode0 (z .rec))
+    (λ t. absurd (n (eqb-true (l2SetsOf (z .rec)) 0 (sym (mode0-sets (z .rec)) ∙ t))))
     (λ t. let r = any-tells (λ y. holds y (l2Line a)) emptyLine (l2SetAt (z .rec) (l2SetOf (z .rec) a) .lines) (rw t at h) in
     let p = holds-tells (l2LineAt (z .rec) (l2SetOf (z .rec) a) (r .0)) (l2Line a) (r .1) in
     (l2SetOf (z .rec) a, r .0, p .0, p .1))
@@ -305,8 +305,8 @@ inside-tells z a n h =
 inside-makes : (z : State) → Well z → (a : ℕ) → (l2SetsOf (z .rec) ≢ 0 → InL2Line (l2Level z) a) → insideL2Line (z .rec) a ≡ true
 unfolding insideL2Line holds
 inside-makes z h a f =
-    bool (eqb (l2SetsOf (z .rec)) 0) (λ t. rw t refl)
-    (λ t. let i = f (eqb-false (l2SetsOf (z .rec)) 0 t) in
+    bool (mode0 (z .rec)) (λ t. rw t refl)
+    (λ t. let i = f (eqb-false (l2SetsOf (z .rec)) 0 (sym (mode0-sets (z .rec)) ∙ t)) in
     let p = h .inv .l2Sound .place (i .0) (i .1) (i .2) in
     let e = i .3 in
     let d : l2LineAt (z .rec) (i .0) (i .1) .address / 128 ≡ a / 128 = omega arith in

@@ -4,7 +4,7 @@ use mathlib.Core.Bool.{cond}
 use lib.Dec.{eqb}
 use Rattle.model.specs.Basics.{each}
 use Rattle.model.specs.Lines.{l1dSetOf, upperHalf}
-use Rattle.model.specs.Records.{State, l2SetsOf, l2SetOf, l2LineAt}
+use Rattle.model.specs.Records.{State, l2SetsOf, l2SetOf, mode0, l2LineAt}
 use Rattle.model.specs.Ways.{l1dWay, l2Way, inL1d, inL2, emptyL1d, emptyL2}
 use Rattle.model.specs.Access.{evictL1d}
 use Rattle.model.specs.Homes.{writebackL2, evictL2}
@@ -33,9 +33,9 @@ atL2 f a z = cond (inL2 z a) (f (l2SetOf (z .rec) a) (l2Way z a) z) z
 unfoldable pub atL1d : (ℕ → ℕ → State → State) → ℕ → State → State
 atL1d f a z = cond (inL1d z a) (f (l1dSetOf a) (l1dWay z a) z) z
 
--- "L2 commands do nothing in mode 0 and never reach L1D lines of SRAM." (L2 has sets in every mode but 0, and holds lines of external memory only.)
+-- "L2 commands do nothing in mode 0 and never reach L1D lines of SRAM." (L2 holds lines of external memory only.)
 unfoldable pub unlessMode0 : (State → State) → State → State
-unlessMode0 f z = cond (eqb (l2SetsOf (z .rec)) 0) z (f z)
+unlessMode0 f z = cond (mode0 (z .rec)) z (f z)
 
 -- "Writeback: for each L2 line (touched, or all) the dirty L1D halves are written into it, both halves become invalid in L1D, and a dirty
 -- line goes out, staying valid and clean." (`writebackL2`) "Writeback-invalidate: the same, then the line is invalid." (`evictL2`)

@@ -13,9 +13,9 @@ use lib.Dec.{ltb, leb, eqb}
 use borrow.Author.Tests.{ltb-true, ltb-false, leb-true, le-leb, lt-leb, eqb-true, eqb-false, eq-eqb, ne-eqb}
 use Rattle.model.specs.Basics.{each}
 use Rattle.model.specs.Bytes.{splice, part, stored, littleBytes}
-use Rattle.model.specs.Memories.{externalBase}
+use Rattle.model.specs.Memories.{externalBase, cacheSize, isMode}
 use Rattle.model.specs.Lines.{Permutation2, Permutation4, inFront, without, used2, used4, l1dGet, l2Get}
-use Rattle.model.specs.Records.{State, l2SetsOf, covers, marBit}
+use Rattle.model.specs.Records.{State, l2SetsOf, mode0, covers, marBit}
 use Rattle.model.specs.Ways.{lowestInvalid, l1dVictim, l2Victim}
 use Rattle.model.specs.Modes.{smaller}
 use Rattle.model.specs.Commands.{blockEnd, linesTouched, eachL2, unlessMode0}
@@ -220,10 +220,29 @@ pub l2-victim : (v : L2Set) → Permutation4 (v .order) → l2Victim v ≡ lowes
 unfolding l2Victim
 l2-victim v p = let h = p .below4 in let e : v .order .fourth % 4 ≡ v .order .fourth = omega arith in rw e refl
 
--- ---- L2 has no way to go through in mode 0
+-- ---- L2 has no sets in mode 0, and some in every other
+mode0-of : (m : ℕ) → cond (isMode m) (eqb m 0) true ≡ eqb (cacheSize m / 512) 0
+unfolding isMode cacheSize
+mode0-of m =
+    bool (eqb m 1) (λ t. rw (eqb-true m 1 t) refl)
+    (λ n₁. bool (eqb m 2) (λ t. rw (eqb-true m 2 t) refl)
+    (λ n₂. bool (eqb m 3) (λ t. rw (eqb-true m 3 t) refl)
+    (λ n₃. bool (eqb m 7) (λ t. rw (eqb-true m 7 t) refl)
+    (λ n₇. bool (leb m 3)
+    (λ t. let a = eqb-false m 1 n₁ in let b = eqb-false m 2 n₂ in let c = eqb-false m 3 n₃ in let l = leb-true m 3 t in
+    let e : m ≡ 0 = omega arith in rw e refl)
+    (λ t. rw (n₁, n₂, n₃, n₇, t) refl)))))
+
+pub mode0-sets : (r : Record) → mode0 r ≡ eqb (l2SetsOf r) 0
+unfolding mode0
+mode0-sets r = mode0-of (r .mode)
+
+-- so the ways that a loop goes through are none in mode 0
 pub no-ways : (f : ℕ → ℕ → State → State) (z : State) → unlessMode0 (eachL2 f) z ≡ eachL2 f z
 unfolding unlessMode0 eachL2 each
-no-ways f z = bool (eqb (l2SetsOf (z .rec)) 0) (λ e. let n = eqb-true (l2SetsOf (z .rec)) 0 e in rw (e, n) refl) (λ e. rw e refl)
+no-ways f z =
+    bool (mode0 (z .rec))
+    (λ e. let n = eqb-true (l2SetsOf (z .rec)) 0 (sym (mode0-sets (z .rec)) ∙ e) in rw (e, n) refl) (λ e. rw e refl)
 
 -- ---- "It touches each line with a byte in it": the lines that `eachTouched` goes through are those and no others
 abbrev pub GoneThrough : (n b c l : ℕ) → Type 0

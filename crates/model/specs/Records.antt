@@ -37,6 +37,11 @@ l2SetOf r a = l2SetIn (l2SetsOf r) a
 abbrev pub l2Data : Record → ℕ → ℕ → ℕ
 l2Data r t v = l2DataIn (sramOf r) (l2SetsOf r) t v
 
+-- mode 0, which has no L2 cache. What is no mode has none either, so that L2 has no sets in mode 0 and some in every other
+-- (`mode0-sets` in Laws).
+unfoldable pub mode0 : Record → Bool
+mode0 r = cond (isMode (r .mode)) (eqb (r .mode) 0) true
+
 -- "MAR n covers the 16 MiB from n × 1000000h (001, Table 28)."
 unfoldable pub covers : ℕ → ℕ → Bool
 covers n a = eqb (a / 0x1000000) n
@@ -135,7 +140,7 @@ freshUnlessUsed r t o =
 
 -- "and in a mode other than 0 each external L1D line lies inside a valid L2 line."
 unfoldable pub insideL2Line : Record → ℕ → Bool
-insideL2Line r a = cond (eqb (l2SetsOf r) 0) true (anyOf (λ y. holds y (l2Line a)) (l2SetAt r (l2SetOf r a) .lines))
+insideL2Line r a = cond (mode0 r) true (anyOf (λ y. holds y (l2Line a)) (l2SetAt r (l2SetOf r a) .lines))
 
 unfoldable pub coveredByL2 : Record → ℕ → Bool
 coveredByL2 r a = cond (ltb a externalBase) true (insideL2Line r a)
