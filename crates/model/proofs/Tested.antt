@@ -15,7 +15,7 @@ use Rattle.model.specs.Basics.{anyOf, allIndexed}
 use Rattle.model.specs.Memories.{externalBase, legalL2, legalExternal, cacheSize, isMode}
 use Rattle.model.specs.Lines.{l1dSetOf, l1dData, l2Line, emptyLine, holds, Permutation2, Permutation4}
 use Rattle.model.specs.Records.{State, sramOf, l2SetsOf, mode0, l2SetOf, l2Data, marBit, noL1dSet, noL2Set, l1dSetAt, l2SetAt, l1dLineAt, l2LineAt, legalSizes, permuted2, permuted4, emptyWay, insideL2Line, l1dPlace, l2Place, l1dLineOk, l2LineOk, noneTwice, freshUnlessUsed, l1dSetOk, l2SetOk, wellFormed, freshL2Set, coveredByL2, ownL1dSet, l1dRegion, ownL2Set, inSram, l2Region, inCacheable, inUse}
-use Rattle.model.specs.Refusals.{first, unless, lentL1d, lentL2, lentExternal, lentDue}
+use Rattle.model.specs.Refusals.{lowestDue, unless, lentL1d, lentL2, lentExternal, lentDue}
 use Rattle.model.specs.Calls.{Reply, refused, step, call}
 use Rattle.model.specs.Laws.{bool, false-true, both-true, cond-elim, mode0-sets}
 use Rattle.model.specs.declared.Line.{Line}
@@ -29,7 +29,7 @@ use Rattle.model.proofs.Invariant.{L1dPlaced, L2Placed, InL2Line}
 use Rattle.model.proofs.Tables.{Kind, l1dKind, l2Kind, setIn, lineIn, levelOf, Shaped, Table, slot-cases, any-none}
 use Rattle.model.proofs.Good.{layoutOf, l1dLevel, l2Level, Sizes, Well, holds-yes, holds-tells}
 use Rattle.model.proofs.Changes.{l2-fresh}
-use Rattle.model.proofs.Due.{first-none, unless-none}
+use Rattle.model.proofs.Due.{lowestDue-none, unless-none}
 use Rattle.model.proofs.Drops.{well}
 use Rattle.model.proofs.Steps.{step-well}
 
@@ -500,7 +500,7 @@ module _ (z : State) (shape : Shape (z .rec)) (sizes : Sizes (z .rec .l2len) (z 
 pub due-well : (z : State) → Shape (z .rec) → lentDue z ≡ 0 → Well z
 unfolding lentDue wellFormed
 due-well z shape h =
-    let p = first-none (lentL1d (z .l1d) && (lentL2 (z .rec) (z .l2) && lentExternal (z .rec) (z .ext))) 0 (unless (wellFormed (z .rec)) 2) h in
+    let p = lowestDue-none (lentL1d (z .l1d) && (lentL2 (z .rec) (z .l2) && lentExternal (z .rec) (z .ext))) 0 (unless (wellFormed (z .rec)) 2) h in
     let a = tells (lentL1d (z .l1d)) (lentL2 (z .rec) (z .l2) ∷ lentExternal (z .rec) (z .ext) ∷ []) (p .0) in
     let b = tells (legalSizes (z .rec)) (allIndexed (l1dSetOk (z .rec)) 0 (z .rec .l1d) ∷ allIndexed (l2SetOk (z .rec)) 0 (z .rec .l2) ∷ [])
     (unless-none (wellFormed (z .rec)) 1 (p .1)) in

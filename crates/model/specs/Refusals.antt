@@ -12,10 +12,10 @@ use Rattle.model.specs.declared.L1dSet.{L1dSet}
 use Rattle.model.specs.declared.L2Set.{L2Set}
 use Rattle.model.specs.declared.Record.{Record}
 
--- "The lowest due number wins": the first of two numbers, asked in their order
-abbrev pub first : ℕ → ℕ → ℕ
-first zero k = k
-first (suc n) k = suc n
+-- "The lowest due number wins": of two, asked in their order; 0 is not due
+abbrev pub lowestDue : ℕ → ℕ → ℕ
+lowestDue zero k = k
+lowestDue (suc n) k = suc n
 
 -- number n unless the test holds
 abbrev pub unless : Bool → ℕ → ℕ
@@ -72,20 +72,20 @@ holdsRange n r = anyOf (λ (v : L1dSet). anyOf (inRange n) (v .lines)) (r .l1d) 
 -- ---- the lowest number due, call by call. 1 and 2 stand in front of every call; the view is lent L2 and external memory only.
 unfoldable pub lentDue : State → ℕ
 lentDue z =
-    first (unless (lentL1d (z .l1d) && (lentL2 (z .rec) (z .l2) && lentExternal (z .rec) (z .ext))) 1)
+    lowestDue (unless (lentL1d (z .l1d) && (lentL2 (z .rec) (z .l2) && lentExternal (z .rec) (z .ext))) 1)
     (unless (wellFormed (z .rec)) 2)
 
 unfoldable pub viewLentDue : Record → List ℕ → List ℕ → ℕ
-viewLentDue r m e = first (unless (lentL2 r m && lentExternal r e) 1) (unless (wellFormed r) 2)
+viewLentDue r m e = lowestDue (unless (lentL2 r m && lentExternal r e) 1) (unless (wellFormed r) 2)
 
 -- a read or write of n bytes at a, of value v (a read's is 0)
 unfoldable pub accessDue : ℕ → ℕ → ℕ → ℕ → ℕ → ℕ
 accessDue s e n a v =
-    first (unless (sizeOk n) 3) (first (unless (multipleOf n a) 4) (first (unless (placeOk s e n a) 5) (unless (valueOk n v) 6)))
+    lowestDue (unless (sizeOk n) 3) (lowestDue (unless (multipleOf n a) 4) (lowestDue (unless (placeOk s e n a) 5) (unless (valueOk n v) 6)))
 
 -- a block of c words from b on
 unfoldable pub blockDue : ℕ → ℕ → ℕ
-blockDue b c = first (unless (multipleOf 4 b) 4) (unless (countOk c) 7)
+blockDue b c = lowestDue (unless (multipleOf 4 b) 4) (unless (countOk c) 7)
 
 -- a change to mode m
 unfoldable pub modeDue : ℕ → ℕ → ℕ
@@ -93,8 +93,8 @@ modeDue l m = unless (modeOk l m) 8
 
 -- MAR n gets bit b
 unfoldable pub marDue : Record → ℕ → ℕ → ℕ
-marDue r n b = first (unless (marOk n b) 9) (unless (not (eqb b 0 && holdsRange n r)) 10)
+marDue r n b = lowestDue (unless (marOk n b) 9) (unless (not (eqb b 0 && holdsRange n r)) 10)
 
 -- the technician's view of the line at a
 unfoldable pub viewDue : Record → List ℕ → List ℕ → ℕ → ℕ
-viewDue r m e a = first (viewLentDue r m e) (first (unless (multipleOf 64 a) 4) (unless (placeOk (sramOf r) (r .extlen) 64 a) 5))
+viewDue r m e a = lowestDue (viewLentDue r m e) (lowestDue (unless (multipleOf 64 a) 4) (unless (placeOk (sramOf r) (r .extlen) 64 a) 5))
