@@ -27,7 +27,7 @@ use Rattle.model.specs.declared.L2Set.{L2Set}
 use Rattle.model.specs.declared.Record.{Record}
 use Rattle.model.proofs.Level.{Valid, NoDirty}
 use Rattle.model.proofs.Invariant.{Allowed, carry, Inside}
-use Rattle.model.proofs.Tables.{l1dKind, l2Kind, fresh-line, fresh-table, none-found}
+use Rattle.model.proofs.Tables.{l1dStore, l2Store, fresh-line, fresh-table, none-found}
 use Rattle.model.proofs.Memory.{memory-low, memory-high}
 use Rattle.model.proofs.Good.{layoutOf, l1dLevel, l2Level, memoryOf, Sizes, sizes-new, Good}
 
@@ -102,14 +102,14 @@ pub fresh-good : (z : State) (F : Allowed) → z .rec .l1d ≡ replicate 128 fre
     ((a : ℕ) → Inside (layoutOf (z .rec)) a → F a (memoryOf z a)) → Good z F
 fresh-good z F e₁ e₂ sizes h =
     let v₁ : (s w : ℕ) → l1dLineAt (z .rec) s w .valid ≡ false
-    = λ s w. rw e₁ (ap (λ (l : Line). l .valid) (fresh-line l1dKind freshL1dSet 128 l1d-fresh s w)) in
+    = λ s w. rw e₁ (ap (λ (l : Line). l .valid) (fresh-line l1dStore freshL1dSet 128 l1d-fresh s w)) in
     let v₂ : (s w : ℕ) → l2LineAt (z .rec) s w .valid ≡ false
-    = λ s w. rw e₂ (ap (λ (l : Line). l .valid) (fresh-line l2Kind freshL2Set 512 l2-fresh s w)) in
+    = λ s w. rw e₂ (ap (λ (l : Line). l .valid) (fresh-line l2Store freshL2Set 512 l2-fresh s w)) in
     record {
       tidy = record {
         sizes = sizes;
-        l1d = rw e₁ (fresh-table l1dKind freshL1dSet 128 l1d-fresh refl refl l1d-fresh-order);
-        l2 = rw e₂ (fresh-table l2Kind freshL2Set 512 l2-fresh refl refl l2-fresh-order);
+        l1d = rw e₁ (fresh-table l1dStore freshL1dSet 128 l1d-fresh refl refl l1d-fresh-order);
+        l2 = rw e₂ (fresh-table l2Store freshL2Set 512 l2-fresh refl refl l2-fresh-order);
         idle = λ t k _. rw e₂ (getD-replicate 512 t freshL2Set noL2Set k);
       };
       inv = record {
@@ -166,11 +166,11 @@ module _ (n : ℕ) (r : Record) (h : holdsRange n r ≡ false) where
 
   l1d-none : (s w : ℕ) → inRange n (l1dLineAt r s w) ≡ false
   unfolding inRange
-  l1d-none = none-found l1dKind (r .l1d) (inRange n) refl l1d-range
+  l1d-none = none-found l1dStore (r .l1d) (inRange n) refl l1d-range
 
   l2-none : (s w : ℕ) → inRange n (l2LineAt r s w) ≡ false
   unfolding inRange
-  l2-none = none-found l2Kind (r .l2) (inRange n) refl l2-range
+  l2-none = none-found l2Store (r .l2) (inRange n) refl l2-range
 
 outside-range : (n : ℕ) (l : Line) → inRange n l ≡ false → l .valid ≡ true → covers n (l .address) ≡ false
 unfolding inRange

@@ -20,7 +20,7 @@ use Rattle.model.specs.Modes.{flushL1d, flushL2, newMode, changeMode}
 use Rattle.model.specs.Laws.{bool}
 use Rattle.model.specs.declared.Line.{Line}
 use Rattle.model.specs.declared.L1dSet.{L1dSet}
-use Rattle.model.proofs.Tables.{l1dKind, lineIn, withLine, line-other-set, line-other-way}
+use Rattle.model.proofs.Tables.{l1dStore, lineIn, withLine, line-other-set, line-other-way}
 
 abbrev pub sweptL1d : State → State
 sweptL1d z = each (λ k. evictL1d (k / 2) (k % 2)) 256 z
@@ -76,7 +76,7 @@ module _ (xs : List L1dSet) where
       (λ v. bool (x .dirty) (λ d. rw (v, d) (put-relined (x .address) (part (z .l1d) (l1dData s w) 64) z)) (λ d. rw (v, d) refl))
       (λ v. rw v refl)
 
-  back-relined : (s w : ℕ) (z : State) → lineIn l1dKind xs s w ≡ l1dLineAt (z .rec) s w →
+  back-relined : (s w : ℕ) (z : State) → lineIn l1dStore xs s w ≡ l1dLineAt (z .rec) s w →
       writebackL1d s w (relined xs z) ≡ relined xs (writebackL1d s w z)
   unfolding writebackL1d
   back-relined s w z e = ap (λ (x : Line). written x s w (relined xs z)) e ∙ written-relined (l1dLineAt (z .rec) s w) s w z
@@ -87,16 +87,16 @@ back-lines s w z = ap (λ (x : State). x .rec .l1d) (back-relined (z .rec .l1d) 
 
 -- ---- the lines of L1D with the first k ways emptied: the others are as they were
 abbrev emptied : ℕ → List L1dSet → List L1dSet
-emptied k xs = each (λ i ys. withLine l1dKind ys (i / 2) (i % 2) emptyLine) k xs
+emptied k xs = each (λ i ys. withLine l1dStore ys (i / 2) (i % 2) emptyLine) k xs
 
-later : (xs : List L1dSet) (k j : ℕ) → k ≤ j → lineIn l1dKind (emptied k xs) (j / 2) (j % 2) ≡ lineIn l1dKind xs (j / 2) (j % 2)
+later : (xs : List L1dSet) (k j : ℕ) → k ≤ j → lineIn l1dStore (emptied k xs) (j / 2) (j % 2) ≡ lineIn l1dStore xs (j / 2) (j % 2)
 unfolding each
 later xs zero j h = refl
 later xs (suc k) j h =
     bool (eqb (j / 2) (k / 2))
     (λ e. let s = eqb-true (j / 2) (k / 2) e in
-    line-other-way l1dKind (emptied k xs) (k / 2) (k % 2) emptyLine (j / 2) (j % 2) (λ q. absurd (omega arith)))
-    (λ e. line-other-set l1dKind (emptied k xs) (k / 2) (k % 2) emptyLine (j / 2) (j % 2) (eqb-false (j / 2) (k / 2) e))
+    line-other-way l1dStore (emptied k xs) (k / 2) (k % 2) emptyLine (j / 2) (j % 2) (λ q. absurd (omega arith)))
+    (λ e. line-other-set l1dStore (emptied k xs) (k / 2) (k % 2) emptyLine (j / 2) (j % 2) (eqb-false (j / 2) (k / 2) e))
     ∙ later xs k j (omega arith)
 
 -- ---- the sweep is the write-backs, with the ways that were gone through emptied
@@ -113,8 +113,8 @@ unfolding each evictL1d emptyL1d withL1dLine
 swept-back zero z = refl
 swept-back (suc k) z =
     let xs = emptied k (z .rec .l1d) in
-    let same : lineIn l1dKind xs (k / 2) (k % 2) ≡ l1dLineAt (backs k z .rec) (k / 2) (k % 2) =
-    later (z .rec .l1d) k k (omega arith) ∙ ap (λ (ys : List L1dSet). lineIn l1dKind ys (k / 2) (k % 2)) (sym (backs-lines k z)) in
+    let same : lineIn l1dStore xs (k / 2) (k % 2) ≡ l1dLineAt (backs k z .rec) (k / 2) (k % 2) =
+    later (z .rec .l1d) k k (omega arith) ∙ ap (λ (ys : List L1dSet). lineIn l1dStore ys (k / 2) (k % 2)) (sym (backs-lines k z)) in
     ap (evictL1d (k / 2) (k % 2)) (swept-back k z)
     ∙ ap (emptyL1d (k / 2) (k % 2)) (back-relined xs (k / 2) (k % 2) (backs k z) same)
 

@@ -25,7 +25,7 @@ use Rattle.model.specs.declared.L2Set.{L2Set}
 use Rattle.model.specs.declared.Record.{Record}
 use Rattle.model.proofs.Level.{Level, Valid, Other, Free, Replaced}
 use Rattle.model.proofs.Invariant.{Allowed, Layout, Invariant, invariant-same}
-use Rattle.model.proofs.Tables.{l1dKind, l2Kind, levelOf, Table, table-line, replaced-line, table-used, line-used}
+use Rattle.model.proofs.Tables.{l1dStore, l2Store, levelOf, Table, table-line, replaced-line, table-used, line-used}
 use Rattle.model.proofs.Memory.{memoryByte, other-slot}
 
 -- ---- the state as the invariant sees it
@@ -33,10 +33,10 @@ abbrev pub layoutOf : Record → Layout
 layoutOf r = record { sram = sramOf r; ext = r .extlen; sets = l2SetsOf r; mar = marBit r }
 
 abbrev pub l1dLevel : State → Level
-l1dLevel z = levelOf l1dKind (z .rec .l1d) l1dData (z .l1d)
+l1dLevel z = levelOf l1dStore (z .rec .l1d) l1dData (z .l1d)
 
 abbrev pub l2Level : State → Level
-l2Level z = levelOf l2Kind (z .rec .l2) (l2Data (z .rec)) (z .l2)
+l2Level z = levelOf l2Store (z .rec .l2) (l2Data (z .rec)) (z .l2)
 
 abbrev pub memoryOf : State → ℕ → ℕ
 memoryOf z a = memoryByte (z .l2) (z .ext) a
@@ -58,8 +58,8 @@ pub record Sizes (l e mode : ℕ) (l1d l2 ext : List ℕ) : Type 0 where
 -- what a well-formed state has beside the invariant; sets not in use are fresh
 pub record Tidy (z : State) : Type 0 where
   pub sizes : Sizes (z .rec .l2len) (z .rec .extlen) (z .rec .mode) (z .l1d) (z .l2) (z .ext)
-  pub l1d : Table l1dKind (z .rec .l1d)
-  pub l2 : Table l2Kind (z .rec .l2)
+  pub l1d : Table l1dStore (z .rec .l1d)
+  pub l2 : Table l2Store (z .rec .l2)
   pub idle : (t : ℕ) → t < 512 → l2SetsOf (z .rec) ≤ t → l2SetAt (z .rec) t ≡ freshL2Set
 
 pub record Good (z : State) (F : Allowed) : Type 0 where
@@ -324,13 +324,13 @@ module _ (z : State) (h : Tidy z) (s w : ℕ) (l : Line) (d m e : List ℕ) wher
       →
       Replaced 64 (l1dLevel z) (l1dLevel (state (withL1dLine (z .rec) s w l) d m e)) s w l
   unfolding withL1dLine
-  l1d-replaced hs hw r = replaced-line l1dKind (z .rec .l1d) s w l (h .l1d .shaped) hs hw 64 l1dData (z .l1d) d r
+  l1d-replaced hs hw r = replaced-line l1dStore (z .rec .l1d) s w l (h .l1d .shaped) hs hw 64 l1dData (z .l1d) d r
 
   pub l1d-tidy : (l .valid ≡ false → l ≡ emptyLine) → length d ≡ length (z .l1d) → length m ≡ length (z .l2) → length e ≡ length (z .ext) →
       Tidy (state (withL1dLine (z .rec) s w l) d m e)
   unfolding withL1dLine
   l1d-tidy v a b c =
-      record { sizes = sizes-with (h .sizes) d m e a b c; l1d = table-line l1dKind (z .rec .l1d) s w l (h .l1d) v; l2 = h .l2; idle = h .idle }
+      record { sizes = sizes-with (h .sizes) d m e a b c; l1d = table-line l1dStore (z .rec .l1d) s w l (h .l1d) v; l2 = h .l2; idle = h .idle }
 
   pub l2-replaced : s < l2SetsOf (z .rec) → w < 4 →
       ((s′ w′ : ℕ) → Other s w s′ w′ → Valid (l2Level z) s′ w′ → (i : ℕ) → i < 128 →
@@ -339,7 +339,7 @@ module _ (z : State) (h : Tidy z) (s w : ℕ) (l : Line) (d m e : List ℕ) wher
   unfolding withL2Line
   l2-replaced hs hw r =
       let c = h .sizes .cacheMost in let c′ = h .sizes .l2Most in
-      replaced-line l2Kind (z .rec .l2) s w l (h .l2 .shaped) (omega arith) hw 128 (l2Data (z .rec)) (z .l2) m r
+      replaced-line l2Store (z .rec .l2) s w l (h .l2 .shaped) (omega arith) hw 128 (l2Data (z .rec)) (z .l2) m r
 
   pub l2-tidy : s < l2SetsOf (z .rec) → (l .valid ≡ false → l ≡ emptyLine) → length d ≡ length (z .l1d) → length m ≡ length (z .l2) →
       length e ≡ length (z .ext) →
@@ -349,7 +349,7 @@ module _ (z : State) (h : Tidy z) (s w : ℕ) (l : Line) (d m e : List ℕ) wher
       record {
         sizes = sizes-with (h .sizes) d m e a b c;
         l1d = h .l1d;
-        l2 = table-line l2Kind (z .rec .l2) s w l (h .l2) v;
+        l2 = table-line l2Store (z .rec .l2) s w l (h .l2) v;
         idle = λ t k g. getD-set-other (z .rec .l2) s t (l2Put (l2SetAt (z .rec) s) w l) noL2Set (omega arith) ∙ h .idle t k g;
       }
 
@@ -357,11 +357,11 @@ module _ (z : State) (h : Tidy z) (s w : ℕ) (l : Line) (d m e : List ℕ) wher
 module _ (z : State) (s w : ℕ) where
   pub l1d-used-line : (s′ w′ : ℕ) → l1dLineAt (useL1d s w z .rec) s′ w′ ≡ l1dLineAt (z .rec) s′ w′
   unfolding useL1d l1dUse
-  l1d-used-line = line-used l1dKind (z .rec .l1d) s (l1dUse (l1dSetAt (z .rec) s) w) refl
+  l1d-used-line = line-used l1dStore (z .rec .l1d) s (l1dUse (l1dSetAt (z .rec) s) w) refl
 
   pub l2-used-line : (s′ w′ : ℕ) → l2LineAt (useL2 s w z .rec) s′ w′ ≡ l2LineAt (z .rec) s′ w′
   unfolding useL2 l2Use
-  l2-used-line = line-used l2Kind (z .rec .l2) s (l2Use (l2SetAt (z .rec) s) w) refl
+  l2-used-line = line-used l2Store (z .rec .l2) s (l2Use (l2SetAt (z .rec) s) w) refl
 
   pub useL1d-kept : Kept z (useL1d s w z)
   unfolding useL1d marBit
@@ -378,7 +378,7 @@ module _ (z : State) (s w : ℕ) where
       record {
         tidy = record {
           sizes = h .sizes;
-          l1d = table-used l1dKind (z .rec .l1d) s (l1dUse (l1dSetAt (z .rec) s) w) refl (h .l1d)
+          l1d = table-used l1dStore (z .rec .l1d) s (l1dUse (l1dSetAt (z .rec) s) w) refl (h .l1d)
               (λ k. used2-permutation (l1dSetAt (z .rec) s .order) w hw (h .l1d .ordered s k));
           l2 = h .l2;
           idle = h .idle;
@@ -395,7 +395,7 @@ module _ (z : State) (s w : ℕ) where
         tidy = record {
           sizes = h .sizes;
           l1d = h .l1d;
-          l2 = table-used l2Kind (z .rec .l2) s (l2Use (l2SetAt (z .rec) s) w) refl (h .l2)
+          l2 = table-used l2Store (z .rec .l2) s (l2Use (l2SetAt (z .rec) s) w) refl (h .l2)
               (λ k. used4-permutation (l2SetAt (z .rec) s .order) w hw (h .l2 .ordered s k));
           idle = λ t k g. getD-set-other (z .rec .l2) s t (l2Use (l2SetAt (z .rec) s) w) noL2Set (omega arith) ∙ h .idle t k g;
         };

@@ -26,7 +26,7 @@ use Rattle.model.specs.declared.Record.{Record}
 use Rattle.model.specs.declared.Command.{Command}
 use Rattle.model.proofs.Level.{Valid, Sound}
 use Rattle.model.proofs.Invariant.{L1dPlaced, L2Placed, InL2Line}
-use Rattle.model.proofs.Tables.{Kind, l1dKind, l2Kind, setIn, lineIn, levelOf, Shaped, Table, slot-cases, any-none}
+use Rattle.model.proofs.Tables.{Store, l1dStore, l2Store, setIn, lineIn, levelOf, Shaped, Table, slot-cases, any-none}
 use Rattle.model.proofs.Good.{layoutOf, l1dLevel, l2Level, Sizes, Well, holds-yes, holds-tells}
 use Rattle.model.proofs.Changes.{l2-fresh}
 use Rattle.model.proofs.Due.{lowestDue-none, unless-none}
@@ -318,7 +318,7 @@ inside-makes z h a f =
 abbrev lineTest : (ℕ → ℕ → Bool) → ℕ → ℕ → Line → Bool
 lineTest place s = λ _ x. cond (x .valid) (place s (x .address)) (emptyWay x)
 
-module _ (k : Kind) (xs : List (k .OneSet)) (shape : Shaped k xs) (place : ℕ → ℕ → Bool)
+module _ (k : Store) (xs : List (k .OneSet)) (shape : Shaped k xs) (place : ℕ → ℕ → Bool)
     (lines : (s : ℕ) → s < k .sets → allIndexed (lineTest place s) 0 (k .lines (setIn k xs s)) ≡ true)
     (twice : (s : ℕ) → s < k .sets → noneTwice (k .lines (setIn k xs s)) ≡ true) where
   line-test : (s w : ℕ) → s < k .sets → w < k .ways → lineTest place s w (lineIn k xs s w) ≡ true
@@ -343,7 +343,7 @@ module _ (k : Kind) (xs : List (k .OneSet)) (shape : Shaped k xs) (place : ℕ �
         place = pl;
       }
 
-module _ (k : Kind) (xs : List (k .OneSet)) (h : Table k xs) (place : ℕ → ℕ → Bool)
+module _ (k : Store) (xs : List (k .OneSet)) (h : Table k xs) (place : ℕ → ℕ → Bool)
     (placed : (s w : ℕ) → lineIn k xs s w .valid ≡ true → place s (lineIn k xs s w .address) ≡ true) where
   table-lines : (s : ℕ) → allIndexed (lineTest place s) 0 (k .lines (setIn k xs s)) ≡ true
   table-lines s =
@@ -352,8 +352,8 @@ module _ (k : Kind) (xs : List (k .OneSet)) (h : Table k xs) (place : ℕ → �
 
 -- ---- the lengths, which the types of the record's arrays give
 pub record Shape (r : Record) : Type 0 where
-  pub l1d : Shaped l1dKind (r .l1d)
-  pub l2 : Shaped l2Kind (r .l2)
+  pub l1d : Shaped l1dStore (r .l1d)
+  pub l2 : Shaped l2Store (r .l2)
 
 -- ---- lengths and mode
 sizes-tell : (z : State) → lentL1d (z .l1d) ≡ true → lentL2 (z .rec) (z .l2) ≡ true → lentExternal (z .rec) (z .ext) ≡ true →
@@ -452,22 +452,22 @@ module _ (z : State) (shape : Shape (z .rec)) (sizes : Sizes (z .rec .l2len) (z 
       (all-tells (l2SetOk (z .rec)) noL2Set (z .rec .l2) l2 t (omega arith))
 
   l1d-placed : (s w : ℕ) → Valid (l1dLevel z) s w → (s < 128) × (w < 2) × (l1dPlace (z .rec) s (l1dLineAt (z .rec) s w .address) ≡ true)
-  l1d-placed = table-placed l1dKind (z .rec .l1d) (shape .l1d) (l1dPlace (z .rec)) (λ s hs. l1d-set-tests s hs 0) (λ s hs. l1d-set-tests s hs 1)
+  l1d-placed = table-placed l1dStore (z .rec .l1d) (shape .l1d) (l1dPlace (z .rec)) (λ s hs. l1d-set-tests s hs 0) (λ s hs. l1d-set-tests s hs 1)
 
   l1d-sound : Sound (L1dPlaced (layoutOf (z .rec))) (l1dLevel z)
   l1d-sound =
-      table-sound l1dKind (z .rec .l1d) (shape .l1d) (l1dPlace (z .rec)) (λ s hs. l1d-set-tests s hs 0) (λ s hs. l1d-set-tests s hs 1)
+      table-sound l1dStore (z .rec .l1d) (shape .l1d) (l1dPlace (z .rec)) (λ s hs. l1d-set-tests s hs 0) (λ s hs. l1d-set-tests s hs 1)
       (L1dPlaced (layoutOf (z .rec))) (λ s w a hw h. l1d-place-tells (z .rec) s w a hw h) (λ s w s′ w′ a p p′. p′ .ownSet ∙ sym (p .ownSet)) l1dData
       (z .l1d)
 
   l2-sound : Sound (L2Placed (layoutOf (z .rec))) (l2Level z)
   l2-sound =
-      table-sound l2Kind (z .rec .l2) (shape .l2) (l2Place (z .rec)) (λ t ht. l2-set-tests t ht 0) (λ t ht. l2-set-tests t ht 1)
+      table-sound l2Store (z .rec .l2) (shape .l2) (l2Place (z .rec)) (λ t ht. l2-set-tests t ht 0) (λ t ht. l2-set-tests t ht 1)
       (L2Placed (layoutOf (z .rec))) (λ t v a hv h. l2-place-tells (z .rec) t v a hv h) (λ t v t′ v′ a p p′. p′ .ownSet ∙ sym (p .ownSet))
       (l2Data (z .rec)) (z .l2)
 
   l2-empty : (t v : ℕ) → l2LineAt (z .rec) t v .valid ≡ false → l2LineAt (z .rec) t v ≡ emptyLine
-  l2-empty = table-empty l2Kind (z .rec .l2) (shape .l2) (l2Place (z .rec)) (λ t ht. l2-set-tests t ht 0) (λ t ht. l2-set-tests t ht 1)
+  l2-empty = table-empty l2Store (z .rec .l2) (shape .l2) (l2Place (z .rec)) (λ t ht. l2-set-tests t ht 0) (λ t ht. l2-set-tests t ht 1)
 
   idle : (t : ℕ) → t < 512 → l2SetsOf (z .rec) ≤ t → l2SetAt (z .rec) t ≡ freshL2Set
   idle t ht c =
@@ -487,7 +487,7 @@ module _ (z : State) (shape : Shape (z .rec)) (sizes : Sizes (z .rec .l2len) (z 
         l1d = record {
           shaped = shape .l1d;
           ordered = λ s hs. order2-tells (l1dSetAt (z .rec) s .order) (l1d-set-tests s hs 2);
-          empty = table-empty l1dKind (z .rec .l1d) (shape .l1d) (l1dPlace (z .rec)) (λ s hs. l1d-set-tests s hs 0) (λ s hs. l1d-set-tests s hs 1);
+          empty = table-empty l1dStore (z .rec .l1d) (shape .l1d) (l1dPlace (z .rec)) (λ s hs. l1d-set-tests s hs 0) (λ s hs. l1d-set-tests s hs 1);
         };
         l2 = record { shaped = shape .l2; ordered = λ t ht. order4-tells (l2SetAt (z .rec) t .order) (l2-set-tests t ht 2); empty = l2-empty };
         idle = idle;
@@ -514,7 +514,7 @@ module _ (z : State) (h : Well z) where
       all-makes (l1dSetOk (z .rec)) noL1dSet (z .rec .l1d)
       (λ s k. let n = h .tidy .l1d .shaped .sets in let v = l1dSetAt (z .rec) s in
       makes (allIndexed (lineTest (l1dPlace (z .rec)) s) 0 (v .lines)) (noneTwice (v .lines) ∷ permuted2 (v .order) ∷ [])
-      (table-lines l1dKind (z .rec .l1d) (h .tidy .l1d) (l1dPlace (z .rec))
+      (table-lines l1dStore (z .rec .l1d) (h .tidy .l1d) (l1dPlace (z .rec))
       (λ s′ w i. let a = l1dLineAt (z .rec) s′ w .address in
       l1d-place-makes (z .rec) s′ w a (h .inv .l1dSound .place s′ w i) (λ b. inside-makes z h a (λ n. h .inv .inclusion s′ w i b n))) s
       and once-makes (v .lines) (λ w w′ i i′ e. h .inv .l1dSound .once s w s w′ i i′ e .1)
@@ -527,7 +527,7 @@ module _ (z : State) (h : Well z) where
       (λ t k. let n = h .tidy .l2 .shaped .sets in let v = l2SetAt (z .rec) t in
       makes (allIndexed (lineTest (l2Place (z .rec)) t) 0 (v .lines))
       (noneTwice (v .lines) ∷ permuted4 (v .order) ∷ freshUnlessUsed (z .rec) t (v .order) ∷ [])
-      (table-lines l2Kind (z .rec .l2) (h .tidy .l2) (l2Place (z .rec))
+      (table-lines l2Store (z .rec .l2) (h .tidy .l2) (l2Place (z .rec))
       (λ t′ w i. l2-place-makes (z .rec) t′ w (l2LineAt (z .rec) t′ w .address) (h .inv .l2Sound .place t′ w i)) t
       and once-makes (v .lines) (λ w w′ i i′ e. h .inv .l2Sound .once t w t w′ i i′ e .1)
       and order4-makes (v .order) (h .tidy .l2 .ordered t (omega arith))

@@ -1,10 +1,10 @@
 -- Paper 01, "Cache commands (001, Table 29)".
-use Prim.Native.Nat.{ℕ, _+_, _*_, _-_, _/_, _%_}
+use Prim.Native.Nat.{ℕ, _+_, _*_, _-_, _/_}
 use mathlib.Core.Bool.{cond}
 use lib.Dec.{eqb}
 use Rattle.model.specs.Basics.{each}
-use Rattle.model.specs.Lines.{l1dSetOf, upperHalf}
-use Rattle.model.specs.Records.{State, l2SetsOf, l2SetOf, mode0, l2LineAt}
+use Rattle.model.specs.Lines.{eachWay, l1dKind, l1dSetOf, l2LineLength, upperHalf}
+use Rattle.model.specs.Records.{State, l2KindBy, l2SetOf, mode0, l2LineAt}
 use Rattle.model.specs.Ways.{l1dWay, l2Way, inL1d, inL2, emptyL1d, emptyL2}
 use Rattle.model.specs.Access.{evictL1d}
 use Rattle.model.specs.Homes.{writebackL2, evictL2}
@@ -23,9 +23,9 @@ linesTouched n b c = cond (eqb c 0) 0 ((blockEnd b c - 1) / n - b / n + 1)
 unfoldable pub eachTouched : ℕ → (ℕ → State → State) → ℕ → ℕ → State → State
 eachTouched n f b c z = each (λ k. f ((b / n + k) * n)) (linesTouched n b c) z
 
--- f at each L2 way in use, set by set and way by way; and at the way that holds the line of a, if one does
+-- f at each L2 way in use; and at the way that holds the line of a, if one does
 unfoldable pub eachL2 : (ℕ → ℕ → State → State) → State → State
-eachL2 f z = each (λ k. f (k / 4) (k % 4)) (l2SetsOf (z .rec) * 4) z
+eachL2 f z = eachWay (l2KindBy (z .rec)) f z
 
 unfoldable pub atL2 : (ℕ → ℕ → State → State) → ℕ → State → State
 atL2 f a z = cond (inL2 z a) (f (l2SetOf (z .rec) a) (l2Way z a) z) z
@@ -46,10 +46,10 @@ unfoldable pub l2WritebackInvalidateAll : State → State
 l2WritebackInvalidateAll z = unlessMode0 (eachL2 evictL2) z
 
 unfoldable pub l2WritebackBlock : ℕ → ℕ → State → State
-l2WritebackBlock b c z = unlessMode0 (eachTouched 128 (atL2 writebackL2) b c) z
+l2WritebackBlock b c z = unlessMode0 (eachTouched l2LineLength (atL2 writebackL2) b c) z
 
 unfoldable pub l2WritebackInvalidateBlock : ℕ → ℕ → State → State
-l2WritebackInvalidateBlock b c z = unlessMode0 (eachTouched 128 (atL2 evictL2) b c) z
+l2WritebackInvalidateBlock b c z = unlessMode0 (eachTouched l2LineLength (atL2 evictL2) b c) z
 
 -- "Block invalidate: line and halves become invalid, nothing is written."
 unfoldable pub dropL2 : ℕ → ℕ → State → State
@@ -57,15 +57,15 @@ dropL2 t v z =
     emptyL2 t v (atL1d emptyL1d (upperHalf (l2LineAt (z .rec) t v .address)) (atL1d emptyL1d (l2LineAt (z .rec) t v .address) z))
 
 unfoldable pub l2InvalidateBlock : ℕ → ℕ → State → State
-l2InvalidateBlock b c z = unlessMode0 (eachTouched 128 (atL2 dropL2) b c) z
+l2InvalidateBlock b c z = unlessMode0 (eachTouched l2LineLength (atL2 dropL2) b c) z
 
 -- "L1D block writeback-invalidate sends dirty touched lines home and makes touched lines invalid."
 unfoldable pub l1dWritebackInvalidateBlock : ℕ → ℕ → State → State
-l1dWritebackInvalidateBlock b c z = eachTouched 64 (atL1d evictL1d) b c z
+l1dWritebackInvalidateBlock b c z = eachTouched (l1dKind .lineLength) (atL1d evictL1d) b c z
 
 -- "L1D invalidate, block or all, drops them unwritten."
 unfoldable pub l1dInvalidateBlock : ℕ → ℕ → State → State
-l1dInvalidateBlock b c z = eachTouched 64 (atL1d emptyL1d) b c z
+l1dInvalidateBlock b c z = eachTouched (l1dKind .lineLength) (atL1d emptyL1d) b c z
 
 unfoldable pub l1dInvalidateAll : State → State
-l1dInvalidateAll z = each (λ k. emptyL1d (k / 2) (k % 2)) 256 z
+l1dInvalidateAll z = eachWay l1dKind emptyL1d z

@@ -1,12 +1,12 @@
 -- Paper 01, "CPU reads and writes", third and fourth paragraph: the home of a line, what L2 does for a fetch or a write miss, what leaves L2 for it, and who serves.
-use Prim.Native.Nat.{ℕ, _-_, _+_, _%_}
+use Prim.Native.Nat.{ℕ, _-_, _+_}
 use mathlib.Core.Bool.{Bool, true, false, not, cond}
 use mathlib.Core.List.{List}
 use lib.Dec.{ltb}
 use Rattle.model.specs.Bytes.{part, stored}
 use Rattle.model.specs.Memories.{externalBase}
-use Rattle.model.specs.Lines.{l1dSetOf, l1dData, lineOf, l2Line, upperHalf}
-use Rattle.model.specs.Records.{State, state, mode0, l2SetOf, l2Data, l2SetAt, l1dLineAt, l2LineAt, withL2Line}
+use Rattle.model.specs.Lines.{offsetIn, l1dKind, l1dSetOf, l1dData, l2LineLength, lineOf, l2Line, upperHalf}
+use Rattle.model.specs.Records.{State, state, mode0, l2KindBy, l2SetOf, l2Data, l2SetAt, l1dLineAt, l2LineAt, withL2Line}
 use Rattle.model.specs.Ways.{l2Victim, l1dWay, l2Way, inL1d, inL2, useL2, emptyL1d, emptyL2}
 use Rattle.model.specs.declared.Record.{Record}
 
@@ -28,7 +28,7 @@ putMemory a bs z =
 unfoldable pub putL2 : ℕ → ℕ → ℕ → List ℕ → State → State
 putL2 t v a bs z =
     state (withL2Line (z .rec) t v (lineOf (l2LineAt (z .rec) t v .address) true)) (z .l1d)
-    (stored (z .l2) (l2Data (z .rec) t v + a % 128) bs) (z .ext)
+    (stored (z .l2) (l2Data (z .rec) t v + offsetIn (l2KindBy (z .rec)) a) bs) (z .ext)
 
 -- an L1D line's bytes go to its home (an external line that L2 ought to hold and does not cannot be in a well-formed record)
 unfoldable pub putHome : ℕ → List ℕ → State → State
@@ -43,7 +43,7 @@ unfoldable pub takeHalf : ℕ → ℕ → ℕ → State → State
 takeHalf t v b z =
     cond (inL1d z b)
     (emptyL1d (l1dSetOf b) (l1dWay z b)
-    (cond (l1dLineAt (z .rec) (l1dSetOf b) (l1dWay z b) .dirty) (putL2 t v b (part (z .l1d) (l1dData (l1dSetOf b) (l1dWay z b)) 64) z) z))
+    (cond (l1dLineAt (z .rec) (l1dSetOf b) (l1dWay z b) .dirty) (putL2 t v b (part (z .l1d) (l1dData (l1dSetOf b) (l1dWay z b)) (l1dKind .lineLength)) z) z))
     z
 
 unfoldable pub takeHalves : ℕ → ℕ → ℕ → State → State
@@ -55,7 +55,7 @@ writeOutL2 t v z =
     cond (l2LineAt (z .rec) t v .valid)
     (cond (l2LineAt (z .rec) t v .dirty)
     (state (withL2Line (z .rec) t v (lineOf (l2LineAt (z .rec) t v .address) false)) (z .l1d) (z .l2)
-    (stored (z .ext) (l2LineAt (z .rec) t v .address - externalBase) (part (z .l2) (l2Data (z .rec) t v) 128)))
+    (stored (z .ext) (l2LineAt (z .rec) t v .address - externalBase) (part (z .l2) (l2Data (z .rec) t v) l2LineLength)))
     z)
     z
 
@@ -70,7 +70,7 @@ evictL2 t v z = emptyL2 t v (writebackL2 t v z)
 unfoldable pub fillL2 : ℕ → ℕ → ℕ → State → State
 fillL2 t v b z =
     state (withL2Line (z .rec) t v (lineOf b false)) (z .l1d)
-    (stored (z .l2) (l2Data (z .rec) t v) (part (z .ext) (b - externalBase) 128)) (z .ext)
+    (stored (z .l2) (l2Data (z .rec) t v) (part (z .ext) (b - externalBase) l2LineLength)) (z .ext)
 
 abbrev pub bringL2 : ℕ → ℕ → ℕ → State → State
 bringL2 t v b z = useL2 t v (fillL2 t v b (evictL2 t v z))

@@ -1,12 +1,12 @@
 -- Paper 01, "Modes and MAR".
-use Prim.Native.Nat.{ℕ, _*_, _/_, _%_}
+use Prim.Native.Nat.{ℕ}
 use mathlib.Core.Bool.{cond}
 use lib.ListN.{length, replicate}
 use lib.Dec.{leb, eqb}
-use Rattle.model.specs.Basics.{each}
 use Rattle.model.specs.Bytes.{zeroFrom}
 use Rattle.model.specs.Memories.{sramLength}
-use Rattle.model.specs.Records.{State, state, sramOf, l2SetsOf, freshL1dSet, freshL2Set}
+use Rattle.model.specs.Lines.{eachWay, l1dKind}
+use Rattle.model.specs.Records.{State, state, sramOf, l2KindBy, freshL1dSet, freshL2Set}
 use Rattle.model.specs.Access.{writebackL1d}
 use Rattle.model.specs.Homes.{writeOutL2}
 
@@ -15,10 +15,10 @@ smaller a b = cond (leb a b) a b
 
 -- "An accepted mode change, even to the same mode, writes back all dirty lines of L1D, then of L2,": set by set and way by way
 unfoldable pub flushL1d : State → State
-flushL1d z = each (λ k. writebackL1d (k / 2) (k % 2)) 256 z
+flushL1d z = eachWay l1dKind writebackL1d z
 
 unfoldable pub flushL2 : State → State
-flushL2 z = each (λ k. writeOutL2 (k / 4) (k % 4)) (l2SetsOf (z .rec) * 4) z
+flushL2 z = eachWay (l2KindBy (z .rec)) writeOutL2 z
 
 -- ".. makes every line invalid and every order fresh, and sets zero every L2 byte from the smaller of old and new S on."
 unfoldable pub newMode : ℕ → State → State
@@ -30,7 +30,7 @@ newMode m z =
       mode = m;
       mar128 = z .rec .mar128;
       mar129 = z .rec .mar129;
-      l1d = replicate 128 freshL1dSet;
+      l1d = replicate (l1dKind .sets) freshL1dSet;
       l2 = replicate 512 freshL2Set;
     })
     (z .l1d)

@@ -1,12 +1,12 @@
 -- Paper 01, "Lines and the record": the record with the lent memories, which records are well formed, the fresh record.
-use Prim.Native.Nat.{ℕ, _+_, _/_, _%_}
+use Prim.Native.Nat.{ℕ, _+_, _/_}
 use mathlib.Core.Bool.{Bool, true, false, not, cond, _&&_}
 use mathlib.Core.List.{List, [], _∷_}
 use lib.ListN.{length, getD, set, replicate}
 use lib.Dec.{ltb, leb, eqb}
 use Rattle.model.specs.Basics.{anyOf, allIndexed}
 use Rattle.model.specs.Memories.{legalL2, legalExternal, externalBase, cacheSize, isMode, sramLength}
-use Rattle.model.specs.Lines.{l1dSetOf, l2Sets, l2SetIn, l2DataIn, l2Line, emptyLine, holds, l1dGet, l2Get, l1dPut, l2Put}
+use Rattle.model.specs.Lines.{Kind, setOf, offsetIn, l1dKind, l1dSetOf, l2LineLength, l2Kind, l2DataIn, l2Line, emptyLine, holds, l1dGet, l2Get, l1dPut, l2Put}
 use Rattle.model.specs.declared.Line.{Line}
 use Rattle.model.specs.declared.Order2.{Order2}
 use Rattle.model.specs.declared.Order4.{Order4}
@@ -24,15 +24,18 @@ pub record State : Type 0 where
 abbrev pub state : Record → List ℕ → List ℕ → List ℕ → State
 state r d m e = record { rec = r; l1d = d; l2 = m; ext = e }
 
--- ---- S, the number of L2 sets, an address's L2 set and a way's data, by the record's mode
+-- ---- S, the kind that L2 is of, its number of sets, an address's L2 set and a way's data, by the record's mode
 abbrev pub sramOf : Record → ℕ
 sramOf r = sramLength (r .l2len) (r .mode)
 
+abbrev pub l2KindBy : Record → Kind
+l2KindBy r = l2Kind (r .mode)
+
 abbrev pub l2SetsOf : Record → ℕ
-l2SetsOf r = l2Sets (r .mode)
+l2SetsOf r = l2KindBy r .sets
 
 abbrev pub l2SetOf : Record → ℕ → ℕ
-l2SetOf r a = l2SetIn (l2SetsOf r) a
+l2SetOf r a = setOf (l2KindBy r) a
 
 abbrev pub l2Data : Record → ℕ → ℕ → ℕ
 l2Data r t v = l2DataIn (sramOf r) (l2SetsOf r) t v
@@ -106,10 +109,10 @@ emptyWay x = not (x .dirty) && eqb (x .address) 0
 
 -- "valid line addresses are multiples of the line length and lie in their own set,": address a of a line in set s of L1D, set t of L2
 unfoldable pub ownL1dSet : ℕ → ℕ → Bool
-ownL1dSet s a = eqb (a % 64) 0 && eqb s (l1dSetOf a)
+ownL1dSet s a = eqb (offsetIn l1dKind a) 0 && eqb s (l1dSetOf a)
 
 unfoldable pub ownL2Set : Record → ℕ → ℕ → Bool
-ownL2Set r t a = eqb (a % 128) 0 && eqb t (l2SetOf r a)
+ownL2Set r t a = eqb (offsetIn (l2KindBy r) a) 0 && eqb t (l2SetOf r a)
 
 -- "no line twice;" (a line lies in its own set, so that twice in a cache is twice in a set)
 unfoldable pub noneTwice : List Line → Bool
@@ -124,11 +127,11 @@ unfoldable pub inCacheable : Record → ℕ → ℕ → Bool
 inCacheable r n a = leb (a + n) (externalBase + r .extlen) && marBit r a
 
 unfoldable pub l1dRegion : Record → ℕ → Bool
-l1dRegion r a = cond (ltb a externalBase) (inSram r 64 a) (inCacheable r 64 a)
+l1dRegion r a = cond (ltb a externalBase) (inSram r (l1dKind .lineLength) a) (inCacheable r (l1dKind .lineLength) a)
 
 -- "L2 lines only in the latter;"
 unfoldable pub l2Region : Record → ℕ → Bool
-l2Region r a = leb externalBase a && inCacheable r 128 a
+l2Region r a = leb externalBase a && inCacheable r l2LineLength a
 
 -- "sets not in use are fresh;": only a set in use has a line, and only its order is another than the fresh one
 abbrev pub inUse : Record → ℕ → Bool
@@ -181,7 +184,7 @@ freshL2Set =
 
 unfoldable pub freshRecord : ℕ → ℕ → Record
 freshRecord l e =
-    record { l2len = l; extlen = e; mode = 0; mar128 = false; mar129 = false; l1d = replicate 128 freshL1dSet; l2 = replicate 512 freshL2Set }
+    record { l2len = l; extlen = e; mode = 0; mar128 = false; mar129 = false; l1d = replicate (l1dKind .sets) freshL1dSet; l2 = replicate 512 freshL2Set }
 
 -- "L1D and L2 bytes become zero; external memory is kept."
 unfoldable pub freshState : ℕ → List ℕ → State
