@@ -92,7 +92,7 @@ emptyL2-step z h t v ht hv c =
       kept = record { mode = refl; layout = refl; l2len = refl };
     }
 
-dropL2-step : (z : State) → Well z → (t v : ℕ) → Valid (l2Level z) t v → t < l2SetsOf (z .rec) → v < 4 → Step z Anything (dropL2 t v z)
+pub dropL2-step : (z : State) → Well z → (t v : ℕ) → Valid (l2Level z) t v → t < l2SetsOf (z .rec) → v < 4 → Step z Anything (dropL2 t v z)
 unfolding dropL2
 dropL2-step z h t v k ht hv =
     let b = l2LineAt (z .rec) t v .address in

@@ -16,4 +16,5 @@ pub mod Sweeps
 pub mod Tables
 pub mod Tested
 pub mod TraceAgreement
+pub mod Unreached
 pub mod Writeback

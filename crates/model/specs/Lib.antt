@@ -13,5 +13,6 @@ pub mod Refusals
 pub mod Trace
 pub mod Calls
 pub mod Demand
+pub mod Sram
 pub mod Traces
 pub mod Laws

@@ -1,12 +1,13 @@
 -- Paper 01, "Lines and the record": the record with the lent memories, which records are well formed, the fresh record.
-use Prim.Native.Nat.{ℕ, _+_, _/_}
+use Prim.Native.Nat.{ℕ, _<_, _+_, _/_}
 use mathlib.Core.Bool.{Bool, true, false, not, cond, _&&_}
+use mathlib.Core.Path.{_≡_}
 use mathlib.Core.List.{List, [], _∷_}
 use lib.ListN.{length, getD, set, replicate}
 use lib.Dec.{ltb, leb, eqb}
 use Rattle.model.specs.Basics.{anyOf, allIndexed}
 use Rattle.model.specs.Memories.{legalL2, legalExternal, externalBase, cacheSize, isMode, sramLength}
-use Rattle.model.specs.Lines.{Kind, setOf, offsetIn, l1dKind, l1dSetOf, l2LineLength, l2Kind, l2DataIn, l2Line, emptyLine, holds, l1dGet, l2Get, l1dPut, l2Put}
+use Rattle.model.specs.Lines.{Kind, setOf, offsetIn, l1dKind, l1dSetOf, l2LineLength, l2Ways, l2Kind, l2DataIn, l2Line, emptyLine, holds, l1dGet, l2Get, l1dPut, l2Put}
 use Rattle.model.specs.declared.Line.{Line}
 use Rattle.model.specs.declared.Order2.{Order2}
 use Rattle.model.specs.declared.Order4.{Order4}
@@ -72,6 +73,13 @@ l1dLineAt r s w = l1dGet (l1dSetAt r s) w
 
 abbrev pub l2LineAt : Record → ℕ → ℕ → Line
 l2LineAt r t v = l2Get (l2SetAt r t) v
+
+-- the lengths of the arrays, which the record's types give and a list does not say
+pub record Shape (r : Record) : Type 0 where
+  pub l1dSets : length (r .l1d) ≡ l1dKind .sets
+  pub l1dWays : (s : ℕ) → s < l1dKind .sets → length (l1dSetAt r s .lines) ≡ l1dKind .ways
+  pub l2Sets : length (r .l2) ≡ 512
+  pub l2Ways : (t : ℕ) → t < 512 → length (l2SetAt r t .lines) ≡ l2Ways
 
 -- the record with one set replaced: every change of a line or an order goes through these two
 abbrev pub withL1dSet : Record → ℕ → L1dSet → Record
