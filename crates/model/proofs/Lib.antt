@@ -11,6 +11,7 @@ pub mod Invariant
 pub mod Level
 pub mod Memory
 pub mod ReadWrite
+pub mod Reading
 pub mod Steps
 pub mod Sweeps
 pub mod Tables

@@ -7,24 +7,57 @@ use mathlib.Core.Bool.{true}
 use mathlib.Core.Path.{_≡_, refl, sym, _∙_}
 use mathlib.Core.List.{List, [], _∷_, _++_}
 use native.Mathlib.Omega.{arith}
-use lib.ListN.{length, getD}
+use lib.ListN.{length, getD, drop}
 use lib.Seq.{ext-getD}
 use lib.Dec.{ltb, leb}
-use borrow.Author.Tests.{leb-true}
+use borrow.Author.Tests.{leb-true, le-ltb}
 use Rattle.model.specs.Bytes.{part, stored, littleBytes}
 use Rattle.model.specs.Records.{State, freshState}
 use Rattle.model.specs.Flat.{Flat, freshFlat, flatStep}
 use Rattle.model.specs.Calls.{Reply, Run, ran, step, call, putAnswer, runFrom, runCall, commandAt, putReply}
 use Rattle.model.specs.Demand.{listedCode, listed, compared}
-use Rattle.model.specs.Traces.{carriedFrom, carried, after, flatAfter, AnswersAre, RunIsCalls, AnswersAgree, Piece, pieceCommands, allCommands, RunsAgree, TraceDemand3}
+use Rattle.model.specs.Traces.{TurnsSuffice, carriedFrom, carried, after, flatAfter, AnswersAre, RunIsCalls, AnswersAgree, Piece, pieceCommands, allCommands, RunsAgree, TraceDemand3}
 use Rattle.model.specs.Laws.{bool, both-true, length-part, length-stored, length-littleBytes, part-at}
 use Rattle.model.specs.declared.Command.{Command}
 use Rattle.model.proofs.Memory.{stored-at, stored-elsewhere}
 use Rattle.model.proofs.Good.{Well, good-well}
+use Rattle.model.proofs.Reading.{decode-stable}
 use Rattle.model.proofs.Steps.{step-well}
 use Rattle.model.proofs.Tested.{well-due, call-step}
 use Rattle.model.proofs.Agreement.{Is, Matches, step-answered, fresh-matches, fresh-accepted}
 use Rattle.model.specs.Traces as T
+
+-- ---- the turns suffice: a turn more changes nothing, as long as there are as many as bytes left
+module _ (t : List ℕ) where
+  turn-same : (m n i : ℕ) (z : State) (k : ℕ) (o : List ℕ) →
+      (commandAt t i .ok ≡ true → let x = step (commandAt t i .found) z in
+      runFrom t m (i + commandAt t i .used) (x .next) (suc k) (putReply o k x) ≡ runFrom t n (i + commandAt t i .used) (x .next) (suc k) (putReply o k x)) →
+      runFrom t (suc m) i z k o ≡ runFrom t (suc n) i z k o
+  unfolding runFrom
+  turn-same m n i z k o h =
+      bool (ltb i (length t)) (λ t₁. bool (commandAt t i .ok) (λ t₂. rw (t₁, t₂, h t₂) refl) (λ t₂. rw (t₁, t₂) refl)) (λ t₁. rw t₁ refl)
+
+  turn-none : (i : ℕ) (z : State) (k : ℕ) (o : List ℕ) → length t ≤ i → runFrom t 1 i z k o ≡ runFrom t 0 i z k o
+  unfolding runFrom
+  turn-none i z k o h = rw (le-ltb i (length t) h) refl
+
+  turn-more : (m i : ℕ) (z : State) (k : ℕ) (o : List ℕ) → length t ≤ i + m → runFrom t (suc m) i z k o ≡ runFrom t m i z k o
+  turn-more zero i z k o h = turn-none i z k o (omega arith)
+  turn-more (suc m) i z k o h =
+      turn-same (suc m) m i z k o
+      (λ ok. let x = step (commandAt t i .found) z in let one = decode-stable (drop i t) ok .least in
+      turn-more m (i + commandAt t i .used) (x .next) (suc k) (putReply o k x) (omega arith))
+
+  turns-more : (d m i : ℕ) (z : State) (k : ℕ) (o : List ℕ) → length t ≤ i + m → runFrom t (m + d) i z k o ≡ runFrom t m i z k o
+  turns-more zero m i z k o h = let e : m + 0 ≡ m = omega arith in rw e refl
+  turns-more (suc d) m i z k o h =
+      let e : m + suc d ≡ suc (m + d) = omega arith in rw e (turn-more (m + d) i z k o (omega arith) ∙ turns-more d m i z k o h)
+
+pub turns-suffice : TurnsSuffice
+turns-suffice t turns i z k o h =
+    let left = length t - i in
+    let e : left + (turns - left) ≡ turns = omega arith in
+    rw e at (turns-more t (turns - left) left i z k o (omega arith))
 
 -- ---- the ten bytes of an answer
 abbrev answerBytes : Reply → List ℕ

@@ -101,8 +101,9 @@ unfoldable pub putAnswer : List ℕ → ℕ → ℕ → ℕ → ℕ → List ℕ
 putAnswer o k n s v = stored o (k * 10) (n ∷ s ∷ littleBytes v 8)
 
 -- "Then it carries out commands. .. Refusals 3 to 10 are answered and the run goes on. 11, then 12, stop it before that command".
--- "in a trace 11, then 12, come before 3 to 10". t: the trace, i: the byte it has come to, k: the answers so far, o: their bytes. Each command takes a byte at least,
--- so that as many turns as the trace has bytes are enough.
+-- "in a trace 11, then 12, come before 3 to 10". t: the trace, i: the byte it has come to, k: the answers so far, o: their bytes.
+-- The number of turns is no limit: each command takes a byte at least, so that as many turns as bytes are left are enough, and more change nothing
+-- (`TurnsSuffice` in Traces).
 abbrev pub commandAt : List ℕ → ℕ → Decoded
 commandAt t i = decode (drop i t)
 

@@ -1,7 +1,7 @@
 -- Demand 3 for runs over traces, what it says; `TraceAgreement` proves it. First for every well-formed state and every trace: a run is its commands called one
 -- after another (`RunIsCalls`), all twelve codes, damaged traces and too few answer bytes included. Then from an accepted fresh start: the answers of a run, or
 -- of runs over the pieces of a trace, are flat memory's for reads, writes and mode changes (`TraceDemand3`).
-use Prim.Native.Nat.{ℕ, zero, suc, _+_, _*_}
+use Prim.Native.Nat.{ℕ, zero, suc, _+_, _*_, _-_, _≤_}
 use mathlib.Core.Bool.{true, cond}
 use mathlib.Core.Path.{_≡_}
 use mathlib.Core.List.{List, [], _∷_, _++_}
@@ -10,9 +10,14 @@ use lib.Dec.{ltb, leb}
 use Rattle.model.specs.Bytes.{part, littleBytes}
 use Rattle.model.specs.Records.{State}
 use Rattle.model.specs.Flat.{Flat, freshFlat, flatStep}
-use Rattle.model.specs.Calls.{call, runCall, freshCall, commandAt}
+use Rattle.model.specs.Calls.{call, runFrom, runCall, freshCall, commandAt}
 use Rattle.model.specs.Demand.{compared, listed}
 use Rattle.model.specs.declared.Command.{Command}
+
+-- ---- as many turns as there are bytes left are enough, and more change nothing
+abbrev pub TurnsSuffice : Type 0
+TurnsSuffice =
+    (t : List ℕ) (turns i : ℕ) (z : State) (k : ℕ) (o : List ℕ) → length t ≤ i + turns → runFrom t turns i z k o ≡ runFrom t (length t - i) i z k o
 
 -- ---- the commands that a run carries out: those of the trace in their order, up to its end, to damage, or to where fewer than 10 answer bytes are left
 unfoldable pub carriedFrom : List ℕ → ℕ → ℕ → ℕ → ℕ → List Command
