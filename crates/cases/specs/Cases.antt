@@ -17,9 +17,7 @@ use Rattle.model.specs.Modes.{smaller, changeMar}
 use Rattle.model.specs.Commands.{blockEnd, linesTouched, eachL2, unlessMode0, l2WritebackInvalidateAll}
 use Rattle.model.specs.Refusals.{holdsRange, inRange, lentL1d, lentL2, lentExternal, lentDue, sizeOk, placeOk, valueOk, accessDue, blockDue, marDue}
 use Rattle.model.specs.Trace.{moreGroups, groups, numberBelow, number32, oneNumber, decodeAfter, decode, command}
-use Rattle.model.specs.Calls.{commandDue, readDone, writeDone, commandState, accepted, step, call, runFrom}
-use Rattle.model.specs.Traces.{after}
-use Rattle.model.specs.declared.Command.{Command}
+use Rattle.model.specs.Calls.{commandDue, readDone, writeDone, commandState, accepted, step, call, runFrom, Call, oneCommand, after}
 
 -- a row: its number in the paper, what the definitions give, what the paper states
 pub record Case : Type 0 where
@@ -39,11 +37,11 @@ abbrev start : State
 start = freshState 65536 (replicate 65536 0)
 
 -- a one-byte read; MAR 128 set
-abbrev reads : ℕ → Command
-reads a = command 0 1 a 0
+abbrev reads : ℕ → Call
+reads a = oneCommand (command 0 1 a 0)
 
-abbrev mar128 : Command
-mar128 = command 11 128 1 0
+abbrev mar128 : Call
+mar128 = oneCommand (command 11 128 1 0)
 
 -- C9: "1-byte reads at 80000000h, 80002000h, 80000000h, 80004000h: the second line leaves L1D." (no way holds it: 2), and the fourth has its way
 abbrev fourReads : State
@@ -51,7 +49,7 @@ fourReads = after (mar128 ∷ reads 0x80000000 ∷ reads 0x80002000 ∷ reads 0x
 
 -- C10: "dirty L1D line of external memory, L2 writeback-invalidate all: it stays dirty." (in way 0)
 abbrev written : State
-written = after (mar128 ∷ reads 0x80000000 ∷ command 1 1 0x80000000 7 ∷ command 3 0 0 0 ∷ []) start
+written = after (mar128 ∷ reads 0x80000000 ∷ oneCommand (command 1 1 0x80000000 7) ∷ oneCommand (command 3 0 0 0) ∷ []) start
 
 pub cases : List Case
 cases =

@@ -20,8 +20,8 @@ use Rattle.model.specs.Commands.{l2WritebackAll, l2WritebackInvalidateAl
 use Rattle.model.specs.Flat.{Flat, flat, freshFlat, flatPart, flatPut, flatMode, FlatReply, flatReply, flatRead, flatWrite, flatChange, flatStep}
 use Rattle.model.specs.Refusals.{accessDue, modeDue}
 use Rattle.model.specs.Trace.{command}
-use Rattle.model.specs.Calls.{Reply, refused, carriedOut, freshOk, freshCall, commandDue, readDone, writeDone, commandState, accepted, step, call}
-use Rattle.model.specs.Demand.{listedCode, listed, compared, global, modeAfter, Settled, AgreesAt, Agree, Demand3, end, next}
+use Rattle.model.specs.Calls.{Reply, refused, carriedOut, freshOk, freshCall, commandDue, readDone, writeDone, commandState, accepted, step, call, viewDone, Call, oneCommand, freshStart, look, commands}
+use Rattle.model.specs.Demand.{listedCode, listed, compared, global, modeAfter, Settled, AgreesAt, Agree, Demand3, CommandsDemand3, end, next}
 use Rattle.model.specs.Laws.{bool, false-true, both-true, cond-elim, length-littleBytes}
 use Rattle.model.specs.declared.Command.{Command}
 use Rattle.model.proofs.Level.{Valid}
@@ -130,10 +130,10 @@ mode-matches z f m k ok c none clean =
 
 -- ---- one command: the same answer where it is compared, and both match again
 pub record Answered (c : Command) (r : Reply) (g : FlatReply) (before : ℕ) : Type 0 where
-  pub number : compared c ≡ true → r .number ≡ g .number
-  pub value : compared c ≡ true → r .value ≡ g .value
+  pub number : compared (oneCommand c) ≡ true → r .number ≡ g .number
+  pub value : compared (oneCommand c) ≡ true → r .value ≡ g .value
   pub matches : Matches (r .next) (g .next)
-  pub mode : r .next .rec .mode ≡ modeAfter c r before
+  pub mode : r .next .rec .mode ≡ modeAfter (oneCommand c) r before
 
 module _ (z : State) (f : Flat) (m : Matches z f) (a b v : ℕ) where
   same-due : (n : ℕ) → accessDue (length (f .sram)) (length (f .ext)) a b n ≡ accessDue (sramOf (z .rec)) (z .rec .extlen) a b n
@@ -180,7 +180,7 @@ module _ (z : State) (f : Flat) (m : Matches z f) (a b v : ℕ) where
       rw t (record { number = λ _. refl; value = λ _. refl; matches = s; mode = refl }))
       (λ t. rw t (record { number = λ _. refl; value = λ _. refl; matches = m; mode = rw t refl })))
 
-  quiet-answered : (k : ℕ) → compared (command k a b v) ≡ false → eqb k 10 ≡ false → flatStep (command k a b v) f ≡ flatReply 0 0 f →
+  quiet-answered : (k : ℕ) → compared (oneCommand (command k a b v)) ≡ false → eqb k 10 ≡ false → flatStep (command k a b v) f ≡ flatReply 0 0 f →
       Quiet z (Is f) (step (command k a b v) z .next) →
       Answered (command k a b v) (step (command k a b v) z) (flatStep (command k a b v) f) (z .rec .mode)
   unfolding modeAfter
@@ -230,14 +230,14 @@ settles z z′ f m n u =
       l2Clean = h .l2Clean;
     }
 
-global-settles : (c : Command) (z : State) (f : Flat) → Matches z f → z .rec .mode ≢ 0 → global c ≡ true →
+global-settles : (c : Command) (z : State) (f : Flat) → Matches z f → z .rec .mode ≢ 0 → global (oneCommand c) ≡ true →
     Settled (step c z .next) (flatStep c f .next)
 unfolding step commandDue accepted commandState flatStep
 global-settles c z f m n =
     let a = c .first in let b = c .second in let v = c .value in
-    let not-global : (k : ℕ) → global (command k a b v) ≡ false → global (command k a b v) ≡ true → Settled (step (command k a b v) z .next) (flatStep (command k a b v) f .next) =
+    let not-global : (k : ℕ) → global (oneCommand (command k a b v)) ≡ false → global (oneCommand (command k a b v)) ≡ true → Settled (step (command k a b v) z .next) (flatStep (command k a b v) f .next) =
     λ k e y. false-true (sym e ∙ y) in
-    codes (λ (k : ℕ). global (command k a b v) ≡ true → Settled (step (command k a b v) z .next) (flatStep (command k a b v) f .next))
+    codes (λ (k : ℕ). global (oneCommand (command k a b v)) ≡ true → Settled (step (command k a b v) z .next) (flatStep (command k a b v) f .next))
     (not-global 0 refl) (not-global 1 refl)
     (λ _. settles z (l2WritebackAll z) f m n (l2WritebackAll-good z (Is f) (m .good)))
     (λ _. settles z (l2WritebackInvalidateAll z) f m n (l2WritebackInvalidateAll-good z (Is f) (m .good)))
@@ -246,23 +246,26 @@ global-settles c z f m n =
     (λ k h. not-global k (rw (ne-eqb k 2 (omega arith), ne-eqb k 3 (omega arith)) refl))
     (c .code)
 
--- ---- along a list
-pub agree : (cs : List Command) (mode : ℕ) (z : State) (f : Flat) → Matches z f → z .rec .mode ≡ mode → listed cs ≡ true → Agree mode cs z f
-unfolding listed
+-- ---- along a list of calls: a view is not compared and changes nothing, a fresh start is not listed
+pub agree : (cs : List Call) (mode : ℕ) (z : State) (f : Flat) → Matches z f → z .rec .mode ≡ mode → listed cs ≡ true → Agree mode cs z f
+unfolding listed modeAfter viewDone
 agree [] mode z f m e y = end
-agree (c ∷ cs) mode z f m e y =
+agree (freshStart ∷ cs) mode z f m e y = false-true y
+agree (look a ∷ cs) mode z f m e y =
+    next (record { number = λ n. false-true n; value = λ n. false-true n; settled = λ n. false-true n }) (agree cs mode z f m e y)
+agree (oneCommand c ∷ cs) mode z f m e y =
     let p = both-true (listedCode (c .code)) (listed cs) y in
     let s = call-step c z (good-well z (Is f) (m .good)) in
     let r = step-answered c z f m (p .0) in
-    let here : AgreesAt mode c z f =
+    let here : AgreesAt mode (oneCommand c) z f =
     record {
       number = λ k. rw s (r .number k);
       value = λ k. rw s (r .value k);
       settled = λ k _ n. rw s (global-settles c z f m (λ i. n (sym e ∙ i)) k);
     } in
-    let rest : Agree (modeAfter c (call c z) mode) cs (call c z .next) (flatStep c f .next) =
-    rw s (agree cs (modeAfter c (step c z) mode) (step c z .next) (flatStep c f .next) (r .matches)
-    (r .mode ∙ ap (λ (k : ℕ). modeAfter c (step c z) k) e) (p .1)) in
+    let rest : Agree (modeAfter (oneCommand c) (call c z) mode) cs (call c z .next) (flatStep c f .next) =
+    rw s (agree cs (modeAfter (oneCommand c) (step c z) mode) (step c z .next) (flatStep c f .next) (r .matches)
+    (r .mode ∙ ap (λ (k : ℕ). modeAfter (oneCommand c) (step c z) k) e) (p .1)) in
     next here rest
 
 -- ---- the fresh start
@@ -316,6 +319,9 @@ pub demand3 : Demand3
 demand3 d m e h cs y =
     let p = fresh-accepted d m e h in let s = p .2 in
     rw s (agree cs 0 (freshState (length m) e) (freshFlat (length m) e) (fresh-matches (length m) e (p .0) (p .1)) (fresh-mode (length m) e) y)
+
+pub commands-demand3 : CommandsDemand3
+commands-demand3 d m e h cs y = demand3 d m e h (commands cs) y
 
 -- and the fresh state is well formed
 pub fresh-well : (l : ℕ) (e : List ℕ) → legalL2 l ≡ true → legalExternal (length e) ≡ true → Well (freshState l e)

@@ -12,12 +12,12 @@ use lib.Seq.{drop-append-le, drop-drop}
 use borrow.Author.Tests.{lt-ltb, le-ltb, le-leb}
 use Rattle.model.specs.Records.{State}
 use Rattle.model.specs.Trace.{Decoded, decode}
-use Rattle.model.specs.Calls.{call, runCall, commandAt}
-use Rattle.model.specs.Traces.{carriedFrom, carried, after, Piece, pieceCommands, allCommands}
+use Rattle.model.specs.Calls.{call, runCall, commandAt, after, commands}
+use Rattle.model.specs.Traces.{carriedFrom, carried, Piece, pieceCommands, allCommands}
 use Rattle.model.specs.declared.Command.{Command}
 use Rattle.model.proofs.Good.{Well}
 use Rattle.model.proofs.Reading.{decode-stable}
-use Rattle.model.proofs.Tested.{call-well}
+use Rattle.model.proofs.Stays.{after-well}
 use Rattle.model.proofs.TraceAgreement.{run-calls}
 
 -- ---- a trace of whole commands
@@ -97,22 +97,17 @@ unfolding joined
 pieces-whole none = none
 pieces-whole (piece {p} {ps} {cs} {ds} w f r) = whole-append w (joined ps) ds (pieces-whole r)
 
-after-append : (cs ds : List Command) (z : State) → after (cs ++ ds) z ≡ after ds (after cs z)
+after-append : (cs ds : List Command) (z : State) → after (commands (cs ++ ds)) z ≡ after (commands ds) (after (commands cs) z)
 unfolding after
 after-append [] ds z = refl
 after-append (c ∷ cs) ds z = after-append cs ds (call c z .next)
 
-after-well : (cs : List Command) (z : State) → Well z → Well (after cs z)
-unfolding after
-after-well [] z w = w
-after-well (c ∷ cs) z w = after-well cs (call c z .next) (call-well c z w)
-
-runs-state : (ps : List Piece) (z : State) → Well z → runAll ps z ≡ after (allCommands ps) z
+runs-state : (ps : List Piece) (z : State) → Well z → runAll ps z ≡ after (commands (allCommands ps)) z
 unfolding runAll allCommands after
 runs-state [] z w = refl
 runs-state (p ∷ ps) z w =
     let e = run-calls (p .trace) (p .answers) z w .next in
-    let h = runs-state ps (after (pieceCommands p) z) (after-well (pieceCommands p) z w) in
+    let h = runs-state ps (after (commands (pieceCommands p)) z) (after-well (commands (pieceCommands p)) z w) in
     rw e (h ∙ sym (after-append (pieceCommands p) (allCommands ps) z))
 
 -- the run over the whole and the runs over the pieces leave the same record and the same memories
@@ -122,4 +117,4 @@ cut-anywhere {ps} {cs} w o f z h =
     let a = run-calls (joined ps) o z h .next in
     let b = whole-carried (pieces-whole w) (length o) f in
     let c = pieces-carried w in
-    a ∙ ap (λ (x : List Command). after x z) (b ∙ sym c) ∙ sym (runs-state ps z h)
+    a ∙ ap (λ (x : List Command). after (commands x) z) (b ∙ sym c) ∙ sym (runs-state ps z h)

@@ -12,6 +12,7 @@ pub mod Level
 pub mod Memory
 pub mod ReadWrite
 pub mod Reading
+pub mod Stays
 pub mod Steps
 pub mod Sweeps
 pub mod Tables

@@ -4,7 +4,7 @@
 -- behind it. The rest is `step-answered`, command by command.
 use Prim.Native.Nat.{ℕ, zero, suc, _+_, _*_, _-_, _≤_, _<_}
 use mathlib.Core.Bool.{true}
-use mathlib.Core.Path.{_≡_, refl, sym, _∙_}
+use mathlib.Core.Path.{_≡_, refl, sym, ap, _∙_}
 use mathlib.Core.List.{List, [], _∷_, _++_}
 use native.Mathlib.Omega.{arith}
 use lib.ListN.{length, getD, drop}
@@ -13,10 +13,10 @@ use lib.Dec.{ltb, leb}
 use borrow.Author.Tests.{leb-true, le-ltb}
 use Rattle.model.specs.Bytes.{part, stored, littleBytes}
 use Rattle.model.specs.Records.{State, freshState}
-use Rattle.model.specs.Flat.{Flat, freshFlat, flatStep}
-use Rattle.model.specs.Calls.{Reply, Run, ran, step, call, putAnswer, runFrom, runCall, commandAt, putReply}
+use Rattle.model.specs.Flat.{Flat, freshFlat, flatStep, flatAfter}
+use Rattle.model.specs.Calls.{Reply, Run, ran, step, call, putAnswer, runFrom, runCall, commandAt, putReply, oneCommand, after, commands}
 use Rattle.model.specs.Demand.{listedCode, listed, compared}
-use Rattle.model.specs.Traces.{TurnsSuffice, carriedFrom, carried, after, flatAfter, AnswersAre, RunIsCalls, AnswersAgree, Piece, pieceCommands, allCommands, RunsAgree, TraceDemand3}
+use Rattle.model.specs.Traces.{TurnsSuffice, carriedFrom, carried, AnswersAre, RunIsCalls, AnswersAgree, Piece, pieceCommands, allCommands, RunsAgree, TraceDemand3}
 use Rattle.model.specs.Laws.{bool, both-true, length-part, length-stored, length-littleBytes, part-at}
 use Rattle.model.specs.declared.Command.{Command}
 use Rattle.model.proofs.Memory.{stored-at, stored-elsewhere}
@@ -68,7 +68,7 @@ ten r = let e = length-littleBytes (r .value) 8 in rw e refl
 
 -- ---- what a run that began at answer k, with the answer bytes o, is known to give
 record RanCalls (r : Run) (cs : List Command) (z : State) (k : ℕ) (o : List ℕ) : Type 0 where
-  next : r .next ≡ after cs z
+  next : r .next ≡ after (commands cs) z
   count : r .count ≡ k + length cs
   long : length (r .answers) ≡ length o
   before : (j : ℕ) → j < k * 10 → getD (r .answers) j 0 ≡ getD o j 0
@@ -100,7 +100,7 @@ ran-next r cs z k o c e f h =
     let rest : AnswersAre (r .answers) (suc k) cs (call c z .next) = rw e (h .answers-are) in
     let here : part (r .answers) (k * 10) 10 ≡ call c z .number ∷ call c z .server ∷ littleBytes (call c z .value) 8 = rw e same in
     record {
-      next = rw e (h .next);
+      next = h .next ∙ ap (λ (x : Reply). after (commands cs) (x .next)) (sym e);
       count = let d = h .count in omega arith;
       long = h .long ∙ l;
       before = λ j g. h .before j (omega arith) ∙ stored-elsewhere o bs (k * 10) fits j (λ b. absurd (omega arith));
@@ -137,35 +137,35 @@ run-calls t o z w =
 
 -- ---- calls that match flat memory, one after another
 module _ (o : List ℕ) where
-  pub calls-agree : (cs : List Command) (k : ℕ) (z : State) (f : Flat) → Matches z f → listed cs ≡ true → AnswersAre o k cs z →
-      AnswersAgree o k cs f × Matches (after cs z) (flatAfter cs f)
+  pub calls-agree : (cs : List Command) (k : ℕ) (z : State) (f : Flat) → Matches z f → listed (commands cs) ≡ true → AnswersAre o k cs z →
+      AnswersAgree o k cs f × Matches (after (commands cs) z) (flatAfter (commands cs) f)
   unfolding listed after flatAfter
   calls-agree [] k z f m y a = (T.end, m)
   calls-agree (c ∷ cs) k z f m y (T.next e a) =
-      let p = both-true (listedCode (c .code)) (listed cs) y in
+      let p = both-true (listedCode (c .code)) (listed (commands cs)) y in
       let s = call-step c z (good-well z (Is f) (m .good)) in
       let r = step-answered c z f m (p .0) in
       let m′ : Matches (call c z .next) (flatStep c f .next) = rw s (r .matches) in
       let h = calls-agree cs (suc k) (call c z .next) (flatStep c f .next) m′ (p .1) a in
-      let here : compared c ≡ true → (server : ℕ) × (part o (k * 10) 10 ≡ flatStep c f .number ∷ server ∷ littleBytes (flatStep c f .value) 8) =
+      let here : compared (oneCommand c) ≡ true → (server : ℕ) × (part o (k * 10) 10 ≡ flatStep c f .number ∷ server ∷ littleBytes (flatStep c f .value) 8) =
       λ g. (call c z .server, e ∙ rw (s, r .number g, r .value g) refl) in
       (T.next here (h .0), h .1)
 
-listed-append : (cs ds : List Command) → listed (cs ++ ds) ≡ true → (listed cs ≡ true) × (listed ds ≡ true)
+listed-append : (cs ds : List Command) → listed (commands (cs ++ ds)) ≡ true → (listed (commands cs) ≡ true) × (listed (commands ds) ≡ true)
 unfolding listed
 listed-append [] ds y = (refl, y)
 listed-append (c ∷ cs) ds y =
-    let p = both-true (listedCode (c .code)) (listed (cs ++ ds)) y in let q = listed-append cs ds (p .1) in (rw (p .0) (q .0), q .1)
+    let p = both-true (listedCode (c .code)) (listed (commands (cs ++ ds))) y in let q = listed-append cs ds (p .1) in (rw (p .0) (q .0), q .1)
 
-pub runs-agree : (ps : List Piece) (z : State) (f : Flat) → Matches z f → listed (allCommands ps) ≡ true → RunsAgree ps z f
+pub runs-agree : (ps : List Piece) (z : State) (f : Flat) → Matches z f → listed (commands (allCommands ps)) ≡ true → RunsAgree ps z f
 unfolding allCommands
 runs-agree [] z f m y = T.end
 runs-agree (p ∷ ps) z f m y =
     let l = listed-append (pieceCommands p) (allCommands ps) y in
     let r = run-calls (p .trace) (p .answers) z (good-well z (Is f) (m .good)) in
     let a = calls-agree (runCall (p .trace) (p .answers) z .answers) (pieceCommands p) 0 z f m (l .0) (r .answers-are) in
-    let m′ : Matches (runCall (p .trace) (p .answers) z .next) (flatAfter (pieceCommands p) f) = rw (r .next) (a .1) in
-    let rest = runs-agree ps (runCall (p .trace) (p .answers) z .next) (flatAfter (pieceCommands p) f) m′ (l .1) in
+    let m′ : Matches (runCall (p .trace) (p .answers) z .next) (flatAfter (commands (pieceCommands p)) f) = rw (r .next) (a .1) in
+    let rest = runs-agree ps (runCall (p .trace) (p .answers) z .next) (flatAfter (commands (pieceCommands p)) f) m′ (l .1) in
     T.next (a .0) rest
 
 pub trace-demand3 : TraceDemand3

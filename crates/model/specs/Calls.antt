@@ -1,4 +1,5 @@
--- Paper 01: the calls, the run over a trace, the technician's view. What every contract of an exported call cites.
+-- Paper 01: one command, the fresh start, the run over a trace, the technician's view: what every contract of an exported call cites. Last, the type
+-- of calls, one case for each kind, and what a call does to a state: what the statements about lists of calls are about.
 use Prim.Native.Nat.{ℕ, zero, suc, _+_, _*_}
 use mathlib.Core.Bool.{Bool, cond, _&&_}
 use mathlib.Core.List.{List, [], _∷_}
@@ -16,15 +17,17 @@ use Rattle.model.specs.Trace.{Decoded, decode}
 use Rattle.model.specs.declared.Command.{Command}
 use Rattle.model.specs.declared.Record.{Record}
 
--- what a call gives: number, server, value, and the state after it
+-- what a call gives: number, server, value, the bytes that it hands back, and the state after it
 pub record Reply : Type 0 where
   pub number : ℕ
   pub server : ℕ
   pub value : ℕ
+  pub bytes : List ℕ
   pub next : State
 
+-- a reply that hands back no bytes: that of every call but the view
 abbrev pub reply : ℕ → ℕ → ℕ → State → Reply
-reply n k v z = record { number = n; server = k; value = v; next = z }
+reply n k v z = record { number = n; server = k; value = v; bytes = []; next = z }
 
 -- "Value and server are 0 with it; the record comes back as given, and a refused direct call changes no lent byte."
 abbrev pub refused : ℕ → State → Reply
@@ -129,3 +132,36 @@ runCall t o z =
 -- ---- "Looking behind L1D": "the bytes of SRAM or of external memory themselves .. never the L2 cache's copy. A refusal returns the empty part"
 unfoldable pub viewCall : Record → List ℕ → List ℕ → ℕ → List ℕ
 viewCall r m e a = cond (eqb (viewDue r m e a) 0) (memoryPart a 64 (state r [] m e)) []
+
+-- "a second call with the same arguments returns the number, 0 when accepted.": both together; nothing is changed
+unfoldable pub viewDone : ℕ → State → Reply
+viewDone a z =
+    record {
+      number = viewDue (z .rec) (z .l2) (z .ext) a;
+      server = 0;
+      value = 0;
+      bytes = viewCall (z .rec) (z .l2) (z .ext) a;
+      next = z;
+    }
+
+-- ---- the calls, of every kind: a command, the fresh start, the technician's view of the line at an address. Lists of calls hold these.
+pub data Call : Type 0 where
+  oneCommand : Command → Call
+  freshStart : Call
+  look : ℕ → Call
+
+-- what a call gives on a state
+abbrev pub called : Call → State → Reply
+called (oneCommand c) z = call c z
+called freshStart z = freshCall (z .l1d) (z .l2) (z .ext)
+called (look a) z = viewDone a z
+
+-- the state after calls, one after another
+unfoldable pub after : List Call → State → State
+after [] z = z
+after (c ∷ cs) z = after cs (called c z .next)
+
+-- commands as calls
+abbrev pub commands : List Command → List Call
+commands [] = []
+commands (c ∷ cs) = oneCommand c ∷ commands cs

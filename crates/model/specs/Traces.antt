@@ -9,8 +9,8 @@ use lib.ListN.{length}
 use lib.Dec.{ltb, leb}
 use Rattle.model.specs.Bytes.{part, littleBytes}
 use Rattle.model.specs.Records.{State}
-use Rattle.model.specs.Flat.{Flat, freshFlat, flatStep}
-use Rattle.model.specs.Calls.{call, runFrom, runCall, freshCall, commandAt}
+use Rattle.model.specs.Flat.{Flat, freshFlat, flatStep, flatAfter}
+use Rattle.model.specs.Calls.{call, runFrom, runCall, freshCall, commandAt, oneCommand, after, commands}
 use Rattle.model.specs.Demand.{compared, listed}
 use Rattle.model.specs.declared.Command.{Command}
 
@@ -32,15 +32,6 @@ carriedFrom t room (suc turns) i k =
 unfoldable pub carried : List ℕ → ℕ → List Command
 carried t room = carriedFrom t room (length t) 0 0
 
--- ---- the state after commands called one after another; flat memory's likewise
-unfoldable pub after : List Command → State → State
-after [] z = z
-after (c ∷ cs) z = after cs (call c z .next)
-
-unfoldable pub flatAfter : List Command → Flat → Flat
-flatAfter [] f = f
-flatAfter (c ∷ cs) f = flatAfter cs (flatStep c f .next)
-
 -- ---- the answers from the k-th on are those of the calls: ten bytes each, number, server, value
 pub data AnswersAre (o : List ℕ) : ℕ → List Command → State → Type 0 where
   end : {k : ℕ} {z : State} → AnswersAre o k [] z
@@ -49,7 +40,7 @@ pub data AnswersAre (o : List ℕ) : ℕ → List Command → State → Type 0 w
       AnswersAre o k (c ∷ cs) z
 
 pub record RunIsCalls (trace answers : List ℕ) (z : State) : Type 0 where
-  pub next : runCall trace answers z .next ≡ after (carried trace (length answers)) z
+  pub next : runCall trace answers z .next ≡ after (commands (carried trace (length answers))) z
   pub count : runCall trace answers z .count ≡ length (carried trace (length answers))
   pub answers-are : AnswersAre (runCall trace answers z .answers) 0 (carried trace (length answers)) z
 
@@ -57,7 +48,7 @@ pub record RunIsCalls (trace answers : List ℕ) (z : State) : Type 0 where
 pub data AnswersAgree (o : List ℕ) : ℕ → List Command → Flat → Type 0 where
   end : {k : ℕ} {f : Flat} → AnswersAgree o k [] f
   next : {k : ℕ} {c : Command} {cs : List Command} {f : Flat} →
-      (compared c ≡ true → (server : ℕ) × (part o (k * 10) 10 ≡ flatStep c f .number ∷ server ∷ littleBytes (flatStep c f .value) 8)) →
+      (compared (oneCommand c) ≡ true → (server : ℕ) × (part o (k * 10) 10 ≡ flatStep c f .number ∷ server ∷ littleBytes (flatStep c f .value) 8)) →
       AnswersAgree o (suc k) cs (flatStep c f .next) → AnswersAgree o k (c ∷ cs) f
 
 -- ---- a trace in pieces, each run with answer bytes of its own; all their commands
@@ -76,9 +67,9 @@ pub data RunsAgree : List Piece → State → Flat → Type 0 where
   end : {z : State} {f : Flat} → RunsAgree [] z f
   next : {p : Piece} {ps : List Piece} {z : State} {f : Flat} →
       AnswersAgree (runCall (p .trace) (p .answers) z .answers) 0 (pieceCommands p) f →
-      RunsAgree ps (runCall (p .trace) (p .answers) z .next) (flatAfter (pieceCommands p) f) → RunsAgree (p ∷ ps) z f
+      RunsAgree ps (runCall (p .trace) (p .answers) z .next) (flatAfter (commands (pieceCommands p)) f) → RunsAgree (p ∷ ps) z f
 
 abbrev pub TraceDemand3 : Type 0
 TraceDemand3 =
     (d m e : List ℕ) → freshCall d m e .number ≡ 0 →
-    (ps : List Piece) → listed (allCommands ps) ≡ true → RunsAgree ps (freshCall d m e .next) (freshFlat (length m) e)
+    (ps : List Piece) → listed (commands (allCommands ps)) ≡ true → RunsAgree ps (freshCall d m e .next) (freshFlat (length m) e)
