@@ -5,7 +5,7 @@ use Prim.Native.Nat.{ℕ, _+_, _*_, _-_, _≤_, _<_}
 use mathlib.Core.Bool.{true, false, _&&_}
 use mathlib.Core.Path.{_≡_, refl, sym, ap, _∙_, subst}
 use mathlib.Core.Logic.{_≢_}
-use mathlib.Core.List.{List, [], _∷_}
+use mathlib.Core.List.{List, [], _∷_, _++_}
 use native.Mathlib.Omega.{arith}
 use lib.ListN.{length, length-replicate}
 use lib.Seq.{ext-getD}
@@ -17,11 +17,11 @@ use Rattle.model.specs.Records.{State, state, sramOf, l2SetsOf, l2LineAt
 use Rattle.model.specs.Access.{readAccess, writeAccess}
 use Rattle.model.specs.Modes.{smaller, flushL2, newMode, changeMode}
 use Rattle.model.specs.Commands.{l2WritebackAll, l2WritebackInvalidateAll}
-use Rattle.model.specs.Flat.{Flat, flat, freshFlat, flatPart, flatPut, flatMode, FlatReply, flatReply, flatRead, flatWrite, flatChange, flatStep}
+use Rattle.model.specs.Flat.{Flat, flat, freshFlat, flatPart, flatPut, flatMode, FlatReply, flatReply, flatRead, flatWrite, flatChange, flatStep, flatCalled, flatAfter}
 use Rattle.model.specs.Refusals.{accessDue, modeDue}
 use Rattle.model.specs.Trace.{command}
-use Rattle.model.specs.Calls.{Reply, refused, carriedOut, freshOk, freshCall, commandDue, readDone, writeDone, commandState, accepted, step, call, viewDone, Call, oneCommand, freshStart, look, commands}
-use Rattle.model.specs.Demand.{listedCode, listed, compared, global, modeAfter, Settled, AgreesAt, Agree, Demand3, CommandsDemand3, end, next}
+use Rattle.model.specs.Calls.{Reply, refused, carriedOut, freshOk, freshCall, commandDue, readDone, writeDone, commandState, accepted, step, call, viewDone, Call, oneCommand, freshStart, look, called, after, commands}
+use Rattle.model.specs.Demand.{listedCode, listedCall, listed, compared, global, modeAfter, modeAlong, Settled, AgreesAt, Agree, Demand3, CommandsDemand3, end, next}
 use Rattle.model.specs.Laws.{bool, false-true, both-true, cond-elim, length-littleBytes}
 use Rattle.model.specs.declared.Command.{Command}
 use Rattle.model.proofs.Level.{Valid}
@@ -246,27 +246,60 @@ global-settles c z f m n =
     (λ k h. not-global k (rw (ne-eqb k 2 (omega arith), ne-eqb k 3 (omega arith)) refl))
     (c .code)
 
--- ---- along a list of calls: a view is not compared and changes nothing, a fresh start is not listed
-pub agree : (cs : List Call) (mode : ℕ) (z : State) (f : Flat) → Matches z f → z .rec .mode ≡ mode → listed cs ≡ true → Agree mode cs z f
-unfolding listed modeAfter viewDone
-agree [] mode z f m e y = end
-agree (freshStart ∷ cs) mode z f m e y = false-true y
-agree (look a ∷ cs) mode z f m e y =
-    next (record { number = λ n. false-true n; value = λ n. false-true n; settled = λ n. false-true n }) (agree cs mode z f m e y)
-agree (oneCommand c ∷ cs) mode z f m e y =
-    let p = both-true (listedCode (c .code)) (listed cs) y in
+-- ---- one call: a view is not compared and changes nothing, a fresh start is not listed
+call-agrees : (c : Call) (mode : ℕ) (z : State) (f : Flat) → Matches z f → z .rec .mode ≡ mode → listedCall c ≡ true → AgreesAt mode c z f
+call-agrees freshStart mode z f m e y = false-true y
+call-agrees (look a) mode z f m e y = record { number = λ n. false-true n; value = λ n. false-true n; settled = λ n. false-true n }
+call-agrees (oneCommand c) mode z f m e y =
     let s = call-step c z (good-well z (Is f) (m .good)) in
-    let r = step-answered c z f m (p .0) in
-    let here : AgreesAt mode (oneCommand c) z f =
+    let r = step-answered c z f m y in
     record {
       number = λ k. rw s (r .number k);
       value = λ k. rw s (r .value k);
       settled = λ k _ n. rw s (global-settles c z f m (λ i. n (sym e ∙ i)) k);
-    } in
-    let rest : Agree (modeAfter (oneCommand c) (call c z) mode) cs (call c z .next) (flatStep c f .next) =
-    rw s (agree cs (modeAfter (oneCommand c) (step c z) mode) (step c z .next) (flatStep c f .next) (r .matches)
-    (r .mode ∙ ap (λ (k : ℕ). modeAfter (oneCommand c) (step c z) k) e) (p .1)) in
-    next here rest
+    }
+
+pub call-matches : (c : Call) (mode : ℕ) (z : State) (f : Flat) → Matches z f → z .rec .mode ≡ mode → listedCall c ≡ true →
+    Matches (called c z .next) (flatCalled c f .next) × (called c z .next .rec .mode ≡ modeAfter c (called c z) mode)
+unfolding viewDone modeAfter
+call-matches freshStart mode z f m e y = false-true y
+call-matches (look a) mode z f m e y = (m, e)
+call-matches (oneCommand c) mode z f m e y =
+    let s = call-step c z (good-well z (Is f) (m .good)) in
+    let r = step-answered c z f m y in
+    rw s (r .matches, r .mode ∙ ap (λ (k : ℕ). modeAfter (oneCommand c) (step c z) k) e)
+
+-- ---- along a list
+pub agree : (cs : List Call) (mode : ℕ) (z : State) (f : Flat) → Matches z f → z .rec .mode ≡ mode → listed cs ≡ true → Agree mode cs z f
+unfolding listed
+agree [] mode z f m e y = end
+agree (c ∷ cs) mode z f m e y =
+    let p = both-true (listedCall c) (listed cs) y in
+    let r = call-matches c mode z f m e (p .0) in
+    next (call-agrees c mode z f m e (p .0))
+    (agree cs (modeAfter c (called c z) mode) (called c z .next) (flatCalled c f .next) (r .0) (r .1) (p .1))
+
+pub after-matches : (cs : List Call) (mode : ℕ) (z : State) (f : Flat) → Matches z f → z .rec .mode ≡ mode → listed cs ≡ true →
+    Matches (after cs z) (flatAfter cs f) × (after cs z .rec .mode ≡ modeAlong mode cs z)
+unfolding listed after flatAfter modeAlong
+after-matches [] mode z f m e y = (m, e)
+after-matches (c ∷ cs) mode z f m e y =
+    let p = both-true (listedCall c) (listed cs) y in
+    let r = call-matches c mode z f m e (p .0) in
+    after-matches cs (modeAfter c (called c z) mode) (called c z .next) (flatCalled c f .next) (r .0) (r .1) (p .1)
+
+-- a list that ends with a global writeback, in a mode with an L2 cache, leaves external memory settled
+pub ends-settled : (cs : List Call) (c : Command) (mode : ℕ) (z : State) (f : Flat) → Matches z f → z .rec .mode ≡ mode →
+    listed (cs ++ (oneCommand c ∷ [])) ≡ true → global (oneCommand c) ≡ true → modeAlong mode cs z ≢ 0 →
+    Settled (after (cs ++ (oneCommand c ∷ [])) z) (flatAfter (cs ++ (oneCommand c ∷ [])) f)
+unfolding listed after flatAfter modeAlong
+ends-settled [] c mode z f m e y g n =
+    let s = call-step c z (good-well z (Is f) (m .good)) in
+    subst (λ (r : Reply). Settled (r .next) (flatStep c f .next)) (sym s) (global-settles c z f m (λ i. n (sym e ∙ i)) g)
+ends-settled (d ∷ cs) c mode z f m e y g n =
+    let p = both-true (listedCall d) (listed (cs ++ (oneCommand c ∷ []))) y in
+    let r = call-matches d mode z f m e (p .0) in
+    ends-settled cs c (modeAfter d (called d z) mode) (called d z .next) (flatCalled d f .next) (r .0) (r .1) (p .1) g n
 
 -- ---- the fresh start
 pub fresh-matches : (l : ℕ) (e : List ℕ) → legalL2 l ≡ true → legalExternal (length e) ≡ true → Matches (freshState l e) (freshFlat l e)
@@ -296,7 +329,7 @@ fresh-matches l e hl he =
       ext = refl;
     }
 
-fresh-mode : (l : ℕ) (e : List ℕ) → freshState l e .rec .mode ≡ 0
+pub fresh-mode : (l : ℕ) (e : List ℕ) → freshState l e .rec .mode ≡ 0
 unfolding freshState freshRecord
 fresh-mode l e = refl
 

@@ -1,5 +1,5 @@
 -- Runs over traces: a run on a well-formed state is its commands called one after another (`run-calls`), and from an accepted fresh start its answers are flat
--- memory's, in one piece or in several (`trace-demand3`).
+-- memory's, in one piece or in several, and what a global writeback settles is settled (`trace-demand3`).
 -- Why: the run carries out `step` where a call does `call`, and on a well-formed state they are the same; an answer, once put, is not touched by later ones, which lie
 -- behind it. The rest is `step-answered`, command by command.
 use Prim.Native.Nat.{ℕ, zero, suc, _+_, _*_, _-_, _≤_, _<_}
@@ -10,13 +10,13 @@ use native.Mathlib.Omega.{arith}
 use lib.ListN.{length, getD, drop}
 use lib.Seq.{ext-getD}
 use lib.Dec.{ltb, leb}
-use borrow.Author.Tests.{leb-true, le-ltb}
+use borrow.Author.Tests.{ltb-true, ltb-false, leb-true, leb-false, le-ltb}
 use Rattle.model.specs.Bytes.{part, stored, littleBytes}
 use Rattle.model.specs.Records.{State, freshState}
 use Rattle.model.specs.Flat.{Flat, freshFlat, flatStep, flatAfter}
-use Rattle.model.specs.Calls.{Reply, Run, ran, step, call, putAnswer, runFrom, runCall, commandAt, putReply, oneCommand, after, commands}
-use Rattle.model.specs.Demand.{listedCode, listed, compared}
-use Rattle.model.specs.Traces.{TurnsSuffice, carriedFrom, carried, AnswersAre, RunIsCalls, AnswersAgree, Piece, pieceCommands, allCommands, RunsAgree, TraceDemand3}
+use Rattle.model.specs.Calls.{Reply, Run, ran, step, call, putAnswer, runFrom, runCall, commandAt, putReply, Call, oneCommand, after, commands}
+use Rattle.model.specs.Demand.{listedCode, listed, compared, modeAlong}
+use Rattle.model.specs.Traces.{TurnsSuffice, carriedFrom, carried, AnswersAre, Carries, RunIsCalls, AnswersAgree, Piece, pieceCommands, allCommands, RunAgrees, RunsAgree, TraceDemand3}
 use Rattle.model.specs.Laws.{bool, both-true, length-part, length-stored, length-littleBytes, part-at}
 use Rattle.model.specs.declared.Command.{Command}
 use Rattle.model.proofs.Memory.{stored-at, stored-elsewhere}
@@ -24,7 +24,7 @@ use Rattle.model.proofs.Good.{Well, good-well}
 use Rattle.model.proofs.Reading.{decode-stable}
 use Rattle.model.proofs.Steps.{step-well}
 use Rattle.model.proofs.Tested.{well-due, call-step}
-use Rattle.model.proofs.Agreement.{Is, Matches, step-answered, fresh-matches, fresh-accepted}
+use Rattle.model.proofs.Agreement.{Is, Matches, step-answered, agree, after-matches, ends-settled, fresh-matches, fresh-mode, fresh-accepted}
 use Rattle.model.specs.Traces as T
 
 -- ---- the turns suffice: a turn more changes nothing, as long as there are as many as bytes left
@@ -126,6 +126,26 @@ run-from t room (suc turns) i z k o w e =
     (λ t₂. rw (t₁, t₂) (ran-none z i k 11 o)))
     (λ t₁. rw t₁ (ran-none z i k 0 o))
 
+-- ---- where it stops
+run-stops : (t : List ℕ) (room turns i : ℕ) (z : State) (k : ℕ) (o : List ℕ) → length o ≡ room → length t ≤ i + turns →
+    Carries t room i k (carriedFrom t room turns i k) (runFrom t turns i z k o .consumed) (runFrom t turns i z k o .stop)
+unfolding runFrom carriedFrom putAnswer
+run-stops t room zero i z k o e h = let l : length t ≤ i = omega arith in T.atEnd l
+run-stops t room (suc turns) i z k o e h =
+    bool (ltb i (length t))
+    (λ t₁. let more = ltb-true i (length t) t₁ in
+    bool (commandAt t i .ok)
+    (λ t₂. bool (leb (k * 10 + 10) room)
+    (λ t₃. let a = step (commandAt t i .found) z in
+    let o′ = putReply o k a in
+    let l : length o′ ≡ room = length-stored o (answerBytes a) (k * 10) ∙ e in
+    let one = decode-stable (drop i t) t₂ .least in
+    let rest = run-stops t room turns (i + commandAt t i .used) (a .next) (suc k) o′ l (omega arith) in
+    rw (t₁, t₂, e, t₃) (T.onward more t₂ (leb-true (k * 10 + 10) room t₃) rest))
+    (λ t₃. rw (t₁, t₂, e, t₃) (T.atFull more t₂ (leb-false (k * 10 + 10) room t₃))))
+    (λ t₂. rw (t₁, t₂) (T.atDamage more t₂)))
+    (λ t₁. rw t₁ (T.atEnd (ltb-false i (length t) t₁)))
+
 -- ---- a run is its commands, called one after another
 pub run-calls : (t o : List ℕ) (z : State) → Well z → RunIsCalls t o z
 unfolding runCall carried
@@ -133,23 +153,23 @@ run-calls t o z w =
     let h = run-from t (length o) (length t) 0 z 0 o w refl in
     let d = well-due z w in
     let n : 0 + length (carried t (length o)) ≡ length (carried t (length o)) = omega arith in
-    record { next = rw d (h .next); count = rw d (h .count ∙ n); answers-are = rw d (h .answers-are) }
+    let s = run-stops t (length o) (length t) 0 z 0 o refl (omega arith) in
+    record { next = rw d (h .next); count = rw d (h .count ∙ n); answers-are = rw d (h .answers-are); stops = rw d s }
 
--- ---- calls that match flat memory, one after another
+-- ---- the answers of calls that match flat memory, one after another
 module _ (o : List ℕ) where
-  pub calls-agree : (cs : List Command) (k : ℕ) (z : State) (f : Flat) → Matches z f → listed (commands cs) ≡ true → AnswersAre o k cs z →
-      AnswersAgree o k cs f × Matches (after (commands cs) z) (flatAfter (commands cs) f)
-  unfolding listed after flatAfter
-  calls-agree [] k z f m y a = (T.end, m)
-  calls-agree (c ∷ cs) k z f m y (T.next e a) =
+  answers-agree : (cs : List Command) (k : ℕ) (z : State) (f : Flat) → Matches z f → listed (commands cs) ≡ true → AnswersAre o k cs z →
+      AnswersAgree o k cs f
+  unfolding listed
+  answers-agree [] k z f m y a = T.end
+  answers-agree (c ∷ cs) k z f m y (T.next e a) =
       let p = both-true (listedCode (c .code)) (listed (commands cs)) y in
       let s = call-step c z (good-well z (Is f) (m .good)) in
       let r = step-answered c z f m (p .0) in
       let m′ : Matches (call c z .next) (flatStep c f .next) = rw s (r .matches) in
-      let h = calls-agree cs (suc k) (call c z .next) (flatStep c f .next) m′ (p .1) a in
       let here : compared (oneCommand c) ≡ true → (server : ℕ) × (part o (k * 10) 10 ≡ flatStep c f .number ∷ server ∷ littleBytes (flatStep c f .value) 8) =
       λ g. (call c z .server, e ∙ rw (s, r .number g, r .value g) refl) in
-      (T.next here (h .0), h .1)
+      T.next here (answers-agree cs (suc k) (call c z .next) (flatStep c f .next) m′ (p .1) a)
 
 listed-append : (cs ds : List Command) → listed (commands (cs ++ ds)) ≡ true → (listed (commands cs) ≡ true) × (listed (commands ds) ≡ true)
 unfolding listed
@@ -157,18 +177,36 @@ listed-append [] ds y = (refl, y)
 listed-append (c ∷ cs) ds y =
     let p = both-true (listedCode (c .code)) (listed (commands (cs ++ ds))) y in let q = listed-append cs ds (p .1) in (rw (p .0) (q .0), q .1)
 
-pub runs-agree : (ps : List Piece) (z : State) (f : Flat) → Matches z f → listed (commands (allCommands ps)) ≡ true → RunsAgree ps z f
+commands-append : (cs ds : List Command) → commands (cs ++ ds) ≡ commands cs ++ commands ds
+commands-append [] ds = refl
+commands-append (c ∷ cs) ds = ap (λ (x : List Call). oneCommand c ∷ x) (commands-append cs ds)
+
+run-agrees : (p : Piece) (mode : ℕ) (z : State) (f : Flat) → Matches z f → z .rec .mode ≡ mode → listed (commands (pieceCommands p)) ≡ true →
+    RunIsCalls (p .trace) (p .answers) z → RunAgrees mode p z f
+run-agrees p mode z f m e y r =
+    record {
+      answers = answers-agree (runCall (p .trace) (p .answers) z .answers) (pieceCommands p) 0 z f m y (r .answers-are);
+      places = agree (commands (pieceCommands p)) mode z f m e y;
+      ended = λ cs c i g n.
+          let j : commands (pieceCommands p) ≡ commands cs ++ (oneCommand c ∷ []) = ap commands i ∙ commands-append cs (c ∷ []) in
+          rw (r .next, j) (ends-settled (commands cs) c mode z f m e (rw j at y) g n);
+    }
+
+pub runs-agree : (ps : List Piece) (mode : ℕ) (z : State) (f : Flat) → Matches z f → z .rec .mode ≡ mode → listed (commands (allCommands ps)) ≡ true →
+    RunsAgree mode ps z f
 unfolding allCommands
-runs-agree [] z f m y = T.end
-runs-agree (p ∷ ps) z f m y =
+runs-agree [] mode z f m e y = T.end
+runs-agree (p ∷ ps) mode z f m e y =
     let l = listed-append (pieceCommands p) (allCommands ps) y in
     let r = run-calls (p .trace) (p .answers) z (good-well z (Is f) (m .good)) in
-    let a = calls-agree (runCall (p .trace) (p .answers) z .answers) (pieceCommands p) 0 z f m (l .0) (r .answers-are) in
-    let m′ : Matches (runCall (p .trace) (p .answers) z .next) (flatAfter (commands (pieceCommands p)) f) = rw (r .next) (a .1) in
-    let rest = runs-agree ps (runCall (p .trace) (p .answers) z .next) (flatAfter (commands (pieceCommands p)) f) m′ (l .1) in
-    T.next (a .0) rest
+    let x = runCall (p .trace) (p .answers) z .next in
+    let a = after-matches (commands (pieceCommands p)) mode z f m e (l .0) in
+    let m′ : Matches x (flatAfter (commands (pieceCommands p)) f) = rw (r .next) (a .0) in
+    let e′ : x .rec .mode ≡ modeAlong mode (commands (pieceCommands p)) z = rw (r .next) (a .1) in
+    T.next (run-agrees p mode z f m e (l .0) r)
+    (runs-agree ps (modeAlong mode (commands (pieceCommands p)) z) x (flatAfter (commands (pieceCommands p)) f) m′ e′ (l .1))
 
 pub trace-demand3 : TraceDemand3
 trace-demand3 d m e h ps y =
     let p = fresh-accepted d m e h in let s = p .2 in
-    rw s (runs-agree ps (freshState (length m) e) (freshFlat (length m) e) (fresh-matches (length m) e (p .0) (p .1)) y)
+    rw s (runs-agree ps 0 (freshState (length m) e) (freshFlat (length m) e) (fresh-matches (length m) e (p .0) (p .1)) (fresh-mode (length m) e) y)

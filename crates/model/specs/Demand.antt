@@ -46,6 +46,11 @@ modeAfter (oneCommand c) r mode = cond (eqb (c .code) 10 && eqb (r .number) 0) (
 modeAfter freshStart r mode = mode
 modeAfter (look a) r mode = mode
 
+-- and the mode behind calls, one after another
+unfoldable pub modeAlong : ℕ → List Call → State → ℕ
+modeAlong mode [] z = mode
+modeAlong mode (c ∷ cs) z = modeAlong (modeAfter c (called c z) mode) cs (called c z .next)
+
 -- ---- external memory is settled: the same in both, and no line of it is dirty in either cache (L2 holds lines of external memory only)
 pub record Settled (z : State) (f : Flat) : Type 0 where
   pub same : z .ext ≡ f .ext
