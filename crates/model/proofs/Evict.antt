@@ -14,7 +14,7 @@ use borrow.Author.Tests.{ltb-true, ltb-false, eqb-true, eqb-false}
 use Rattle.model.specs.Bytes.{stored, part}
 use Rattle.model.specs.Memories.{externalBase}
 use Rattle.model.specs.Lines.{l1dSetOf, l1dData, l1dLine, l2Line, upperHalf, emptyLine, lineOf}
-use Rattle.model.specs.Records.{State, state, sramOf, l2SetOf, l2Data, marBit, l1dLineAt, l2LineAt, withL1dLine, withL2Line}
+use Rattle.model.specs.Records.{State, withL2, withExternal, sramOf, l2SetOf, l2Data, marBit, l1dLineAt, l2LineAt, withL1dLine, withL2Line}
 use Rattle.model.specs.Ways.{l1dWay, l2Way, inL1d, inL2, emptyL1d}
 use Rattle.model.specs.Access.{writebackL1d, evictL1d}
 use Rattle.model.specs.Homes.{homeIsL2, putMemory, putL2, putHome, takeHalf, takeHalves}
@@ -27,7 +27,7 @@ use Rattle.model.proofs.Good.{layoutOf, l1dLevel, l2Level, memoryOf, Ti
 
 -- bytes put into SRAM or external memory, both lists said at once
 pub putMemory-state : (a : ℕ) (bs : List ℕ) (z : State) →
-    putMemory a bs z ≡ state (z .rec) (z .l1d) (lowStored (z .l2) a bs) (highStored (z .ext) a bs)
+    putMemory a bs z ≡ withExternal (withL2 z (lowStored (z .l2) a bs)) (highStored (z .ext) a bs)
 unfolding putMemory lowStored highStored
 putMemory-state a bs z = bool (ltb a externalBase) (λ t. rw t refl) (λ t. rw t refl)
 
@@ -115,11 +115,11 @@ module _ (z : State) (F : Allowed) (q : Good z F) (s w : ℕ) (hs : s < 128) (hw
       record { low = λ h. let g = p .low h in omega arith; high = λ h. let g = p .high h in omega arith }
 
   evicted-memory : Valid (l1dLevel z) s w → homeIsL2 (z .rec) b ≡ false →
-      L1dEvicted z F s w (emptyL1d s w (state (z .rec) (z .l1d) (lowStored (z .l2) b bs) (highStored (z .ext) b bs)))
+      L1dEvicted z F s w (emptyL1d s w (withExternal (withL2 z (lowStored (z .l2) b bs)) (highStored (z .ext) b bs)))
   unfolding emptyL1d withL1dLine marBit
   evicted-memory k e =
       let m′ = lowStored (z .l2) b bs in let e′ = highStored (z .ext) b bs in
-      let z′ = emptyL1d s w (state (z .rec) (z .l1d) m′ e′) in
+      let z′ = emptyL1d s w (withExternal (withL2 z m′) e′) in
       let u : Replaced 64 (l1dLevel z) (l1dLevel z′) s w emptyLine
       = l1d-replaced z (q .tidy) s w emptyLine (z .l1d) m′ e′ hs hw (λ _ _ _ _ _ _. refl) in
       let n = bs-length in

@@ -12,7 +12,7 @@ use Rattle.model.specs.Basics.{each}
 use Rattle.model.specs.Bytes.{part}
 use Rattle.model.specs.Memories.{externalBase}
 use Rattle.model.specs.Lines.{l1dData, emptyLine}
-use Rattle.model.specs.Records.{State, state, l2SetsOf, mode0, l1dLineAt, l2LineAt, withL1dLine, withL2Line}
+use Rattle.model.specs.Records.{State, withRecord, withL1dSets, l2SetsOf, mode0, l1dLineAt, l2LineAt, withL1dLine, withL2Line}
 use Rattle.model.specs.Ways.{inL2, l2Way, emptyL1d}
 use Rattle.model.specs.Access.{writebackL1d, evictL1d}
 use Rattle.model.specs.Homes.{homeIsL2, putMemory, putL2, putHome, writeOutL2}
@@ -27,18 +27,7 @@ sweptL1d z = each (λ k. evictL1d (k / 2) (k % 2)) 256 z
 
 -- ---- a state with other lines of L1D: what looks at none of them does the same to it
 abbrev relined : List L1dSet → State → State
-relined xs z =
-    state
-    (record {
-      l2len = z .rec .l2len;
-      extlen = z .rec .extlen;
-      mode = z .rec .mode;
-      mar128 = z .rec .mar128;
-      mar129 = z .rec .mar129;
-      l1d = xs;
-      l2 = z .rec .l2;
-    })
-    (z .l1d) (z .l2) (z .ext)
+relined xs z = withRecord z (withL1dSets (z .rec) xs)
 
 -- the write-back of a line looks at that line only
 abbrev written : Line → ℕ → ℕ → State → State

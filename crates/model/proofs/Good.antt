@@ -15,7 +15,7 @@ use borrow.Author.Tests.{ltb-true, ltb-false, eqb-true, eqb-false, eq-eqb}
 use Rattle.model.specs.Bytes.{stored}
 use Rattle.model.specs.Memories.{externalBase, cacheSize, isMode}
 use Rattle.model.specs.Lines.{l1dSetOf, l1dData, l2Slot, l1dLine, l2Line, emptyLine, holds, l1dGet, l2Get, l2Put, l1dUse, l2Use}
-use Rattle.model.specs.Records.{State, state, sramOf, l2SetsOf, mode0, l2SetOf, l2Data, marBit, noL2Set, l1dSetAt, l2SetAt, l1dLineAt, l2LineAt, withL1dLine, withL2Line, freshL2Set}
+use Rattle.model.specs.Records.{State, withRecord, withL1d, withL2, withExternal, sramOf, l2SetsOf, mode0, l2SetOf, l2Data, marBit, noL2Set, l1dSetAt, l2SetAt, l1dLineAt, l2LineAt, withL1dLine, withL2Line, freshL2Set}
 use Rattle.model.specs.Ways.{wayHolding, lowestInvalid, l1dFind, l2Find, l1dVictim, l2Victim, l1dWay, l2Way, inL1d, inL2, useL1d, useL2}
 use Rattle.model.specs.Homes.{homeIsL2}
 use Rattle.model.specs.Laws.{bool, false-true, both-true, cond-elim, used2-permutation, used4-permutation, mode0-sets}
@@ -290,6 +290,10 @@ module _ (z : State) (h : Tidy z) where
       other-slot 128 (z .l2) bs (l2Data (z .rec) t v) (l2Data (z .rec) t′ v′) o (l2-fits t v ht hv)
       (l2-apart (z .rec) t v t′ v′ ht (b .0) hv (b .1) n) ho
 
+-- ---- another record, and other bytes in all memories that the invariant sees
+abbrev pub withLists : State → Record → List ℕ → List ℕ → List ℕ → State
+withLists z r d m e = withExternal (withL2 (withL1d (withRecord z r) d) m) e
+
 -- ---- the lists change, keeping their lengths; and the mode
 pub sizes-new : {l e n : ℕ} {d m x : List ℕ} → Sizes l e n d m x → (n′ : ℕ) → isMode n′ ≡ true → cacheSize n′ ≤ l →
     (d′ m′ x′ : List ℕ) → length d′ ≡ length d → length m′ ≡ length m → length x′ ≡ length x → Sizes l e n′ d′ m′ x′
@@ -314,7 +318,7 @@ sizes-with : {l e n : ℕ} {d m x : List ℕ} → Sizes l e n d m x → (d′ m�
 sizes-with {l} {e} {n} h d′ m′ x′ p q r = sizes-new h n (h .legalMode) (h .cacheMost) d′ m′ x′ p q r
 
 pub lists-tidy : (z : State) → Tidy z → (d m e : List ℕ) → length d ≡ length (z .l1d) → length m ≡ length (z .l2) → length e ≡ length (z .ext) →
-    Tidy (state (z .rec) d m e)
+    Tidy (withLists z (z .rec) d m e)
 lists-tidy z h d m e a b c = record { sizes = sizes-with (h .sizes) d m e a b c; l1d = h .l1d; l2 = h .l2; idle = h .idle }
 
 -- ---- one line of the record replaced, and the lists with their lengths kept
@@ -322,12 +326,12 @@ module _ (z : State) (h : Tidy z) (s w : ℕ) (l : Line) (d m e : List ℕ) wher
   pub l1d-replaced : s < 128 → w < 2 →
       ((s′ w′ : ℕ) → Other s w s′ w′ → Valid (l1dLevel z) s′ w′ → (i : ℕ) → i < 64 → getD d (l1dData s′ w′ + i) 0 ≡ getD (z .l1d) (l1dData s′ w′ + i) 0)
       →
-      Replaced 64 (l1dLevel z) (l1dLevel (state (withL1dLine (z .rec) s w l) d m e)) s w l
+      Replaced 64 (l1dLevel z) (l1dLevel (withLists z (withL1dLine (z .rec) s w l) d m e)) s w l
   unfolding withL1dLine
   l1d-replaced hs hw r = replaced-line l1dStore (z .rec .l1d) s w l (h .l1d .shaped) hs hw 64 l1dData (z .l1d) d r
 
   pub l1d-tidy : (l .valid ≡ false → l ≡ emptyLine) → length d ≡ length (z .l1d) → length m ≡ length (z .l2) → length e ≡ length (z .ext) →
-      Tidy (state (withL1dLine (z .rec) s w l) d m e)
+      Tidy (withLists z (withL1dLine (z .rec) s w l) d m e)
   unfolding withL1dLine
   l1d-tidy v a b c =
       record { sizes = sizes-with (h .sizes) d m e a b c; l1d = table-line l1dStore (z .rec .l1d) s w l (h .l1d) v; l2 = h .l2; idle = h .idle }
@@ -335,7 +339,7 @@ module _ (z : State) (h : Tidy z) (s w : ℕ) (l : Line) (d m e : List ℕ) wher
   pub l2-replaced : s < l2SetsOf (z .rec) → w < 4 →
       ((s′ w′ : ℕ) → Other s w s′ w′ → Valid (l2Level z) s′ w′ → (i : ℕ) → i < 128 →
       getD m (l2Data (z .rec) s′ w′ + i) 0 ≡ getD (z .l2) (l2Data (z .rec) s′ w′ + i) 0) →
-      Replaced 128 (l2Level z) (l2Level (state (withL2Line (z .rec) s w l) d m e)) s w l
+      Replaced 128 (l2Level z) (l2Level (withLists z (withL2Line (z .rec) s w l) d m e)) s w l
   unfolding withL2Line
   l2-replaced hs hw r =
       let c = h .sizes .cacheMost in let c′ = h .sizes .l2Most in
@@ -343,7 +347,7 @@ module _ (z : State) (h : Tidy z) (s w : ℕ) (l : Line) (d m e : List ℕ) wher
 
   pub l2-tidy : s < l2SetsOf (z .rec) → (l .valid ≡ false → l ≡ emptyLine) → length d ≡ length (z .l1d) → length m ≡ length (z .l2) →
       length e ≡ length (z .ext) →
-      Tidy (state (withL2Line (z .rec) s w l) d m e)
+      Tidy (withLists z (withL2Line (z .rec) s w l) d m e)
   unfolding withL2Line
   l2-tidy hs v a b c =
       record {

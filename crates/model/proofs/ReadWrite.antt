@@ -13,7 +13,7 @@ use borrow.Author.Tests.{le-ltb, ne-eqb}
 use Rattle.model.specs.Bytes.{stored}
 use Rattle.model.specs.Memories.{externalBase}
 use Rattle.model.specs.Lines.{l1dSetOf, l1dData, l1dLine, l2Line, lineOf, l2Sets, l2SetIn}
-use Rattle.model.specs.Records.{State, mode0, state, l2SetsOf, l2SetOf, l2Data, marBit, l1dSetAt, l1dLineAt, l2LineAt, withL1dLine, withL2Line}
+use Rattle.model.specs.Records.{State, withL2, withExternal, mode0, l2SetsOf, l2SetOf, l2Data, marBit, l1dSetAt, l1dLineAt, l2LineAt, withL1dLine, withL2Line}
 use Rattle.model.specs.Ways.{l1dVictim, l1dWay, inL1d, useL1d}
 use Rattle.model.specs.Access.{cacheable, putL1d, evictL1d, fillL1d, Access, access, l1dBytes, readHit, readFilled, readEmptied, readMiss, readAccess, writeHit, writeHome, writeMiss, writeAccess}
 use Rattle.model.specs.Homes.{homeIsL2, memoryPart, putMemory, putL2, l2WayFor, fetchL2, homeServer}
@@ -143,7 +143,7 @@ module _ (z : State) (F F′ : Allowed) (q : Good z F) (a : ℕ) (bs : List ℕ)
       let m = q .tidy .sizes .l2Length in let e = q .tidy .sizes .extLength in let x = q .tidy .sizes .l2Most in
       let r : Fits (z .l2) (z .ext) a (length bs)
       = record { low = λ k. let g = f .low k in omega arith; high = λ k. let g = f .high k in omega arith } in
-      let z′ = state (z .rec) (z .l1d) (lowStored (z .l2) a bs) (highStored (z .ext) a bs) in
+      let z′ = withExternal (withL2 z (lowStored (z .l2) a bs)) (highStored (z .ext) a bs) in
       let wm : Wrote (memoryOf z) (memoryOf z′) a bs = wrote-memory (z .l2) (z .ext) bs a r (omega arith) in
       let i₁ : Invariant (layoutOf (z .rec)) (l1dLevel z) (l2Level z) (memoryOf z′) F′ =
       memory-written (layoutOf (z .rec)) (l1dLevel z) (l2Level z) (memoryOf z) F (q .inv) a (memoryOf z′) F′ f₁ f₂ (written-old F F′ a bs wr h)

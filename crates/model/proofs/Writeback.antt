@@ -13,7 +13,7 @@ use borrow.Author.Tests.{ltb-true, ltb-false}
 use Rattle.model.specs.Bytes.{stored, part}
 use Rattle.model.specs.Memories.{externalBase}
 use Rattle.model.specs.Lines.{emptyLine, lineOf}
-use Rattle.model.specs.Records.{State, state, l2SetsOf, l2Data, marBit, noL1dSet, l1dLineAt, l2LineAt, withL2Line}
+use Rattle.model.specs.Records.{State, withRecord, withExternal, l2SetsOf, l2Data, marBit, noL1dSet, l1dLineAt, l2LineAt, withL2Line}
 use Rattle.model.specs.Ways.{emptyL2}
 use Rattle.model.specs.Homes.{takeHalves, writeOutL2, writebackL2, evictL2, fillL2}
 use Rattle.model.specs.Laws.{bool, false-true, cond-elim, length-stored, length-part}
@@ -42,7 +42,7 @@ module _ (z : State) (F : Allowed) (q : Good z F) (t v : ℕ) (ht : t < l2SetsOf
 
   abbrev cleaned : State
   cleaned =
-      state (withL2Line (z .rec) t v (lineOf (l2LineAt (z .rec) t v .address) false)) (z .l1d) (z .l2)
+      withExternal (withRecord z (withL2Line (z .rec) t v (lineOf (l2LineAt (z .rec) t v .address) false)))
       (stored (z .ext) (b - externalBase) (part (z .l2) (l2Data (z .rec) t v) 128))
 
   out-dirty : Valid (l2Level z) t v → Clear z t v → WrittenOut z F t v cleaned

@@ -7,7 +7,7 @@ use lib.Dec.{ltb}
 use Rattle.model.specs.Bytes.{part, stored}
 use Rattle.model.specs.Memories.{externalBase}
 use Rattle.model.specs.Lines.{offsetIn, l1dKind, l1dSetOf, l1dData, lineOf, l1dLine}
-use Rattle.model.specs.Records.{State, state, l2KindBy, l2SetOf, l2Data, marBit, l1dSetAt, l1dLineAt, withL1dLine}
+use Rattle.model.specs.Records.{State, withRecord, withL1d, l2KindBy, l2SetOf, l2Data, marBit, l1dSetAt, l1dLineAt, withL1dLine}
 use Rattle.model.specs.Ways.{l1dVictim, l1dWay, inL1d, useL1d, emptyL1d}
 use Rattle.model.specs.Homes.{homeIsL2, memoryPart, putMemory, putL2, putHome, l2WayFor, fetchL2, homeServer}
 use Rattle.model.specs.declared.Record.{Record}
@@ -51,8 +51,8 @@ homeLine v a z =
 
 unfoldable pub fillL1d : ℕ → ℕ → ℕ → State → State
 fillL1d w v a z =
-    state (withL1dLine (z .rec) (l1dSetOf a) w (lineOf (l1dLine a) false))
-    (stored (z .l1d) (l1dData (l1dSetOf a) w) (homeLine v a z)) (z .l2) (z .ext)
+    withL1d (withRecord z (withL1dLine (z .rec) (l1dSetOf a) w (lineOf (l1dLine a) false)))
+    (stored (z .l1d) (l1dData (l1dSetOf a) w) (homeLine v a z))
 
 -- The way w is chosen first and stays chosen. Its parts, last first: the bytes of the filled way (server k); the line fetched into the emptied way; the whole.
 unfoldable pub readFilled : ℕ → ℕ → ℕ → ℕ → State → Access
@@ -72,8 +72,8 @@ readAccess n a z = cond (cacheable (z .rec) a) (cond (inL1d z a) (readHit n a z)
 -- the bytes bs go into the L1D line that holds address a in way w
 unfoldable pub putL1d : ℕ → ℕ → List ℕ → State → State
 putL1d w a bs z =
-    state (withL1dLine (z .rec) (l1dSetOf a) w (lineOf (l1dLineAt (z .rec) (l1dSetOf a) w .address) true))
-    (stored (z .l1d) (l1dData (l1dSetOf a) w + offsetIn l1dKind a) bs) (z .l2) (z .ext)
+    withL1d (withRecord z (withL1dLine (z .rec) (l1dSetOf a) w (lineOf (l1dLineAt (z .rec) (l1dSetOf a) w .address) true)))
+    (stored (z .l1d) (l1dData (l1dSetOf a) w + offsetIn l1dKind a) bs)
 
 unfoldable pub writeHit : ℕ → List ℕ → State → Access
 writeHit a bs z = access 1 [] (useL1d (l1dSetOf a) (l1dWay z a) (putL1d (l1dWay z a) a bs z))

@@ -6,7 +6,7 @@ use lib.Dec.{ltb}
 use Rattle.model.specs.Bytes.{part, stored}
 use Rattle.model.specs.Memories.{externalBase}
 use Rattle.model.specs.Lines.{offsetIn, l1dKind, l1dSetOf, l1dData, l2LineLength, lineOf, l2Line, upperHalf}
-use Rattle.model.specs.Records.{State, state, mode0, l2KindBy, l2SetOf, l2Data, l2SetAt, l1dLineAt, l2LineAt, withL2Line}
+use Rattle.model.specs.Records.{State, withRecord, withL2, withExternal, mode0, l2KindBy, l2SetOf, l2Data, l2SetAt, l1dLineAt, l2LineAt, withL2Line}
 use Rattle.model.specs.Ways.{l2Victim, l1dWay, l2Way, inL1d, inL2, useL2, emptyL1d, emptyL2}
 use Rattle.model.specs.declared.Record.{Record}
 
@@ -21,14 +21,13 @@ memoryPart a n z = cond (ltb a externalBase) (part (z .l2) a n) (part (z .ext) (
 -- "On writeback a line goes out into the part of the lent memory that begins at its home."
 unfoldable pub putMemory : ℕ → List ℕ → State → State
 putMemory a bs z =
-    cond (ltb a externalBase) (state (z .rec) (z .l1d) (stored (z .l2) a bs) (z .ext))
-    (state (z .rec) (z .l1d) (z .l2) (stored (z .ext) (a - externalBase) bs))
+    cond (ltb a externalBase) (withL2 z (stored (z .l2) a bs)) (withExternal z (stored (z .ext) (a - externalBase) bs))
 
 -- ---- "A write then makes the L2 line dirty. A writeback into L2 makes the line dirty and uses nothing.": bytes go into the L2 line in set t, way v, at address a
 unfoldable pub putL2 : ℕ → ℕ → ℕ → List ℕ → State → State
 putL2 t v a bs z =
-    state (withL2Line (z .rec) t v (lineOf (l2LineAt (z .rec) t v .address) true)) (z .l1d)
-    (stored (z .l2) (l2Data (z .rec) t v + offsetIn (l2KindBy (z .rec)) a) bs) (z .ext)
+    withL2 (withRecord z (withL2Line (z .rec) t v (lineOf (l2LineAt (z .rec) t v .address) true)))
+    (stored (z .l2) (l2Data (z .rec) t v + offsetIn (l2KindBy (z .rec)) a) bs)
 
 -- an L1D line's bytes go to its home (an external line that L2 ought to hold and does not cannot be in a well-formed record)
 unfoldable pub putHome : ℕ → List ℕ → State → State
@@ -54,7 +53,7 @@ unfoldable pub writeOutL2 : ℕ → ℕ → State → State
 writeOutL2 t v z =
     cond (l2LineAt (z .rec) t v .valid)
     (cond (l2LineAt (z .rec) t v .dirty)
-    (state (withL2Line (z .rec) t v (lineOf (l2LineAt (z .rec) t v .address) false)) (z .l1d) (z .l2)
+    (withExternal (withRecord z (withL2Line (z .rec) t v (lineOf (l2LineAt (z .rec) t v .address) false)))
     (stored (z .ext) (l2LineAt (z .rec) t v .address - externalBase) (part (z .l2) (l2Data (z .rec) t v) l2LineLength)))
     z)
     z
@@ -69,8 +68,8 @@ evictL2 t v z = emptyL2 t v (writebackL2 t v z)
 -- ---- "then 128 bytes are fetched, clean, and used."
 unfoldable pub fillL2 : ℕ → ℕ → ℕ → State → State
 fillL2 t v b z =
-    state (withL2Line (z .rec) t v (lineOf b false)) (z .l1d)
-    (stored (z .l2) (l2Data (z .rec) t v) (part (z .ext) (b - externalBase) l2LineLength)) (z .ext)
+    withL2 (withRecord z (withL2Line (z .rec) t v (lineOf b false)))
+    (stored (z .l2) (l2Data (z .rec) t v) (part (z .ext) (b - externalBase) l2LineLength))
 
 abbrev pub bringL2 : ℕ → ℕ → ℕ → State → State
 bringL2 t v b z = useL2 t v (fillL2 t v b (evictL2 t v z))

@@ -25,6 +25,36 @@ pub record State : Type 0 where
 abbrev pub state : Record → List ℕ → List ℕ → List ℕ → State
 state r d m e = record { rec = r; l1d = d; l2 = m; ext = e }
 
+-- the state with another record, with other bytes of L1D, of L2, of external memory: every change of a state goes through these
+abbrev pub withRecord : State → Record → State
+withRecord z r = state r (z .l1d) (z .l2) (z .ext)
+
+abbrev pub withL1d : State → List ℕ → State
+withL1d z d = state (z .rec) d (z .l2) (z .ext)
+
+abbrev pub withL2 : State → List ℕ → State
+withL2 z m = state (z .rec) (z .l1d) m (z .ext)
+
+abbrev pub withExternal : State → List ℕ → State
+withExternal z e = state (z .rec) (z .l1d) (z .l2) e
+
+-- ---- the record with other sets, with another mode, with other MAR bits: every change of a record goes through these
+abbrev pub withL1dSets : Record → List L1dSet → Record
+withL1dSets r vs =
+    record { l2len = r .l2len; extlen = r .extlen; mode = r .mode; mar128 = r .mar128; mar129 = r .mar129; l1d = vs; l2 = r .l2 }
+
+abbrev pub withL2Sets : Record → List L2Set → Record
+withL2Sets r vs =
+    record { l2len = r .l2len; extlen = r .extlen; mode = r .mode; mar128 = r .mar128; mar129 = r .mar129; l1d = r .l1d; l2 = vs }
+
+abbrev pub withMode : Record → ℕ → Record
+withMode r m =
+    record { l2len = r .l2len; extlen = r .extlen; mode = m; mar128 = r .mar128; mar129 = r .mar129; l1d = r .l1d; l2 = r .l2 }
+
+abbrev pub withMars : Record → Bool → Bool → Record
+withMars r a b =
+    record { l2len = r .l2len; extlen = r .extlen; mode = r .mode; mar128 = a; mar129 = b; l1d = r .l1d; l2 = r .l2 }
+
 -- ---- S, the kind that L2 is of, its number of sets, an address's L2 set and a way's data, by the record's mode
 abbrev pub sramOf : Record → ℕ
 sramOf r = sramLength (r .l2len) (r .mode)
@@ -81,14 +111,12 @@ pub record Shape (r : Record) : Type 0 where
   pub l2Sets : length (r .l2) ≡ 512
   pub l2Ways : (t : ℕ) → t < 512 → length (l2SetAt r t .lines) ≡ l2Ways
 
--- the record with one set replaced: every change of a line or an order goes through these two
+-- the record with one set replaced
 abbrev pub withL1dSet : Record → ℕ → L1dSet → Record
-withL1dSet r s v =
-    record { l2len = r .l2len; extlen = r .extlen; mode = r .mode; mar128 = r .mar128; mar129 = r .mar129; l1d = set (r .l1d) s v; l2 = r .l2 }
+withL1dSet r s v = withL1dSets r (set (r .l1d) s v)
 
 abbrev pub withL2Set : Record → ℕ → L2Set → Record
-withL2Set r t v =
-    record { l2len = r .l2len; extlen = r .extlen; mode = r .mode; mar128 = r .mar128; mar129 = r .mar129; l1d = r .l1d; l2 = set (r .l2) t v }
+withL2Set r t v = withL2Sets r (set (r .l2) t v)
 
 -- the record with one line replaced
 unfoldable pub withL1dLine : Record → ℕ → ℕ → Line → Record
@@ -190,9 +218,14 @@ freshL2Set =
       order = record { first = 3; second = 2; third = 1; fourth = 0 };
     }
 
+abbrev pub freshL1dSets : List L1dSet
+freshL1dSets = replicate (l1dKind .sets) freshL1dSet
+
+abbrev pub freshL2Sets : List L2Set
+freshL2Sets = replicate 512 freshL2Set
+
 unfoldable pub freshRecord : ℕ → ℕ → Record
-freshRecord l e =
-    record { l2len = l; extlen = e; mode = 0; mar128 = false; mar129 = false; l1d = replicate (l1dKind .sets) freshL1dSet; l2 = replicate 512 freshL2Set }
+freshRecord l e = record { l2len = l; extlen = e; mode = 0; mar128 = false; mar129 = false; l1d = freshL1dSets; l2 = freshL2Sets }
 
 -- "L1D and L2 bytes become zero; external memory is kept."
 unfoldable pub freshState : ℕ → List ℕ → State

@@ -3,7 +3,7 @@ use Prim.Native.Nat.{ℕ, zero, suc, _%_}
 use mathlib.Core.Bool.{Bool, cond}
 use lib.Dec.{ltb}
 use Rattle.model.specs.Lines.{l1dKind, l1dSetOf, l2Ways, holds, emptyLine, l1dLine, l2Line, l1dGet, l2Get, l1dUse, l2Use}
-use Rattle.model.specs.Records.{State, state, l2SetOf, l1dSetAt, l2SetAt, withL1dSet, withL2Set, withL1dLine, withL2Line}
+use Rattle.model.specs.Records.{State, withRecord, l2SetOf, l1dSetAt, l2SetAt, withL1dSet, withL2Set, withL1dLine, withL2Line}
 use Rattle.model.specs.declared.Line.{Line}
 use Rattle.model.specs.declared.L1dSet.{L1dSet}
 use Rattle.model.specs.declared.L2Set.{L2Set}
@@ -48,14 +48,14 @@ inL2 z a = ltb (l2Way z a) l2Ways
 
 -- ---- ways used
 unfoldable pub useL1d : ℕ → ℕ → State → State
-useL1d s w z = state (withL1dSet (z .rec) s (l1dUse (l1dSetAt (z .rec) s) w)) (z .l1d) (z .l2) (z .ext)
+useL1d s w z = withRecord z (withL1dSet (z .rec) s (l1dUse (l1dSetAt (z .rec) s) w))
 
 unfoldable pub useL2 : ℕ → ℕ → State → State
-useL2 t v z = state (withL2Set (z .rec) t (l2Use (l2SetAt (z .rec) t) v)) (z .l1d) (z .l2) (z .ext)
+useL2 t v z = withRecord z (withL2Set (z .rec) t (l2Use (l2SetAt (z .rec) t) v))
 
 -- ---- ways emptied: "Invalidation changes no order."
 unfoldable pub emptyL1d : ℕ → ℕ → State → State
-emptyL1d s w z = state (withL1dLine (z .rec) s w emptyLine) (z .l1d) (z .l2) (z .ext)
+emptyL1d s w z = withRecord z (withL1dLine (z .rec) s w emptyLine)
 
 unfoldable pub emptyL2 : ℕ → ℕ → State → State
-emptyL2 t v z = state (withL2Line (z .rec) t v emptyLine) (z .l1d) (z .l2) (z .ext)
+emptyL2 t v z = withRecord z (withL2Line (z .rec) t v emptyLine)
