@@ -17,3 +17,4 @@ pub mod Sram
 pub mod Stays
 pub mod Traces
 pub mod Laws
+pub mod Opened
