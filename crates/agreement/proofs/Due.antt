@@ -8,18 +8,18 @@ use mathlib.Core.Logic.{_≢_, _⊎_, inl, inr}
 use native.Mathlib.Omega.{arith}
 use lib.Dec.{leb, eqb}
 use borrow.Author.Tests.{lt-ltb, le-ltb, leb-true, eqb-true, eqb-false}
 use Rattle.model.specs.Bytes.{littleBytes}
 use Rattle.model.specs.Memories.{externalBase, cacheSize, isMode}
 use Rattle.model.specs.Records.{State, sramOf}
 use Rattle.model.specs.Access.{readAccess, writeAccess}
 use Rattle.model.specs.Refusals.{holdsRange, lowestDue, unless, sizeOk, placeOk, valueOk, accessDue, modeDue, marDue}
 use Rattle.model.specs.Laws.{bool, false-true, both-true, length-littleBytes}
 use Rattle.model.specs.declared.Record.{Record}
-use Rattle.model.proofs.Invariant.{Allowed}
-use Rattle.model.proofs.Memory.{Written}
-use Rattle.model.proofs.Good.{layoutOf, Good}
-use Rattle.model.proofs.Fetch.{AccessFits}
-use Rattle.model.proofs.ReadWrite.{ReadGood, read-good, Step, write-good}
+use Rattle.agreement.proofs.Invariant.{Allowed}
+use Rattle.agreement.proofs.Memory.{Written}
+use Rattle.agreement.proofs.Good.{layoutOf, Good}
+use Rattle.agreement.proofs.Fetch.{AccessFits}
+use Rattle.agreement.proofs.ReadWrite.{ReadGood, read-good, Step, write-good}
 
 -- ---- the first of two numbers is 0: its test holds, and the other number is 0
 pub lowestDue-none : (b : Bool) (n k : ℕ) → lowestDue (unless b (suc n)) k ≡ 0 → (b ≡ true) × (k ≡ 0)

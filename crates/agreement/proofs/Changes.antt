@@ -13,23 +13,23 @@ use lib.ListN.{length, getD, take, replicate, length-append, length-replicate, g
 use lib.Seq.{getD-take, getD-append-add, length-take-le}
 use lib.Dec.{ltb, leb, eqb}
 use borrow.Author.Tests.{ltb-true, ltb-false, leb-true, leb-false, eq-eqb, eqb-true, eqb-false}
 use Rattle.model.specs.Basics.{anyOf}
 use Rattle.model.specs.Bytes.{zeroFrom}
 use Rattle.model.specs.Memories.{externalBase, cacheSize, isMode, sramLength}
 use Rattle.model.specs.Lines.{emptyLine, Permutation2, Permutation4}
 use Rattle.model.specs.Records.{State, sramOf, covers, marBit, noL2Set, l1dLineAt, l2LineAt, freshL1dSet, freshL2Set}
 use Rattle.model.specs.Modes.{smaller, newMode, changeMar}
 use Rattle.model.specs.Refusals.{inRange, holdsRange}
 use Rattle.model.specs.Laws.{bool, false-true}
 use Rattle.model.specs.declared.Line.{Line}
 use Rattle.model.specs.declared.L1dSet.{L1dSet}
 use Rattle.model.specs.declared.L2Set.{L2Set}
 use Rattle.model.specs.declared.Record.{Record}
-use Rattle.model.proofs.Level.{Valid, NoDirty}
-use Rattle.model.proofs.Invariant.{Allowed, carry, Inside}
-use Rattle.model.proofs.Tables.{l1dStore, l2Store, fresh-line, fresh-table, none-found}
-use Rattle.model.proofs.Memory.{memory-low, memory-high}
-use Rattle.model.proofs.Good.{layoutOf, l1dLevel, l2Level, memoryOf, Sizes, sizes-new, Good}
+use Rattle.agreement.proofs.Level.{Valid, NoDirty}
+use Rattle.agreement.proofs.Invariant.{Allowed, carry, Inside}
+use Rattle.agreement.proofs.Tables.{l1dStore, l2Store, fresh-line, fresh-table, none-found}
+use Rattle.agreement.proofs.Memory.{memory-low, memory-high}
+use Rattle.agreement.proofs.Good.{layoutOf, l1dLevel, l2Level, memoryOf, Sizes, sizes-new, Good}
 
 -- ---- bytes set zero from k on
 module _ (k : ℕ) (m : List ℕ) (n : ℕ) (hk : k ≤ length m) (hn : k ≤ n) where

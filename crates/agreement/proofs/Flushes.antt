@@ -8,19 +8,19 @@ use mathlib.Core.Path.{_≡_, refl, sym, ap, _∙_}
 use native.Mathlib.Omega.{arith}
 use lib.Dec.{ltb, eqb}
 use borrow.Author.Tests.{eqb-true, eqb-false}
 use Rattle.model.specs.Basics.{each}
 use Rattle.model.specs.Bytes.{part}
 use Rattle.model.specs.Memories.{externalBase}
 use Rattle.model.specs.Lines.{l1dData, emptyLine}
 use Rattle.model.specs.Records.{State, withRecord, withL1dSets, l2SetsOf, mode0, l1dLineAt, l2LineAt, withL1dLine, withL2Line}
 use Rattle.model.specs.Ways.{inL2, l2Way, emptyL1d}
 use Rattle.model.specs.Access.{writebackL1d, evictL1d}
 use Rattle.model.specs.Homes.{homeIsL2, putMemory, putL2, putHome, writeOutL2}
 use Rattle.model.specs.Modes.{flushL1d, flushL2, newMode, changeMode}
 use Rattle.model.specs.Laws.{bool}
 use Rattle.model.specs.declared.Line.{Line}
 use Rattle.model.specs.declared.L1dSet.{L1dSet}
-use Rattle.model.proofs.Tables.{l1dStore, lineIn, withLine, line-other-set, line-other-way}
+use Rattle.agreement.proofs.Tables.{l1dStore, lineIn, withLine, line-other-set, line-other-way}
 
 abbrev pub sweptL1d : State → State
 sweptL1d z = each (λ k. evictL1d (k / 2) (k % 2)) 256 z

@@ -9,30 +9,30 @@ use native.Mathlib.Omega.{arith}
 use lib.ListN.{length, getD}
 use lib.Dec.{leb, eqb}
 use borrow.Author.Tests.{leb-true, eqb-true, eqb-false}
 use Rattle.model.specs.Bytes.{stored, part}
 use Rattle.model.specs.Memories.{externalBase}
 use Rattle.model.specs.Lines.{emptyLine, l1dSetOf, l1dData, upperHalf}
 use Rattle.model.specs.Records.{State, sramOf, l2SetsOf, l2SetOf, mode0, l1dLineAt, l2LineAt, withL1dLine, withL2Line, Shape}
 use Rattle.model.specs.Ways.{l1dWay, l2Way, inL1d, inL2, emptyL1d, emptyL2}
 use Rattle.model.specs.Homes.{putL2, takeHalf, takeHalves, writeOutL2, writebackL2, evictL2}
 use Rattle.model.specs.Commands.{linesTouched, eachTouched, eachL2, atL1d, atL2, unlessMode0, dropL2, l2WritebackAll, l2WritebackInvalidateAll, l2WritebackBlock, l2WritebackInvalidateBlock, l2InvalidateBlock}
 use Rattle.model.specs.Refusals.{lentDue, blockDue}
 use Rattle.model.specs.Trace.{command}
 use Rattle.model.specs.Calls.{Reply, refused, carriedOut, commandDue, commandState, accepted, step, call}
 use Rattle.model.specs.Sram.{SramKept, L2CommandsKeepSram}
 use Rattle.model.specs.Laws.{bool, cond-elim, stored-before}
 use Rattle.model.specs.declared.Line.{Line}
 use Rattle.model.specs.declared.Command.{Command}
-use Rattle.model.proofs.Level.{Valid, Other}
-use Rattle.model.proofs.Invariant.{Layout}
-use Rattle.model.proofs.Tables.{l1dStore, line-other-set, line-other-way}
-use Rattle.model.proofs.Good.{l1dLevel, l2Level, Anything, Well, Kept, l1d-hit, l2-hit, l2-bounds}
-use Rattle.model.proofs.Writeback.{Swept, writebackL2-good, evictL2-good}
-use Rattle.model.proofs.ReadWrite.{Step}
-use Rattle.model.proofs.Sweeps.{each-by, step-refl, step-trans}
-use Rattle.model.proofs.Drops.{dropL2-step}
-use Rattle.model.proofs.Steps.{codes}
-use Rattle.model.proofs.Tested.{due-well}
+use Rattle.agreement.proofs.Level.{Valid, Other}
+use Rattle.agreement.proofs.Invariant.{Layout}
+use Rattle.agreement.proofs.Tables.{l1dStore, line-other-set, line-other-way}
+use Rattle.agreement.proofs.Good.{l1dLevel, l2Level, Anything, Well, Kept, l1d-hit, l2-hit, l2-bounds}
+use Rattle.agreement.proofs.Writeback.{Swept, writebackL2-good, evictL2-good}
+use Rattle.agreement.proofs.ReadWrite.{Step}
+use Rattle.agreement.proofs.Sweeps.{each-by, step-refl, step-trans}
+use Rattle.agreement.proofs.Drops.{dropL2-step}
+use Rattle.agreement.proofs.Steps.{codes}
+use Rattle.agreement.proofs.Tested.{due-well}
 
 sram-refl : (z : State) → SramKept z z
 sram-refl z = record { lines = λ _ _ _ _. refl; l1d = refl; sram = λ _ _. refl }

@@ -10,11 +10,11 @@ use mathlib.Core.Logic.{_≢_}
 use native.Mathlib.Omega.{arith}
 use lib.Dec.{eqb}
 use borrow.Author.Tests.{eqb-true, eqb-false}
 use Rattle.model.specs.Memories.{externalBase}
 use Rattle.model.specs.Lines.{emptyLine, lineOf}
 use Rattle.model.specs.Laws.{bool, false-true}
 use Rattle.model.specs.declared.Line.{Line}
-use Rattle.model.proofs.Level.{Level, Valid, NoDirty, Free, Sound, Replaced, same-slot, replaced-at, replaced-sound, replaced-nodirty, emptied-other, emptied-line, emptied-was, emptied-sound, kept-at, kept-sound, kept-is, kept-was}
+use Rattle.agreement.proofs.Level.{Level, Valid, NoDirty, Free, Sound, Replaced, same-slot, replaced-at, replaced-sound, replaced-nodirty, emptied-other, emptied-line, emptied-was, emptied-sound, kept-at, kept-sound, kept-is, kept-was}
 
 -- byte c may stand at address a. For flat memory f it is `c ≡ f a`; for a well-formed record alone it is anything
 abbrev pub Allowed : Type 1

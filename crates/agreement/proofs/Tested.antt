@@ -11,27 +11,27 @@ use lib.ListN.{length, getD}
 use lib.Seq.{ext-getD}
 use lib.Dec.{ltb, leb, eqb}
 use borrow.Author.Tests.{ltb-true, ltb-false, leb-true, le-leb, eqb-true, eqb-false, eq-eqb, ne-eqb, lt-ltb, le-ltb}
 use Rattle.model.specs.Basics.{anyOf, allIndexed}
 use Rattle.model.specs.Memories.{externalBase, legalL2, legalExternal, cacheSize, isMode}
 use Rattle.model.specs.Lines.{l1dSetOf, l1dData, l2Line, emptyLine, holds, Permutation2, Permutation4}
 use Rattle.model.specs.Records.{State, Shape, sramOf, l2SetsOf, mode0, l2SetOf, l2Data, marBit, noL1dSet, noL2Set, l1dSetAt, l2SetAt, l1dLineAt, l2LineAt, legalSizes, permuted2, permuted4, emptyWay, insideL2Line, l1dPlace, l2Place, l1dLineOk, l2LineOk, noneTwice, freshUnlessUsed, l1dSetOk, l2SetOk, wellFormed, freshL2Set, coveredByL2, ownL1dSet, l1dRegion, ownL2Set, inSram, l2Region, inCacheable, inUse}
 use Rattle.model.specs.Refusals.{lowestDue, unless, lentL1d, lentL2, lentExternal, lentDue}
 use Rattle.model.specs.Calls.{Reply, refused, step, call}
 use Rattle.model.specs.Laws.{bool, false-true, both-true, cond-elim, mode0-sets}
 use Rattle.model.specs.declared.Line.{Line}
 use Rattle.model.specs.declared.Order2.{Order2}
 use Rattle.model.specs.declared.Order4.{Order4}
 use Rattle.model.specs.declared.L2Set.{L2Set}
 use Rattle.model.specs.declared.Record.{Record}
 use Rattle.model.specs.declared.Command.{Command}
-use Rattle.model.proofs.Level.{Valid, Sound}
-use Rattle.model.proofs.Invariant.{L1dPlaced, L2Placed, InL2Line}
-use Rattle.model.proofs.Tables.{Store, l1dStore, l2Store, setIn, lineIn, levelOf, Shaped, Table, slot-cases, any-none}
-use Rattle.model.proofs.Good.{layoutOf, l1dLevel, l2Level, Sizes, Well, holds-yes, holds-tells}
-use Rattle.model.proofs.Changes.{l2-fresh}
-use Rattle.model.proofs.Due.{lowestDue-none, unless-none}
-use Rattle.model.proofs.Drops.{well}
-use Rattle.model.proofs.Steps.{step-well}
+use Rattle.agreement.proofs.Level.{Valid, Sound}
+use Rattle.agreement.proofs.Invariant.{L1dPlaced, L2Placed, InL2Line}
+use Rattle.agreement.proofs.Tables.{Store, l1dStore, l2Store, setIn, lineIn, levelOf, Shaped, Table, slot-cases, any-none}
+use Rattle.agreement.proofs.Good.{layoutOf, l1dLevel, l2Level, Sizes, Well, holds-yes, holds-tells}
+use Rattle.agreement.proofs.Changes.{l2-fresh}
+use Rattle.agreement.proofs.Due.{lowestDue-none, unless-none}
+use Rattle.agreement.proofs.Drops.{well}
+use Rattle.agreement.proofs.Steps.{step-well}
 
 -- ---- several tests, joined by `both`: each of them holds, by its place; and from all of them
 abbrev every : Bool → List Bool → Bool

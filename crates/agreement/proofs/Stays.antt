@@ -6,14 +6,14 @@ use mathlib.Core.Path.{_≡_, refl}
 use mathlib.Core.List.{List, [], _∷_}
 use lib.ListN.{length}
 use borrow.Author.Tests.{eq-eqb}
 use Rattle.model.specs.Memories.{legalL2, legalExternal}
 use Rattle.model.specs.Records.{State, Shape}
 use Rattle.model.specs.Refusals.{lentDue}
 use Rattle.model.specs.Calls.{freshOk, freshCall, viewDone, Call, oneCommand, freshStart, look, called, after}
 use Rattle.model.specs.Stays.{StaysWellFormed}
-use Rattle.model.proofs.Good.{Well}
-use Rattle.model.proofs.Tested.{legalL2-makes, legalExternal-makes, due-well, well-due, call-well}
-use Rattle.model.proofs.Agreement.{fresh-well}
+use Rattle.agreement.proofs.Good.{Well}
+use Rattle.agreement.proofs.Tested.{legalL2-makes, legalExternal-makes, due-well, well-due, call-well}
+use Rattle.agreement.proofs.Agreement.{fresh-well}
 
 start-well : (z : State) → Well z → Well (called freshStart z .next)
 unfolding freshCall freshOk

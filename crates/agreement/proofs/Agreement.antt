@@ -11,30 +11,30 @@ use lib.ListN.{length, length-replicate}
 use lib.Seq.{ext-getD}
 use lib.Dec.{ltb, eqb}
 use borrow.Author.Tests.{eqb-true, ne-eqb, lt-leb}
 use Rattle.model.specs.Bytes.{little, littleBytes, zeroFrom}
 use Rattle.model.specs.Memories.{l1dLength, externalBase, legalL2, legalExternal, cacheSize, isMode, sramLength}
 use Rattle.model.specs.Records.{State, state, sramOf, l2SetsOf, l2LineAt, freshRecord, freshState}
 use Rattle.model.specs.Access.{readAccess, writeAccess}
 use Rattle.model.specs.Modes.{smaller, flushL2, newMode, changeMode}
 use Rattle.model.specs.Commands.{l2WritebackAll, l2WritebackInvalidateAll}
 use Rattle.model.specs.Flat.{Flat, flat, freshFlat, flatPart, flatPut, flatMode, FlatReply, flatReply, flatRead, flatWrite, flatChange, flatStep, flatCalled, flatAfter}
 use Rattle.model.specs.Refusals.{accessDue, modeDue}
 use Rattle.model.specs.Trace.{command}
 use Rattle.model.specs.Calls.{Reply, refused, carriedOut, freshOk, freshCall, commandDue, readDone, writeDone, commandState, accepted, step, call, viewDone, Call, oneCommand, freshStart, look, called, after, commands}
 use Rattle.model.specs.Demand.{listedCode, listedCall, listed, compared, global, modeAfter, modeAlong, Settled, AgreesAt, Agree, Demand3, CommandsDemand3, end, next}
 use Rattle.model.specs.Laws.{bool, false-true, both-true, cond-elim, length-littleBytes}
 use Rattle.model.specs.declared.Command.{Command}
-use Rattle.model.proofs.Level.{Valid}
-use Rattle.model.proofs.Invariant.{Allowed, Layout}
-use Rattle.model.proofs.Memory.{memoryByte, memory-low, memory-high, lowStored, highStored, low-length, high-length, Fits, read-length, read-at, written-same, wrote-memory}
-use Rattle.model.proofs.Good.{l1dLevel, l2Level, Good, Well, good-well}
-use Rattle.model.proofs.ReadWrite.{Step}
-use Rattle.model.proofs.Sweeps.{SweptTo, flushed, l2WritebackAll-good, l2WritebackInvalidateAll-good, flush-good}
-use Rattle.model.proofs.Changes.{zero-length, zero-below, zero-above, smaller-bound, fresh-good, newMode-good}
-use Rattle.model.proofs.Due.{access-tells, accepted-read, accepted-write, mode-tells, mode-sets}
-use Rattle.model.proofs.Steps.{codes, Quiet, quiet-step, quiet-2, quiet-3, quiet-4, quiet-5, quiet-7, quiet-11}
-use Rattle.model.proofs.Tested.{legalL2-tells, legalExternal-tells, call-step}
-use Rattle.model.proofs.Flushes.{sweptL1d, change-swept}
+use Rattle.agreement.proofs.Level.{Valid}
+use Rattle.agreement.proofs.Invariant.{Allowed, Layout}
+use Rattle.agreement.proofs.Memory.{memoryByte, memory-low, memory-high, lowStored, highStored, low-length, high-length, Fits, read-length, read-at, written-same, wrote-memory}
+use Rattle.agreement.proofs.Good.{l1dLevel, l2Level, Good, Well, good-well}
+use Rattle.agreement.proofs.ReadWrite.{Step}
+use Rattle.agreement.proofs.Sweeps.{SweptTo, flushed, l2WritebackAll-good, l2WritebackInvalidateAll-good, flush-good}
+use Rattle.agreement.proofs.Changes.{zero-length, zero-below, zero-above, smaller-bound, fresh-good, newMode-good}
+use Rattle.agreement.proofs.Due.{access-tells, accepted-read, accepted-write, mode-tells, mode-sets}
+use Rattle.agreement.proofs.Steps.{codes, Quiet, quiet-step, quiet-2, quiet-3, quiet-4, quiet-5, quiet-7, quiet-11}
+use Rattle.agreement.proofs.Tested.{legalL2-tells, legalExternal-tells, call-step}
+use Rattle.agreement.proofs.Flushes.{sweptL1d, change-swept}
 
 -- ---- chip and flat memory match: every byte that counts is flat memory's, and the sizes are the same
 abbrev flatByte : Flat → ℕ → ℕ

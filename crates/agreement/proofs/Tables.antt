@@ -12,14 +12,14 @@ use lib.ListN.{getD, set, length, replicate, length-set, length-replicate, getD-
 use lib.Seq.{getD-set-same, getD-set-other}
 use lib.Dec.{ltb, eqb}
 use borrow.Author.Tests.{ltb-true, ltb-false, eqb-true, eqb-false}
 use Rattle.model.specs.Basics.{anyOf}
 use Rattle.model.specs.Lines.{emptyLine, Permutation2, Permutation4, l1dPut, l2Put}
 use Rattle.model.specs.Records.{noL1dSet, noL2Set}
 use Rattle.model.specs.Laws.{bool, false-true}
 use Rattle.model.specs.declared.Line.{Line}
 use Rattle.model.specs.declared.L1dSet.{L1dSet}
 use Rattle.model.specs.declared.L2Set.{L2Set}
-use Rattle.model.proofs.Level.{Level, Valid, Other, Replaced}
+use Rattle.agreement.proofs.Level.{Level, Valid, Other, Replaced}
 
 -- ---- how the record holds a cache: one set of it, what stands for a set past the end, a set's lines, a line replaced, when its order is a permutation
 pub record Store : Type 1 where

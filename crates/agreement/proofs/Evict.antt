@@ -11,19 +11,19 @@ use native.Mathlib.Omega.{arith}
 use lib.ListN.{length, getD}
 use lib.Dec.{ltb, eqb}
 use borrow.Author.Tests.{ltb-true, ltb-false, eqb-true, eqb-false}
 use Rattle.model.specs.Bytes.{stored, part}
 use Rattle.model.specs.Memories.{externalBase}
 use Rattle.model.specs.Lines.{l1dSetOf, l1dData, l1dLine, l2Line, upperHalf, emptyLine, lineOf}
 use Rattle.model.specs.Records.{State, withL2, withExternal, sramOf, l2SetOf, l2Data, marBit, l1dLineAt, l2LineAt, withL1dLine, withL2Line}
 use Rattle.model.specs.Ways.{l1dWay, l2Way, inL1d, inL2, emptyL1d}
 use Rattle.model.specs.Access.{writebackL1d, evictL1d}
 use Rattle.model.specs.Homes.{homeIsL2, putMemory, putL2, putHome, takeHalf, takeHalves}
 use Rattle.model.specs.Laws.{bool, false-true, cond-elim, length-stored, length-part, part-at}
 use Rattle.model.specs.declared.Line.{Line}
-use Rattle.model.proofs.Level.{Valid, Free, Replaced, same-slot, emptied-line, kept-valid, kept-address}
-use Rattle.model.proofs.Invariant.{Allowed, Inside, Invariant, invariant-same, l1d-dropped, l1d-into-memory, l1d-into-l2}
-use Rattle.model.proofs.Memory.{memoryByte, memory-low, memory-high, lowStored, highStored, Fits, low-length, high-length, stored-elsewhere, Wrote, wrote-memory, half-in, half-out}
-use Rattle.model.proofs.Good.{layoutOf, l1dLevel, l2Level, memoryOf, Tidy, Good, Kept, kept-refl, kept-trans, l1d-hit, l2-hit, l1d-miss, l2-miss, l2-bounds, home-memory, home-l2, l1d-fits, l2-fits, l2-rest, l1d-replaced, l1d-tidy, l2-replaced, l2-tidy}
+use Rattle.agreement.proofs.Level.{Valid, Free, Replaced, same-slot, emptied-line, kept-valid, kept-address}
+use Rattle.agreement.proofs.Invariant.{Allowed, Inside, Invariant, invariant-same, l1d-dropped, l1d-into-memory, l1d-into-l2}
+use Rattle.agreement.proofs.Memory.{memoryByte, memory-low, memory-high, lowStored, highStored, Fits, low-length, high-length, stored-elsewhere, Wrote, wrote-memory, half-in, half-out}
+use Rattle.agreement.proofs.Good.{layoutOf, l1dLevel, l2Level, memoryOf, Tidy, Good, Kept, kept-refl, kept-trans, l1d-hit, l2-hit, l1d-miss, l2-miss, l2-bounds, home-memory, home-l2, l1d-fits, l2-fits, l2-rest, l1d-replaced, l1d-tidy, l2-replaced, l2-tidy}
 
 -- bytes put into SRAM or external memory, both lists said at once
 pub putMemory-state : (a : ℕ) (bs : List ℕ) (z : State) →

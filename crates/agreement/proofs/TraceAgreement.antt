@@ -11,21 +11,21 @@ use lib.ListN.{length, getD, drop}
 use lib.Seq.{ext-getD}
 use lib.Dec.{ltb, leb}
 use borrow.Author.Tests.{ltb-true, ltb-false, leb-true, leb-false, le-ltb}
 use Rattle.model.specs.Bytes.{part, stored, littleBytes}
 use Rattle.model.specs.Records.{State, freshState}
 use Rattle.model.specs.Flat.{Flat, freshFlat, flatStep, flatAfter}
 use Rattle.model.specs.Calls.{Reply, Run, ran, step, call, putAnswer, runFrom, runCall, commandAt, putReply, Call, oneCommand, after, commands}
 use Rattle.model.specs.Demand.{listedCode, listed, compared, modeAlong}
 use Rattle.model.specs.Traces.{TurnsSuffice, carriedFrom, carried, AnswersAre, Carries, RunIsCalls, AnswersAgree, Piece, pieceCommands, allCommands, RunAgrees, RunsAgree, TraceDemand3}
 use Rattle.model.specs.Laws.{bool, both-true, length-part, length-stored, length-littleBytes, part-at}
 use Rattle.model.specs.declared.Command.{Command}
-use Rattle.model.proofs.Memory.{stored-at, stored-elsewhere}
-use Rattle.model.proofs.Good.{Well, good-well}
-use Rattle.model.proofs.Reading.{decode-stable}
-use Rattle.model.proofs.Steps.{step-well}
-use Rattle.model.proofs.Tested.{well-due, call-step}
-use Rattle.model.proofs.Agreement.{Is, Matches, step-answered, agree, after-matches, ends-settled, fresh-matches, fresh-mode, fresh-accepted}
+use Rattle.agreement.proofs.Memory.{stored-at, stored-elsewhere}
+use Rattle.agreement.proofs.Good.{Well, good-well}
+use Rattle.agreement.proofs.Reading.{decode-stable}
+use Rattle.agreement.proofs.Steps.{step-well}
+use Rattle.agreement.proofs.Tested.{well-due, call-step}
+use Rattle.agreement.proofs.Agreement.{Is, Matches, step-answered, agree, after-matches, ends-settled, fresh-matches, fresh-mode, fresh-accepted}
 use Rattle.model.specs.Traces as T
 
 -- ---- the turns suffice: a turn more changes nothing, as long as there are as many as bytes left
 module _ (t : List ℕ) where

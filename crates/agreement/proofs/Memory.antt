@@ -10,10 +10,10 @@ use native.Mathlib.Omega.{arith}
 use lib.ListN.{length, getD}
 use lib.Dec.{ltb}
 use borrow.Author.Tests.{ltb-true, ltb-false, lt-ltb, le-ltb}
 use Rattle.model.specs.Bytes.{stored, part}
 use Rattle.model.specs.Memories.{externalBase}
 use Rattle.model.specs.Laws.{bool, cond-elim, length-stored, length-part, stored-before, stored-in, stored-after, part-at}
-use Rattle.model.proofs.Invariant.{Allowed, carry}
+use Rattle.agreement.proofs.Invariant.{Allowed, carry}
 
 -- ---- stored, said once: a byte inside is that of the bytes put there, a byte outside is what it was
 module _ (m bs : List ℕ) (p : ℕ) (fits : p + length bs ≤ length m) where

@@ -10,15 +10,15 @@ use native.Mathlib.Omega.{arith}
 use lib.ListN.{length, drop, length-drop}
 use lib.Seq.{drop-append-le, drop-drop}
 use borrow.Author.Tests.{lt-ltb, le-ltb, le-leb}
 use Rattle.model.specs.Records.{State}
 use Rattle.model.specs.Trace.{Decoded, decode}
 use Rattle.model.specs.Calls.{call, runCall, commandAt, after, commands}
 use Rattle.model.specs.Traces.{carriedFrom, carried, Piece, pieceCommands, allCommands}
 use Rattle.model.specs.declared.Command.{Command}
-use Rattle.model.proofs.Good.{Well}
-use Rattle.model.proofs.Reading.{decode-stable}
-use Rattle.model.proofs.Stays.{after-well}
-use Rattle.model.proofs.TraceAgreement.{run-calls}
+use Rattle.agreement.proofs.Good.{Well}
+use Rattle.agreement.proofs.Reading.{decode-stable}
+use Rattle.agreement.proofs.Stays.{after-well}
+use Rattle.agreement.proofs.TraceAgreement.{run-calls}
 
 -- ---- a trace of whole commands
 pub data Whole : List ℕ → List Command → Type 0 where

@@ -11,26 +11,26 @@ use native.Mathlib.Omega.{arith}
 use lib.ListN.{getD}
 use lib.Dec.{eqb}
 use borrow.Author.Tests.{eqb-true, eqb-false}
 use Rattle.model.specs.Basics.{each}
 use Rattle.model.specs.Memories.{externalBase}
 use Rattle.model.specs.Lines.{l1dSetOf, emptyLine, l2Sets}
 use Rattle.model.specs.Records.{State, l2SetsOf, mode0, l2SetOf, l1dLineAt, l2LineAt}
 use Rattle.model.specs.Ways.{l1dWay, l2Way, inL1d, inL2}
 use Rattle.model.specs.Access.{evictL1d}
 use Rattle.model.specs.Homes.{writeOutL2, writebackL2, evictL2}
 use Rattle.model.specs.Modes.{flushL2}
 use Rattle.model.specs.Commands.{linesTouched, eachTouched, eachL2, atL2, atL1d, unlessMode0, l2WritebackAll, l2WritebackInvalidateAll, l2WritebackBlock, l2WritebackInvalidateBlock, l1dWritebackInvalidateBlock}
 use Rattle.model.specs.Laws.{bool, false-true, cond-elim, no-ways}
 use Rattle.model.specs.declared.Line.{Line}
 use Rattle.model.specs.declared.Record.{Record}
-use Rattle.model.proofs.Level.{Valid, same-slot}
-use Rattle.model.proofs.Invariant.{Allowed, carry}
-use Rattle.model.proofs.Memory.{memory-high}
-use Rattle.model.proofs.Good.{l1dLevel, l2Level, Good, kept-refl, kept-trans, l1d-hit, l2-hit, l1d-bounds, l2-bounds}
-use Rattle.model.proofs.Evict.{evictL1d-good}
-use Rattle.model.proofs.Writeback.{WrittenOut, writeOutL2-good, Done, Swept, writebackL2-good, evictL2-good}
-use Rattle.model.proofs.ReadWrite.{Step}
-use Rattle.model.proofs.Flushes.{sweptL1d}
+use Rattle.agreement.proofs.Level.{Valid, same-slot}
+use Rattle.agreement.proofs.Invariant.{Allowed, carry}
+use Rattle.agreement.proofs.Memory.{memory-high}
+use Rattle.agreement.proofs.Good.{l1dLevel, l2Level, Good, kept-refl, kept-trans, l1d-hit, l2-hit, l1d-bounds, l2-bounds}
+use Rattle.agreement.proofs.Evict.{evictL1d-good}
+use Rattle.agreement.proofs.Writeback.{WrittenOut, writeOutL2-good, Done, Swept, writebackL2-good, evictL2-good}
+use Rattle.agreement.proofs.ReadWrite.{Step}
+use Rattle.agreement.proofs.Flushes.{sweptL1d}
 
 -- ---- a loop over 0 .. n - 1: what holds at first, and is carried from k to k + 1, holds at n
 pub each-by {ℓ} : {A : Type ℓ} (P : ℕ → A → Type 0) (f : ℕ → A → A) (n : ℕ) (z : A) → P 0 z →

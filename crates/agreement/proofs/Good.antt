@@ -12,21 +12,21 @@ use lib.ListN.{length, getD}
 use lib.Seq.{getD-set-other}
 use lib.Dec.{ltb, eqb}
 use borrow.Author.Tests.{ltb-true, ltb-false, eqb-true, eqb-false, eq-eqb}
 use Rattle.model.specs.Bytes.{stored}
 use Rattle.model.specs.Memories.{externalBase, cacheSize, isMode}
 use Rattle.model.specs.Lines.{l1dSetOf, l1dData, l2Slot, l1dLine, l2Line, emptyLine, holds, l1dGet, l2Get, l2Put, l1dUse, l2Use}
 use Rattle.model.specs.Records.{State, withRecord, withL1d, withL2, withExternal, sramOf, l2SetsOf, mode0, l2SetOf, l2Data, marBit, noL2Set, l1dSetAt, l2SetAt, l1dLineAt, l2LineAt, withL1dLine, withL2Line, freshL2Set}
 use Rattle.model.specs.Ways.{wayHolding, lowestInvalid, l1dFind, l2Find, l1dVictim, l2Victim, l1dWay, l2Way, inL1d, inL2, useL1d, useL2}
 use Rattle.model.specs.Homes.{homeIsL2}
 use Rattle.model.specs.Laws.{bool, false-true, both-true, cond-elim, used2-permutation, used4-permutation, mode0-sets}
 use Rattle.model.specs.declared.Line.{Line}
 use Rattle.model.specs.declared.L1dSet.{L1dSet}
 use Rattle.model.specs.declared.L2Set.{L2Set}
 use Rattle.model.specs.declared.Record.{Record}
-use Rattle.model.proofs.Level.{Level, Valid, Other, Free, Replaced}
-use Rattle.model.proofs.Invariant.{Allowed, Layout, Invariant, invariant-same}
-use Rattle.model.proofs.Tables.{l1dStore, l2Store, levelOf, Table, table-line, replaced-line, table-used, line-used}
-use Rattle.model.proofs.Memory.{memoryByte, other-slot}
+use Rattle.agreement.proofs.Level.{Level, Valid, Other, Free, Replaced}
+use Rattle.agreement.proofs.Invariant.{Allowed, Layout, Invariant, invariant-same}
+use Rattle.agreement.proofs.Tables.{l1dStore, l2Store, levelOf, Table, table-line, replaced-line, table-used, line-used}
+use Rattle.agreement.proofs.Memory.{memoryByte, other-slot}
 
 -- ---- the state as the invariant sees it
 abbrev pub layoutOf : Record → Layout

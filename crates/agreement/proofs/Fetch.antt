@@ -12,22 +12,22 @@ use native.Mathlib.Nat.{mod-lt}
 use lib.ListN.{length, getD}
 use lib.Dec.{ltb}
 use borrow.Author.Tests.{ltb-false, le-ltb}
 use Rattle.model.specs.Bytes.{stored, part}
 use Rattle.model.specs.Memories.{externalBase}
 use Rattle.model.specs.Lines.{l1dSetOf, l1dData, l1dLine, l2Line, lineOf}
 use Rattle.model.specs.Records.{State, l2SetsOf, l2SetOf, l2Data, covers, marBit, l2SetAt, l1dLineAt, l2LineAt, withL1dLine}
 use Rattle.model.specs.Ways.{l2Victim, l2Way, inL2, useL2}
 use Rattle.model.specs.Access.{cacheable, homeLine, fillL1d}
 use Rattle.model.specs.Homes.{homeIsL2, memoryPart, evictL2, fillL2, l2WayFor, fetchL2}
 use Rattle.model.specs.Laws.{bool, false-true, cond-elim, length-stored, length-part, part-at}
 use Rattle.model.specs.declared.Line.{Line}
 use Rattle.model.specs.declared.Record.{Record}
-use Rattle.model.proofs.Level.{Valid, Other, NoDirty, Free, Replaced, same-slot}
-use Rattle.model.proofs.Invariant.{Allowed, carry, Layout, Inside, L1dPlaced, L2Placed, InL2Line, l1d-filled}
-use Rattle.model.proofs.Memory.{Fits, read-length, read-at, stored-at}
-use Rattle.model.proofs.Good.{layoutOf, l1dLevel, l2Level, memoryOf, Good, Kept, kept-refl, kept-trans, Hit, l2-hit, l2-miss, l2-bounds, l2-victim-bound, home-l2, l1d-fits, l2-fits, l1d-rest, l1d-replaced, l1d-tidy, l2-used-line, useL2-good, useL2-kept, cache-whole}
-use Rattle.model.proofs.Evict.{memory-free}
-use Rattle.model.proofs.Writeback.{evictL2-good, fillL2-good}
+use Rattle.agreement.proofs.Level.{Valid, Other, NoDirty, Free, Replaced, same-slot}
+use Rattle.agreement.proofs.Invariant.{Allowed, carry, Layout, Inside, L1dPlaced, L2Placed, InL2Line, l1d-filled}
+use Rattle.agreement.proofs.Memory.{Fits, read-length, read-at, stored-at}
+use Rattle.agreement.proofs.Good.{layoutOf, l1dLevel, l2Level, memoryOf, Good, Kept, kept-refl, kept-trans, Hit, l2-hit, l2-miss, l2-bounds, l2-victim-bound, home-l2, l1d-fits, l2-fits, l1d-rest, l1d-replaced, l1d-tidy, l2-used-line, useL2-good, useL2-kept, cache-whole}
+use Rattle.agreement.proofs.Evict.{memory-free}
+use Rattle.agreement.proofs.Writeback.{evictL2-good, fillL2-good}
 
 -- ---- MAR bits are of whole lines
 mar-line : (r : Record) (a b : ℕ) → b / 16777216 ≡ a / 16777216 → marBit r b ≡ marBit r a
