@@ -1,6 +1,8 @@
--- Demand 3 is met (`demand3`). Shown first of one command: where the chip is good by flat memory's bytes (`Matches`), both give the same answer and match again.
--- Why: an accepted read reads right bytes, so the same; a write changes flat memory as it changes what is right; a mode change likewise; the other commands
--- are not seen. After a global writeback in a mode with an L2 cache every place of external memory is right, so the two lists are equal.
+-- Demand 3 is met (`demand3`). Shown first of one command: where the chip is good by flat memory's bytes (`Matches`),
+-- both give the same answer and match again.
+-- Why: an accepted read reads right bytes, so the same; a write changes flat memory as it changes what is right; a
+-- mode change likewise; the other commands are not seen. After a global writeback in a mode with an L2 cache every
+-- place of external memory is right, so the two lists are equal.
 use Prim.Native.Nat.{ℕ, _+_, _*_, _-_, _≤_, _<_}
 use mathlib.Core.Bool.{true, false, _&&_}
 use mathlib.Core.Path.{_≡_, refl, sym, ap, _∙_, subst}
@@ -20,7 +22,7 @@ use Rattle.model.specs.Commands.{l2WritebackAll, l2WritebackInvalidateAll}
 use Rattle.model.specs.Flat.{Flat, flat, freshFlat, flatPart, flatPut, flatMode, FlatReply, flatReply, flatRead, flatWrite, flatChange, flatStep, flatCalled, flatAfter}
 use Rattle.model.specs.Refusals.{accessDue, modeDue}
 use Rattle.model.specs.Trace.{command}
-use Rattle.model.specs.Calls.{Reply, refused, carriedOut, freshOk, freshCall, commandDue, readDone, writeDone, commandState, accepted, step, call, viewDone, Call, oneCommand, freshStart, look, called, after, commands}
+use Rattle.model.specs.Calls.{Reply, refused, carriedOut, freshOk, freshCall, commandDue, readDone, writeDone, commandState, accepted, step, viewDone, Call, oneCommand, freshStart, look, called, after, commands}
 use Rattle.model.specs.Demand.{listedCode, listedCall, listed, compared, global, modeAfter, modeAlong, Settled, AgreesAt, Agree, Demand3, CommandsDemand3, end, next}
 use Rattle.model.specs.Laws.{bool, false-true, both-true, cond-elim, length-littleBytes}
 use Rattle.model.specs.declared.Command.{Command}

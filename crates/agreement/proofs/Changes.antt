@@ -1,11 +1,12 @@
 -- A change of the mode, a change of a MAR bit, and the fresh start. Shown: each leaves (or makes) a good state.
--- Why: with every set fresh no line holds anything, so only the memories count (`fresh-good`). Before a mode change nothing is valid in L1D and nothing dirty
--- in L2, so the memories are right; SRAM keeps its bytes below the smaller of old and new S and is zero from there on, as flat memory's. A MAR bit becomes 0 only
--- where no line of its 16 MiB is held, so that every line held keeps its bit.
+-- Why: with every set fresh no line holds anything, so only the memories count (`fresh-good`). Before a mode change
+-- nothing is valid in L1D and nothing dirty in L2, so the memories are right; SRAM keeps its bytes below the smaller
+-- of old and new S and is zero from there on, as flat memory's. A MAR bit becomes 0 only where no line of its 16 MiB
+-- is held, so that every line held keeps its bit.
 use Prim.Native.Nat.{ℕ, zero, suc, _+_, _-_, _/_, _≤_, _<_}
 use mathlib.Core.Bool.{true, false}
 use mathlib.Core.Path.{_≡_, refl, sym, ap, _∙_}
-use mathlib.Core.Logic.{_≢_, _⊎_, ⊎-elim}
+use mathlib.Core.Logic.{_⊎_, ⊎-elim}
 use mathlib.Core.List.{List, _++_}
 use native.Mathlib.Omega.{arith}
 use native.Mathlib.Nat.{add-sub-of-le}

@@ -1,6 +1,8 @@
--- A trace of whole commands, and traces cut at command boundaries. Shown: a run over a trace of whole commands, with answer bytes for all, carries out just these
--- (`whole-carried`); the pieces of such a trace, cut at command boundaries, carry out the same commands as the trace in one piece (`pieces-carried`,
--- `pieces-whole`), so that by `run-calls` each answer is the same, and leave the same state (`cut-anywhere`), on every well-formed state and for every code.
+-- A trace of whole commands, and traces cut at command boundaries. Shown: a run over a trace of whole commands, with
+-- answer bytes for all, carries out just these (`whole-carried`); the pieces of such a trace, cut at command
+-- boundaries, carry out the same commands as the trace in one piece (`pieces-carried`, `pieces-whole`), so that by
+-- `run-calls` each answer is the same, and leave the same state (`cut-anywhere`), on every well-formed state and for
+-- every code.
 -- Why: reading a command looks at its own bytes only, and takes one at least (`decode-stable` of Reading).
 use Prim.Native.Nat.{ℕ, zero, suc, _+_, _*_, _≤_, _<_}
 use mathlib.Core.Bool.{true}

@@ -1,7 +1,7 @@
--- The commands that invalidate and write nothing: L1D lines and L2 lines are dropped. Shown: a well-formed record stays well formed. Nothing is said of
--- bytes, since a dropped dirty line loses its own.
--- Why: a slot that becomes empty keeps every other line where it was; and an L2 line is dropped only after both its halves were, so that no external L1D line
--- loses the L2 line around it.
+-- The commands that invalidate and write nothing: L1D lines and L2 lines are dropped. Shown: a well-formed record
+-- stays well formed. Nothing is said of bytes, since a dropped dirty line loses its own.
+-- Why: a slot that becomes empty keeps every other line where it was; and an L2 line is dropped only after both its
+-- halves were, so that no external L1D line loses the L2 line around it.
 use Prim.Native.Nat.{ℕ, _/_, _%_, _≤_, _<_}
 use mathlib.Core.Path.{_≡_, refl, sym, ap, _∙_}
 use mathlib.Core.Logic.{_≢_}

@@ -1,6 +1,7 @@
--- What a number 0 tells: an access that is not refused has a legal size, is aligned and lies in SRAM or external memory; a mode that is not refused is one
--- and fits; a MAR change that is not refused sets a bit, or no line of its range is held. Each refusal is `lowestDue (unless test n) ..`, so that one lemma
--- (`lowestDue-none`) takes them apart.
+-- What a number 0 tells: an access that is not refused has a legal size, is aligned and lies in SRAM or external
+-- memory; a mode that is not refused is one and fits; a MAR change that is not refused sets a bit, or no line of its
+-- range is held. Each refusal is `lowestDue (unless test n) ..`, so that one lemma (`lowestDue-none`) takes them
+-- apart.
 use Prim.Native.Nat.{ℕ, suc, _+_, _-_, _/_, _%_, _≤_, _<_}
 use mathlib.Core.Bool.{Bool, true, false, not, _&&_, _||_}
 use mathlib.Core.Path.{_≡_, refl, sym, _∙_, subst}
@@ -13,22 +14,13 @@ use Rattle.model.specs.Memories.{externalBase, cacheSize, isMode}
 use Rattle.model.specs.Records.{State, sramOf}
 use Rattle.model.specs.Access.{readAccess, writeAccess}
 use Rattle.model.specs.Refusals.{holdsRange, lowestDue, unless, sizeOk, placeOk, valueOk, accessDue, modeDue, marDue}
-use Rattle.model.specs.Laws.{bool, false-true, both-true, length-littleBytes}
+use Rattle.model.specs.Laws.{bool, false-true, both-true, length-littleBytes, lowestDue-none, unless-none}
 use Rattle.model.specs.declared.Record.{Record}
 use Rattle.agreement.proofs.Invariant.{Allowed}
 use Rattle.agreement.proofs.Memory.{Written}
 use Rattle.agreement.proofs.Good.{layoutOf, Good}
 use Rattle.agreement.proofs.Fetch.{AccessFits}
 use Rattle.agreement.proofs.ReadWrite.{ReadGood, read-good, Step, write-good}
-
--- ---- the first of two numbers is 0: its test holds, and the other number is 0
-pub lowestDue-none : (b : Bool) (n k : ℕ) → lowestDue (unless b (suc n)) k ≡ 0 → (b ≡ true) × (k ≡ 0)
-lowestDue-none true n k e = (refl, e)
-lowestDue-none false n k e = absurd (omega arith)
-
-pub unless-none : (b : Bool) (n : ℕ) → unless b (suc n) ≡ 0 → b ≡ true
-unless-none true n e = refl
-unless-none false n e = absurd (omega arith)
 
 not-yes : (b : Bool) → not b ≡ true → b ≡ false
 not-yes true h = false-true h

@@ -1,7 +1,9 @@
--- An L1D line leaves: it goes home if it is dirty, and its way becomes empty; likewise the two halves of an L2 line. Shown: the state stays good, L1D
--- only has fewer lines, L2 has the same lines, and an L2 line of which L1D held nothing gets no dirtier.
--- Why: the bytes that go out are right (L1D is never behind), and they go to the next place for that address: to SRAM or external memory where L2 does not
--- hold the line, else to the L2 line, which becomes dirty. That L2 has it follows from inclusion.
+-- An L1D line leaves: it goes home if it is dirty, and its way becomes empty; likewise the two halves of an L2 line.
+-- Shown: the state stays good, L1D only has fewer lines, L2 has the same lines, and an L2 line of which L1D held
+-- nothing gets no dirtier.
+-- Why: the bytes that go out are right (L1D is never behind), and they go to the next place for that address: to SRAM
+-- or external memory where L2 does not hold the line, else to the L2 line, which becomes dirty. That L2 has it
+-- follows from inclusion.
 use Prim.Native.Nat.{ℕ, _+_, _*_, _-_, _/_, _%_, _≤_, _<_}
 use mathlib.Core.Bool.{true, false, cond}
 use mathlib.Core.Path.{_≡_, refl, sym, ap, _∙_}

@@ -1,8 +1,9 @@
--- The line of an access comes into L2, then into L1D. Shown: after `fetchL2` the way that was found or chosen holds the line; the 64 bytes of the home
--- are right; after `fillL1d` the L1D way holds them, clean.
--- Why: the way is emptied first, so that nothing is lost; nobody else holds the line, or the search would have found it; the home's bytes are right because
--- L1D does not hold the line, and where the home is SRAM or external memory L2 does not hold it either.
-use Prim.Native.Nat.{ℕ, suc, _+_, _*_, _-_, _/_, _%_, _≤_, _<_}
+-- The line of an access comes into L2, then into L1D. Shown: after `fetchL2` the way that was found or chosen holds
+-- the line; the 64 bytes of the home are right; after `fillL1d` the L1D way holds them, clean.
+-- Why: the way is emptied first, so that nothing is lost; nobody else holds the line, or the search would have found
+-- it; the home's bytes are right because L1D does not hold the line, and where the home is SRAM or external memory L2
+-- does not hold it either.
+use Prim.Native.Nat.{ℕ, suc, _+_, _-_, _/_, _%_, _≤_, _<_}
 use mathlib.Core.Bool.{true, false, cond}
 use mathlib.Core.Path.{_≡_, refl, sym, ap, _∙_}
 use mathlib.Core.Logic.{_≢_}

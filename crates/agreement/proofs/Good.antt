@@ -1,7 +1,10 @@
--- The chip's state as the invariant sees it: L1D and L2 as levels, SRAM and external memory as one memory, what a mode and the MAR bits fix as a layout.
--- `Good z F` says that the state is well formed and that every byte a program can see is right by F; `Well z` is the same with any byte allowed.
--- Shown: a search of a set finds the line or nobody holds it (one lemma on `wayHolding` for both caches); a chosen way is one of the set; slots do
--- not overlap; and one line or one order of the record replaced keeps lengths, orders and empty ways (from `Tables`, for both caches).
+-- The chip's state as the invariant sees it: L1D and L2 as levels, SRAM and external memory as one memory, what a
+-- mode and the MAR bits fix as a layout.
+-- `Good z F` says that the state is well formed and that every byte a program can see is right by F; `Well z` is the
+-- same with any byte allowed.
+-- Shown: a search of a set finds the line or nobody holds it (one lemma on `wayHolding` for both caches); a chosen
+-- way is one of the set; slots do not overlap; and one line or one order of the record replaced keeps lengths, orders
+-- and empty ways (from `Tables`, for both caches).
 use Prim.Native.Nat.{ℕ, zero, suc, _+_, _*_, _/_, _%_, _≤_, _<_}
 use mathlib.Core.Bool.{true, false, cond}
 use mathlib.Core.Path.{_≡_, refl, sym, ap, _∙_}

@@ -1,6 +1,8 @@
--- Bytes put into a lent memory, and SRAM and external memory seen as one by address: SRAM from 0, external memory from 80000000h.
--- Shown: what each byte is after bytes were put at an address, after a line was copied, after half a line went into a slot; and what may stand where
--- (`Written`) after a write. All of it rests on the laws of `stored` and `part` (Bytes), so that nothing above this file opens them.
+-- Bytes put into a lent memory, and SRAM and external memory seen as one by address: SRAM from 0, external memory
+-- from 80000000h.
+-- Shown: what each byte is after bytes were put at an address, after a line was copied, after half a line went into a
+-- slot; and what may stand where (`Written`) after a write. All of it rests on the laws of `stored` and `part`
+-- (Bytes), so that nothing above this file opens them.
 use Prim.Native.Nat.{ℕ, _+_, _*_, _-_, _/_, _%_, _≤_, _<_}
 use mathlib.Core.Bool.{cond}
 use mathlib.Core.Path.{_≡_, refl, sym, _∙_}

@@ -1,7 +1,9 @@
--- Reads and writes, whole. Shown: an accepted read leaves the state good and every byte that it read is right; an accepted write of the bytes bs at a
--- takes a state that is good by F to one that is good by F′, where F′ is F with bs written at a.
--- Why: a read reads the L1D way that holds the line, found or just filled, or memory that no line holds. A write goes to one place, the highest that holds the
--- line, which becomes dirty: so every place below that is behind now has a dirty line above it, and no other place holds the address.
+-- Reads and writes, whole. Shown: an accepted read leaves the state good and every byte that it read is right; an
+-- accepted write of the bytes bs at a takes a state that is good by F to one that is good by F′, where F′ is F with
+-- bs written at a.
+-- Why: a read reads the L1D way that holds the line, found or just filled, or memory that no line holds. A write goes
+-- to one place, the highest that holds the line, which becomes dirty: so every place below that is behind now has a
+-- dirty line above it, and no other place holds the address.
 use Prim.Native.Nat.{ℕ, suc, _+_, _%_, _≤_, _<_}
 use mathlib.Core.Bool.{true, false, cond}
 use mathlib.Core.Path.{_≡_, refl, sym, ap, _∙_, subst}

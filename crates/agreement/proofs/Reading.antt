@@ -120,7 +120,8 @@ after-stable c xs ys h =
     (λ w. record { same = rw (t, u, v, w) refl; least = rw (t, u, v, w) (omega arith); most = rw (t, u, v, w) (omega arith) })
     (λ w. false-true (rw (t, u, v, w) at h)))))
 
--- ---- a command that is read stays the same whatever stands behind it; it takes a byte at least, and none behind what was read
+-- ---- a command that is read stays the same whatever stands behind it; it takes a byte at least, and none behind
+-- what was read
 pub record Read (t : List ℕ) : Type 0 where
   pub same : (ys : List ℕ) → decode (t ++ ys) ≡ decode t
   pub least : 1 ≤ decode t .used

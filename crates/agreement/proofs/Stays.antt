@@ -1,14 +1,15 @@
--- A record stays well formed (`stays-well-formed`): through every list of calls the next call finds neither 1 nor 2 due.
--- Why: what passes checks 1 and 2 is a well-formed state (`due-well`); a command leaves one (`call-well`), a view changes nothing, and lengths that pass
--- check 1 are legal, so that a fresh start is accepted and leaves the fresh state.
-use mathlib.Core.Bool.{true, _&&_}
-use mathlib.Core.Path.{_≡_, refl}
+-- A record stays well formed (`stays-well-formed`): through every list of calls the next call finds neither 1 nor 2
+-- due.
+-- Why: what passes checks 1 and 2 is a well-formed state (`due-well`); a command leaves one (`call-well`), a view
+-- changes nothing, and lengths that pass check 1 are legal, so that a fresh start is accepted and leaves the fresh
+-- state.
+use mathlib.Core.Bool.{true}
+use mathlib.Core.Path.{_≡_}
 use mathlib.Core.List.{List, [], _∷_}
 use lib.ListN.{length}
 use borrow.Author.Tests.{eq-eqb}
 use Rattle.model.specs.Memories.{legalL2, legalExternal}
-use Rattle.model.specs.Records.{State, Shape}
-use Rattle.model.specs.Refusals.{lentDue}
+use Rattle.model.specs.Records.{State}
 use Rattle.model.specs.Calls.{freshOk, freshCall, viewDone, Call, oneCommand, freshStart, look, called, after}
 use Rattle.model.specs.Stays.{StaysWellFormed}
 use Rattle.agreement.proofs.Good.{Well}

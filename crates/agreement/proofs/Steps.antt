@@ -1,6 +1,8 @@
--- One command by its code: what `step` does to a good state. Shown: the commands that flat memory does not see (2 to 5, 7, 11), carried out or refused, leave the
--- state good by the same F with L, E and the mode as they were; and every command, of any code, leaves a well-formed state (`step-well`).
--- Why: the lemmas of the single commands, and a refused command changes nothing. At a written-out code the definitions of `step` compute.
+-- One command by its code: what `step` does to a good state. Shown: the commands that flat memory does not see (2 to
+-- 5, 7, 11), carried out or refused, leave the state good by the same F with L, E and the mode as they were; and
+-- every command, of any code, leaves a well-formed state (`step-well`).
+-- Why: the lemmas of the single commands, and a refused command changes nothing. At a written-out code the
+-- definitions of `step` compute.
 use Prim.Native.Nat.{ℕ, zero, suc, _≤_}
 use mathlib.Core.Bool.{cond, and-false}
 use mathlib.Core.Path.{_≡_, refl, ap}

@@ -1,8 +1,9 @@
--- The cache commands that write back, over all lines or over a block, and the flush before a mode change. Shown: each leaves the state good; after a
--- global writeback in a mode with an L2 cache L1D holds no external line, no L2 line is dirty and external memory is right; after the flush L1D
--- holds nothing and no L2 line is dirty.
--- Why: each is a loop of steps that keep the state good, and a slot that is done stays done: it is clean, and L1D holds nothing of it, so that no later
--- writeback into L2 can make it dirty again. Slots are counted k = set * ways + way, so that "before k" is one linear test.
+-- The cache commands that write back, over all lines or over a block, and the flush before a mode change. Shown: each
+-- leaves the state good; after a global writeback in a mode with an L2 cache L1D holds no external line, no L2 line
+-- is dirty and external memory is right; after the flush L1D holds nothing and no L2 line is dirty.
+-- Why: each is a loop of steps that keep the state good, and a slot that is done stays done: it is clean, and L1D
+-- holds nothing of it, so that no later writeback into L2 can make it dirty again. Slots are counted k = set * ways +
+-- way, so that "before k" is one linear test.
 use Prim.Native.Nat.{ℕ, zero, suc, _+_, _*_, _-_, _/_, _%_, _≤_, _<_}
 use mathlib.Core.Bool.{false}
 use mathlib.Core.Path.{_≡_, refl, sym, ap, _∙_}

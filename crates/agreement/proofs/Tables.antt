@@ -1,7 +1,9 @@
--- The sets of a cache as the record holds them, a list of sets, said ONCE for L1D and L2 (and a cache to come): a `Store` names the type of one set,
--- its lines and how a line of it is replaced. Shown: what is read after one line, or one set's order, was replaced; that a table of sets keeps its
--- lengths, its orders and its empty ways; and that such a change is `Replaced` of the level that the table and its bytes make.
--- Why it holds: `set` on a list changes one element (`set-cases`), once for the list of sets and once for the lines of a set.
+-- The sets of a cache as the record holds them, a list of sets, said ONCE for L1D and L2 (and a cache to come): a
+-- `Store` names the type of one set, its lines and how a line of it is replaced. Shown: what is read after one line,
+-- or one set's order, was replaced; that a table of sets keeps its lengths, its orders and its empty ways; and that
+-- such a change is `Replaced` of the level that the table and its bytes make.
+-- Why it holds: `set` on a list changes one element (`set-cases`), once for the list of sets and once for the lines
+-- of a set.
 use Prim.Native.Nat.{ℕ, zero, suc, _+_, _<_}
 use mathlib.Core.Bool.{Bool, false}
 use mathlib.Core.Path.{_≡_, refl, sym, ap, _∙_, subst}
@@ -21,7 +23,8 @@ use Rattle.model.specs.declared.L1dSet.{L1dSet}
 use Rattle.model.specs.declared.L2Set.{L2Set}
 use Rattle.agreement.proofs.Level.{Level, Valid, Other, Replaced}
 
--- ---- how the record holds a cache: one set of it, what stands for a set past the end, a set's lines, a line replaced, when its order is a permutation
+-- ---- how the record holds a cache: one set of it, what stands for a set past the end, a set's lines, a line
+-- replaced, when its order is a permutation
 pub record Store : Type 1 where
   pub OneSet : Type 0
   pub none : OneSet
@@ -80,7 +83,8 @@ l2Store =
       put-ordered = l2-put-ordered;
     }
 
--- ---- a set, a line, the table with one line replaced; the level that a table makes, with slot s, w's bytes from `place s w` on in m
+-- ---- a set, a line, the table with one line replaced; the level that a table makes, with slot s, w's bytes from
+-- `place s w` on in m
 abbrev pub setIn : (k : Store) → List (k .OneSet) → ℕ → k .OneSet
 setIn k xs s = getD xs s (k .none)
 

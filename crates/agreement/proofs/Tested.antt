@@ -1,6 +1,8 @@
--- The Boolean test of checks 1 and 2 (`lentDue`) and the invariant of a well-formed state (`Well`) say the same: `due-well` and `well-due`. The arrays' lengths,
--- which the record's types give and no test asks for, are a hypothesis (`Shape`). So a call's state is never refused by the next call: `call-well`, `call-shape`.
--- Why: each test of the record is one of the fields of `Well`, line by line and set by set; what both caches need is shown once over a table of sets.
+-- The Boolean test of checks 1 and 2 (`lentDue`) and the invariant of a well-formed state (`Well`) say the same:
+-- `due-well` and `well-due`. The arrays' lengths, which the record's types give and no test asks for, are a
+-- hypothesis (`Shape`). So a call's state is never refused by the next call: `call-well`, `call-shape`.
+-- Why: each test of the record is one of the fields of `Well`, line by line and set by set; what both caches need is
+-- shown once over a table of sets.
 use Prim.Native.Nat.{ℕ, zero, suc, _+_, _/_, _%_, _≤_, _<_}
 use mathlib.Core.Bool.{Bool, true, false, not, cond, _&&_}
 use mathlib.Core.Path.{_≡_, refl, sym, ap, _∙_}
@@ -15,9 +17,9 @@ use Rattle.model.specs.Basics.{anyOf, allIndexed}
 use Rattle.model.specs.Memories.{externalBase, legalL2, legalExternal, cacheSize, isMode}
 use Rattle.model.specs.Lines.{l1dSetOf, l1dData, l2Line, emptyLine, holds, Permutation2, Permutation4}
 use Rattle.model.specs.Records.{State, Shape, sramOf, l2SetsOf, mode0, l2SetOf, l2Data, marBit, noL1dSet, noL2Set, l1dSetAt, l2SetAt, l1dLineAt, l2LineAt, legalSizes, permuted2, permuted4, emptyWay, insideL2Line, l1dPlace, l2Place, l1dLineOk, l2LineOk, noneTwice, freshUnlessUsed, l1dSetOk, l2SetOk, wellFormed, freshL2Set, coveredByL2, ownL1dSet, l1dRegion, ownL2Set, inSram, l2Region, inCacheable, inUse}
-use Rattle.model.specs.Refusals.{lowestDue, unless, lentL1d, lentL2, lentExternal, lentDue}
+use Rattle.model.specs.Refusals.{unless, lentL1d, lentL2, lentExternal, lentDue}
 use Rattle.model.specs.Calls.{Reply, refused, step, call}
-use Rattle.model.specs.Laws.{bool, false-true, both-true, cond-elim, mode0-sets}
+use Rattle.model.specs.Laws.{bool, false-true, both-true, cond-elim, mode0-sets, lowestDue-none, unless-none}
 use Rattle.model.specs.declared.Line.{Line}
 use Rattle.model.specs.declared.Order2.{Order2}
 use Rattle.model.specs.declared.Order4.{Order4}
@@ -29,7 +31,6 @@ use Rattle.agreement.proofs.Invariant.{L1dPlaced, L2Placed, InL2Line}
 use Rattle.agreement.proofs.Tables.{Store, l1dStore, l2Store, setIn, lineIn, levelOf, Shaped, Table, slot-cases, any-none}
 use Rattle.agreement.proofs.Good.{layoutOf, l1dLevel, l2Level, Sizes, Well, holds-yes, holds-tells}
 use Rattle.agreement.proofs.Changes.{l2-fresh}
-use Rattle.agreement.proofs.Due.{lowestDue-none, unless-none}
 use Rattle.agreement.proofs.Drops.{well}
 use Rattle.agreement.proofs.Steps.{step-well}
 

@@ -1,7 +1,8 @@
--- Runs over traces: a run on a well-formed state is its commands called one after another (`run-calls`), and from an accepted fresh start its answers are flat
--- memory's, in one piece or in several, and what a global writeback settles is settled (`trace-demand3`).
--- Why: the run carries out `step` where a call does `call`, and on a well-formed state they are the same; an answer, once put, is not touched by later ones, which lie
--- behind it. The rest is `step-answered`, command by command.
+-- Runs over traces: a run on a well-formed state is its commands called one after another (`run-calls`), and from an
+-- accepted fresh start its answers are flat memory's, in one piece or in several, and what a global writeback settles
+-- is settled (`trace-demand3`).
+-- Why: the run carries out `step` where a call does `call`, and on a well-formed state they are the same; an answer,
+-- once put, is not touched by later ones, which lie behind it. The rest is `step-answered`, command by command.
 use Prim.Native.Nat.{ℕ, zero, suc, _+_, _*_, _-_, _≤_, _<_}
 use mathlib.Core.Bool.{true}
 use mathlib.Core.Path.{_≡_, refl, sym, ap, _∙_}

@@ -1,9 +1,10 @@
--- L2 commands never reach L1D lines of SRAM (`l2-commands-keep-sram`): those lines, all bytes of L1D and all bytes of SRAM stay as they were.
--- Why: a command empties only L1D lines that are halves of an L2 line, and L2 holds lines of external memory only; and what it puts into L2 goes
--- into the data of an L2 way, which lies behind SRAM.
-use Prim.Native.Nat.{ℕ, zero, suc, _+_, _*_, _/_, _%_, _≤_, _<_}
+-- L2 commands never reach L1D lines of SRAM (`l2-commands-keep-sram`): those lines, all bytes of L1D and all bytes of
+-- SRAM stay as they were.
+-- Why: a command empties only L1D lines that are halves of an L2 line, and L2 holds lines of external memory only;
+-- and what it puts into L2 goes into the data of an L2 way, which lies behind SRAM.
+use Prim.Native.Nat.{ℕ, _+_, _*_, _/_, _%_, _≤_, _<_}
 use mathlib.Core.Bool.{true, cond}
-use mathlib.Core.Path.{_≡_, refl, sym, ap, _∙_}
+use mathlib.Core.Path.{_≡_, refl, ap, _∙_}
 use mathlib.Core.List.{List}
 use native.Mathlib.Omega.{arith}
 use lib.ListN.{length, getD}
@@ -12,7 +13,7 @@ use borrow.Author.Tests.{leb-true, eqb-true, eqb-false}
 use Rattle.model.specs.Bytes.{stored, part}
 use Rattle.model.specs.Memories.{externalBase}
 use Rattle.model.specs.Lines.{emptyLine, l1dSetOf, l1dData, upperHalf}
-use Rattle.model.specs.Records.{State, sramOf, l2SetsOf, l2SetOf, mode0, l1dLineAt, l2LineAt, withL1dLine, withL2Line, Shape}
+use Rattle.model.specs.Records.{State, sramOf, l2SetsOf, l2SetOf, mode0, l1dLineAt, l2LineAt, withL1dLine, withL2Line}
 use Rattle.model.specs.Ways.{l1dWay, l2Way, inL1d, inL2, emptyL1d, emptyL2}
 use Rattle.model.specs.Homes.{putL2, takeHalf, takeHalves, writeOutL2, writebackL2, evictL2}
 use Rattle.model.specs.Commands.{linesTouched, eachTouched, eachL2, atL1d, atL2, unlessMode0, dropL2, l2WritebackAll, l2WritebackInvalidateAll, l2WritebackBlock, l2WritebackInvalidateBlock, l2InvalidateBlock}
@@ -21,12 +22,11 @@ use Rattle.model.specs.Trace.{command}
 use Rattle.model.specs.Calls.{Reply, refused, carriedOut, commandDue, commandState, accepted, step, call}
 use Rattle.model.specs.Sram.{SramKept, L2CommandsKeepSram}
 use Rattle.model.specs.Laws.{bool, cond-elim, stored-before}
-use Rattle.model.specs.declared.Line.{Line}
 use Rattle.model.specs.declared.Command.{Command}
-use Rattle.agreement.proofs.Level.{Valid, Other}
+use Rattle.agreement.proofs.Level.{Valid}
 use Rattle.agreement.proofs.Invariant.{Layout}
 use Rattle.agreement.proofs.Tables.{l1dStore, line-other-set, line-other-way}
-use Rattle.agreement.proofs.Good.{l1dLevel, l2Level, Anything, Well, Kept, l1d-hit, l2-hit, l2-bounds}
+use Rattle.agreement.proofs.Good.{l2Level, Anything, Well, l1d-hit, l2-hit, l2-bounds}
 use Rattle.agreement.proofs.Writeback.{Swept, writebackL2-good, evictL2-good}
 use Rattle.agreement.proofs.ReadWrite.{Step}
 use Rattle.agreement.proofs.Sweeps.{each-by, step-refl, step-trans}

@@ -1,6 +1,8 @@
--- An L2 line goes out to external memory, is written back with its halves, leaves, or comes in. Shown: the state stays good, and what each step leaves.
--- Why: once L1D holds nothing of the line (its halves were taken in), the L2 bytes are right, so external memory is right after they went there, and a
--- clean line may leave. A line that comes in is right because no dirty line held it.
+-- An L2 line goes out to external memory, is written back with its halves, leaves, or comes in. Shown: the state
+-- stays good, and what each step leaves.
+-- Why: once L1D holds nothing of the line (its halves were taken in), the L2 bytes are right, so external memory is
+-- right after they went there, and a clean line may leave. A line that comes in is right because no dirty line held
+-- it.
 use Prim.Native.Nat.{ℕ, _+_, _-_, _≤_, _<_}
 use mathlib.Core.Bool.{false, cond}
 use mathlib.Core.Path.{_≡_, refl, sym, ap, _∙_}

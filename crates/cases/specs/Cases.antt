@@ -1,7 +1,7 @@
--- The lines marked C of paper 01, "Contracts and bench cases", as rows of one table: what the definitions give, and what
--- the paper states. One theorem, `cases-hold`, says that they are equal; it holds by computing.
-use Prim.Native.Nat.{ℕ, _+_, _*_}
-use mathlib.Core.Bool.{Bool, cond}
+-- The lines marked C of paper 01, "Contracts and bench cases", as rows of one table: what the definitions give, and
+-- what the paper states. One theorem, `cases-hold`, says that they are equal; it holds by computing.
+use Prim.Native.Nat.{ℕ, _+_}
+use mathlib.Core.Bool.{cond}
 use mathlib.Core.List.{List, [], _∷_, map}
 use mathlib.Core.Path.{_≡_, refl}
 use lib.ListN.{replicate}

@@ -1,6 +1,7 @@
--- Short lists of calls from a fresh start, and what they are answered: the chip's number, server and value, flat memory's number and value, and the
--- bytes that a view shows. Rows of one table, and one theorem, `worked`, which holds by computing: a definition that is not the paper's fails at a value
--- here. Each of the four mistakes that paper 01 names has a row, and so have the servers, the view, writebacks, mode and MAR changes and drops.
+-- Short lists of calls from a fresh start, and what they are answered: the chip's number, server and value, flat
+-- memory's number and value, and the bytes that a view shows. Rows of one table, and one theorem, `worked`, which
+-- holds by computing: a definition that is not the paper's fails at a value here. Each of the four mistakes that
+-- paper 01 names has a row, and so have the servers, the view, writebacks, mode and MAR changes and drops.
 use Prim.Native.Nat.{ℕ}
 use mathlib.Core.List.{List, [], _∷_, map, _++_}
 use mathlib.Core.Path.{_≡_, refl}
@@ -12,7 +13,8 @@ use Rattle.model.specs.Calls.{Reply, Call, oneCommand, look, called}
 use Rattle.model.specs.Flat.{Flat, FlatReply, freshFlat, flatCalled}
 use Rattle.model.specs.Opened.{opened}
 
--- ---- a place of a list: the call, and what is answered: number, server, value; flat memory's number and value; the bytes shown, as one number
+-- ---- a place of a list: the call, and what is answered: number, server, value; flat memory's number and value; the
+-- bytes shown, as one number
 pub record Place : Type 0 where
   pub call : Call
   pub answer : List ℕ
@@ -60,8 +62,8 @@ unfoldable pub along : List Place → State → Flat → List (List ℕ)
 along [] z f = []
 along (p ∷ ps) z f = both (called (p .call) z) (flatCalled (p .call) f) (along ps)
 
--- ---- the rows from a fresh start with L = 32,768 and E = 128; the two halves of the external L2 line begin with 1 and 2
--- Servers 1 and 2. "A write miss fills L1D.": it does not, the read behind it misses too.
+-- ---- the rows from a fresh start with L = 32,768 and E = 128; the two halves of the external L2 line begin with 1
+-- and 2 Servers 1 and 2. "A write miss fills L1D.": it does not, the read behind it misses too.
 pub sram : List Place
 sram = reads 0 2 0 ∷ writes 0 5 1 ∷ reads 0 1 5 ∷ writes 256 6 2 ∷ reads 256 2 6 ∷ reads 256 1 6 ∷ []
 
@@ -89,16 +91,17 @@ modes =
     mar128 1 0 ∷ reads 0x80000000 4 1 ∷ writes 0x80000000 7 1 ∷ writes 0 5 2 ∷ mode 2 8 ∷ mode 1 0 ∷ shows 0x80000000 0 7
     ∷ same (oneCommand (command 0 1 0 0)) 5 0 0 ∷ mode 0 0 ∷ reads 0 2 0 ∷ reads 0x80000000 4 7 ∷ []
 
--- The view: "the bytes of SRAM or of external memory themselves"; L1D writeback-invalidate, and what L1D drops unwritten.
+-- The view: "the bytes of SRAM or of external memory themselves"; L1D writeback-invalidate, and what L1D drops
+-- unwritten.
 pub views : List Place
 views =
     reads 0 2 0 ∷ writes 0 7 1 ∷ shows 0 0 0 ∷ block 7 0 ∷ shows 0 0 7 ∷ shows 4 4 0 ∷ shows 0x8000 5 0 ∷ shows 0x80000080 5 0
     ∷ reads 0 2 7 ∷ writes 0 8 1 ∷ block 8 0 ∷ apart (oneCommand (command 0 1 0 0)) 2 7 8
     ∷ writes 0 8 1 ∷ all 9 ∷ apart (oneCommand (command 0 1 0 0)) 2 7 8 ∷ []
 
--- In mode 1. Servers 1, 3 and 4. "The lower half alone is dropped by an L2 block command.": both halves are, by 6, and by 4
--- and 5, which write. A line that L1D writes back makes its L2 line dirty, which the view does not show; a global writeback
--- writes it out. A MAR bit is not cleared while either cache holds a line of its range.
+-- In mode 1. Servers 1, 3 and 4. "The lower half alone is dropped by an L2 block command.": both halves are, by 6,
+-- and by 4 and 5, which write. A line that L1D writes back makes its L2 line dirty, which the view does not show; a
+-- global writeback writes it out. A MAR bit is not cleared while either cache holds a line of its range.
 pub throughL2 : List Place
 throughL2 =
     mode 1 0 ∷ mar128 1 0 ∷ reads 0x80000000 4 1 ∷ reads 0x80000040 3 2 ∷ writes 0x80000040 9 1
@@ -112,7 +115,8 @@ throughL2 =
 pub lastSet : List Place
 lastSet = mode 1 0 ∷ mar128 1 0 ∷ writes 0x80001F80 5 4 ∷ all 2 ∷ shows 0x80001F80 0 5 ∷ []
 
--- "An L2 line is evicted and its dirty L1D half forgotten.": five lines of one L2 set. The half goes out with its line, and is no longer in L1D.
+-- "An L2 line is evicted and its dirty L1D half forgotten.": five lines of one L2 set. The half goes out with its
+-- line, and is no longer in L1D.
 pub evicted : List Place
 evicted =
     mode 1 0 ∷ mar128 1 0 ∷ reads 0x80000040 4 2 ∷ writes 0x80000040 8 1 ∷ writes 0x80002000 1 4 ∷ writes 0x80004000 1 4

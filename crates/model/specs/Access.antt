@@ -1,5 +1,7 @@
--- Paper 01, "CPU reads and writes", first and second paragraph: what an accepted access does, sentence by sentence. Homes has the third: what the home is, and what L2 does.
--- "1, 2, 4 or 8 bytes, .. the address a multiple of the size": refusals 3 and 4. "little-endian": Calls, where bytes become values.
+-- Paper 01, "CPU reads and writes", first and second paragraph: what an accepted access does, sentence by sentence.
+-- Homes has the third: what the home is, and what L2 does.
+-- "1, 2, 4 or 8 bytes, .. the address a multiple of the size": refusals 3 and 4. "little-endian": Calls, where bytes
+-- become values.
 use Prim.Native.Nat.{ℕ, _+_}
 use mathlib.Core.Bool.{Bool, true, false, cond}
 use mathlib.Core.List.{List, []}
@@ -33,7 +35,8 @@ l1dBytes w a n z = part (z .l1d) (l1dData (l1dSetOf a) w + offsetIn l1dKind a) n
 unfoldable pub readHit : ℕ → ℕ → State → Access
 readHit n a z = access 1 (l1dBytes (l1dWay z a) a n z) (useL1d (l1dSetOf a) (l1dWay z a) z)
 
--- ---- "Read miss: the way is the lowest invalid one, else the last in order; a dirty line there is written back to its home and the way emptied;"
+-- ---- "Read miss: the way is the lowest invalid one, else the last in order; a dirty line there is written back to
+-- its home and the way emptied;"
 unfoldable pub writebackL1d : ℕ → ℕ → State → State
 writebackL1d s w z =
     cond (l1dLineAt (z .rec) s w .valid)
@@ -54,7 +57,8 @@ fillL1d w v a z =
     withL1d (withRecord z (withL1dLine (z .rec) (l1dSetOf a) w (lineOf (l1dLine a) false)))
     (stored (z .l1d) (l1dData (l1dSetOf a) w) (homeLine v a z))
 
--- The way w is chosen first and stays chosen. Its parts, last first: the bytes of the filled way (server k); the line fetched into the emptied way; the whole.
+-- The way w is chosen first and stays chosen. Its parts, last first: the bytes of the filled way (server k); the line
+-- fetched into the emptied way; the whole.
 unfoldable pub readFilled : ℕ → ℕ → ℕ → ℕ → State → Access
 readFilled w k n a z = access k (l1dBytes w a n z) (useL1d (l1dSetOf a) w z)
 
@@ -78,7 +82,8 @@ putL1d w a bs z =
 unfoldable pub writeHit : ℕ → List ℕ → State → Access
 writeHit a bs z = access 1 [] (useL1d (l1dSetOf a) (l1dWay z a) (putL1d (l1dWay z a) a bs z))
 
--- ---- "Write miss: L1D is neither filled nor used, the bytes go to the home (an L2 line that leaves for them still takes its halves out of L1D, as below)."
+-- ---- "Write miss: L1D is neither filled nor used, the bytes go to the home (an L2 line that leaves for them still
+-- takes its halves out of L1D, as below)."
 -- v: the way of L2 that has the line, where L2 is the home
 unfoldable pub writeHome : ℕ → ℕ → List ℕ → State → State
 writeHome v a bs z = cond (homeIsL2 (z .rec) a) (putL2 (l2SetOf (z .rec) a) v a bs z) (putMemory a bs z)

@@ -10,11 +10,13 @@ use Rattle.model.specs.Access.{evictL1d}
 use Rattle.model.specs.Homes.{writebackL2, evictL2}
 use Rattle.model.specs.Modes.{smaller}
 
--- "A block is a base address and a count of 4-byte words. .. what passes FFFFFFFFh is cut off.": the address after its last byte
+-- "A block is a base address and a count of 4-byte words. .. what passes FFFFFFFFh is cut off.": the address after
+-- its last byte
 unfoldable pub blockEnd : ℕ → ℕ → ℕ
 blockEnd b c = smaller (b + c * 4) 0x100000000
 
--- "It touches each line with a byte in it; count 0 touches none;": how many lines of n bytes, from the line of the base address on.
+-- "It touches each line with a byte in it; count 0 touches none;": how many lines of n bytes, from the line of the
+-- base address on.
 -- That these are the lines with a byte in them, and no others: `touched-lines` (Laws).
 unfoldable pub linesTouched : ℕ → ℕ → ℕ → ℕ
 linesTouched n b c = cond (eqb c 0) 0 ((blockEnd b c - 1) / n - b / n + 1)
@@ -37,8 +39,9 @@ atL1d f a z = cond (inL1d z a) (f (l1dSetOf a) (l1dWay z a) z) z
 unfoldable pub unlessMode0 : (State → State) → State → State
 unlessMode0 f z = cond (mode0 (z .rec)) z (f z)
 
--- "Writeback: for each L2 line (touched, or all) the dirty L1D halves are written into it, both halves become invalid in L1D, and a dirty
--- line goes out, staying valid and clean." (`writebackL2`) "Writeback-invalidate: the same, then the line is invalid." (`evictL2`)
+-- "Writeback: for each L2 line (touched, or all) the dirty L1D halves are written into it, both halves become invalid
+-- in L1D, and a dirty line goes out, staying valid and clean." (`writebackL2`) "Writeback-invalidate: the same, then
+-- the line is invalid." (`evictL2`)
 unfoldable pub l2WritebackAll : State → State
 l2WritebackAll z = unlessMode0 (eachL2 writebackL2) z
 

@@ -1,5 +1,7 @@
--- Demand 3, what it says; `Agreement` proves it. Paper 01, "Flat memory": "Demand 3 is one statement about the whole list and not one for each call."
--- Read it from the top: the calls that a list may hold, what is compared of a call, what a global writeback settles, both runs along the list, the demand.
+-- Demand 3, what it says; `Agreement` proves it. Paper 01, "Flat memory": "Demand 3 is one statement about the whole
+-- list and not one for each call."
+-- Read it from the top: the calls that a list may hold, what is compared of a call, what a global writeback settles,
+-- both runs along the list, the demand.
 use Prim.Native.Nat.{ℕ, _≤_}
 use mathlib.Core.Bool.{Bool, true, false, cond, _&&_, _||_}
 use mathlib.Core.Path.{_≡_}
@@ -13,8 +15,9 @@ use Rattle.model.specs.Flat.{Flat, freshFlat, flatCalled}
 use Rattle.model.specs.Calls.{Reply, freshCall, Call, oneCommand, freshStart, look, called, commands}
 use Rattle.model.specs.declared.Command.{Command}
 
--- ---- which calls a list may hold: reads (0), writes (1), the writeback commands (2 to 5 and 7), mode changes (10) and MAR changes (11), each with any
--- numbers, refused ones too; and views. No fresh start: flat memory begins with the external memory as lent.
+-- ---- which calls a list may hold: reads (0), writes (1), the writeback commands (2 to 5 and 7), mode changes (10)
+-- and MAR changes (11), each with any numbers, refused ones too; and views. No fresh start: flat memory begins with
+-- the external memory as lent.
 abbrev pub listedCode : ℕ → Bool
 listedCode k = leb k 5 || (eqb k 7 || (eqb k 10 || eqb k 11))
 
@@ -27,8 +30,8 @@ unfoldable pub listed : List Call → Bool
 listed [] = true
 listed (c ∷ cs) = listedCall c && listed cs
 
--- ---- what is compared: the number and the value of reads, writes and mode changes. So both refuse the same ones, by the same number, and an
--- accepted read gives the same value.
+-- ---- what is compared: the number and the value of reads, writes and mode changes. So both refuse the same ones, by
+-- the same number, and an accepted read gives the same value.
 abbrev pub compared : Call → Bool
 compared (oneCommand c) = eqb (c .code) 0 || (eqb (c .code) 1 || eqb (c .code) 10)
 compared freshStart = false
@@ -40,7 +43,8 @@ global (oneCommand c) = eqb (c .code) 2 || eqb (c .code) 3
 global freshStart = false
 global (look a) = false
 
--- "The mode at a call is that of the last accepted mode change before it in the list, 0 if there was none.": the mode behind a call that was answered r
+-- "The mode at a call is that of the last accepted mode change before it in the list, 0 if there was none.": the mode
+-- behind a call that was answered r
 unfoldable pub modeAfter : Call → Reply → ℕ → ℕ
 modeAfter (oneCommand c) r mode = cond (eqb (c .code) 10 && eqb (r .number) 0) (c .first) mode
 modeAfter freshStart r mode = mode
@@ -51,7 +55,8 @@ unfoldable pub modeAlong : ℕ → List Call → State → ℕ
 modeAlong mode [] z = mode
 modeAlong mode (c ∷ cs) z = modeAlong (modeAfter c (called c z) mode) cs (called c z .next)
 
--- ---- external memory is settled: the same in both, and no line of it is dirty in either cache (L2 holds lines of external memory only)
+-- ---- external memory is settled: the same in both, and no line of it is dirty in either cache (L2 holds lines of
+-- external memory only)
 pub record Settled (z : State) (f : Flat) : Type 0 where
   pub same : z .ext ≡ f .ext
   pub l1dClean : (s w : ℕ) → l1dLineAt (z .rec) s w .valid ≡ true → externalBase ≤ l1dLineAt (z .rec) s w .address →

@@ -33,7 +33,8 @@ flatPut a bs f =
     cond (ltb a externalBase) (flat (f .l2len) (stored (f .sram) a bs) (f .ext))
     (flat (f .l2len) (f .sram) (stored (f .ext) (a - externalBase) bs))
 
--- "S becomes L − C for the new mode; SRAM bytes below the smaller of old and new S are kept, the other SRAM bytes are zero."
+-- "S becomes L − C for the new mode; SRAM bytes below the smaller of old and new S are kept, the other SRAM bytes are
+-- zero."
 unfoldable pub flatMode : ℕ → Flat → Flat
 flatMode m f = flat (f .l2len) (zeroFrom (smaller (length (f .sram)) (sramLength (f .l2len) m)) (f .sram) (sramLength (f .l2len) m)) (f .ext)
 

@@ -1,4 +1,5 @@
--- Paper 01, "CPU reads and writes", third and fourth paragraph: the home of a line, what L2 does for a fetch or a write miss, what leaves L2 for it, and who serves.
+-- Paper 01, "CPU reads and writes", third and fourth paragraph: the home of a line, what L2 does for a fetch or a
+-- write miss, what leaves L2 for it, and who serves.
 use Prim.Native.Nat.{ℕ, _-_, _+_}
 use mathlib.Core.Bool.{Bool, true, false, not, cond}
 use mathlib.Core.List.{List}
@@ -23,21 +24,25 @@ unfoldable pub putMemory : ℕ → List ℕ → State → State
 putMemory a bs z =
     cond (ltb a externalBase) (withL2 z (stored (z .l2) a bs)) (withExternal z (stored (z .ext) (a - externalBase) bs))
 
--- ---- "A write then makes the L2 line dirty. A writeback into L2 makes the line dirty and uses nothing.": bytes go into the L2 line in set t, way v, at address a
+-- ---- "A write then makes the L2 line dirty. A writeback into L2 makes the line dirty and uses nothing.": bytes go
+-- into the L2 line in set t, way v, at address a
 unfoldable pub putL2 : ℕ → ℕ → ℕ → List ℕ → State → State
 putL2 t v a bs z =
     withL2 (withRecord z (withL2Line (z .rec) t v (lineOf (l2LineAt (z .rec) t v .address) true)))
     (stored (z .l2) (l2Data (z .rec) t v + offsetIn (l2KindBy (z .rec)) a) bs)
 
--- an L1D line's bytes go to its home (an external line that L2 ought to hold and does not cannot be in a well-formed record)
+-- an L1D line's bytes go to its home (an external line that L2 ought to hold and does not cannot be in a well-formed
+-- record)
 unfoldable pub putHome : ℕ → List ℕ → State → State
 putHome a bs z = cond (homeIsL2 (z .rec) a) (cond (inL2 z a) (putL2 (l2SetOf (z .rec) a) (l2Way z a) a bs z) z) (putMemory a bs z)
 
--- ---- "A fetch or write miss that finds its L2 line uses that way. If it doesn't, the L2 way is chosen likewise;": the way that has the line of a, or is chosen for it
+-- ---- "A fetch or write miss that finds its L2 line uses that way. If it doesn't, the L2 way is chosen likewise;":
+-- the way that has the line of a, or is chosen for it
 unfoldable pub l2WayFor : State → ℕ → ℕ
 l2WayFor z a = cond (inL2 z a) (l2Way z a) (l2Victim (l2SetAt (z .rec) (l2SetOf (z .rec) a)))
 
--- ---- "the line leaving it first takes in the dirty halves that L1D holds, both halves become invalid in L1D,": the half at b; both halves of the line at b
+-- ---- "the line leaving it first takes in the dirty halves that L1D holds, both halves become invalid in L1D,": the
+-- half at b; both halves of the line at b
 unfoldable pub takeHalf : ℕ → ℕ → ℕ → State → State
 takeHalf t v b z =
     cond (inL1d z b)
@@ -80,6 +85,7 @@ fetchL2 a z =
     (cond (inL2 z a) (useL2 (l2SetOf (z .rec) a) (l2WayFor z a) z) (bringL2 (l2SetOf (z .rec) a) (l2WayFor z a) (l2Line a) z))
     z
 
--- ---- "The server number is 1 for L1D, 2 SRAM, 3 L2 cache, 4 external (also when L2 had to fetch)": of what lies behind L1D
+-- ---- "The server number is 1 for L1D, 2 SRAM, 3 L2 cache, 4 external (also when L2 had to fetch)": of what lies
+-- behind L1D
 unfoldable pub homeServer : ℕ → State → ℕ
 homeServer a z = cond (ltb a externalBase) 2 (cond (homeIsL2 (z .rec) a) (cond (inL2 z a) 3 4) 4)

@@ -1,5 +1,6 @@
--- Laws of the definitions, which callers cite in place of their text: choices and tests, parts of a memory and bytes stored in it, the order of
--- use, the way that is chosen, commands in mode 0. No definition stands here.
+-- Laws of the definitions, which callers cite in place of their text: choices and tests, parts of a memory and bytes
+-- stored in it, numbers due, MAR bits, the order of use, the way that is chosen, mode 0, the lines that a block touches.
+-- No definition of paper 01 stands here.
 use Prim.Native.Nat.{ℕ, zero, suc, _<_, _≤_, _%_, _/_, _+_, _*_, _-_}
 use mathlib.Core.Bool.{Bool, true, false, cond, _&&_}
 use mathlib.Core.List.{List, [], map, _++_}
@@ -18,6 +19,7 @@ use Rattle.model.specs.Lines.{Permutation2, Permutation4, inFront, witho
 use Rattle.model.specs.Records.{State, l2SetsOf, mode0, covers, marBit}
 use Rattle.model.specs.Ways.{lowestInvalid, l1dVictim, l2Victim}
 use Rattle.model.specs.Modes.{smaller}
+use Rattle.model.specs.Refusals.{lowestDue, unless}
 use Rattle.model.specs.Commands.{blockEnd, linesTouched, eachL2, unlessMode0}
 use Rattle.model.specs.declared.L1dSet.{L1dSet}
 use Rattle.model.specs.declared.L2Set.{L2Set}
@@ -130,6 +132,15 @@ module _ (m bs : List ℕ) (a i : ℕ) (fits : a + length bs ≤ length m) where
 
 pub part-at : (m : List ℕ) (a n i : ℕ) → a + n ≤ length m → i < n → getD (part m a n) i 0 ≡ getD m (a + i) 0
 part-at m a n i f h = rw (part-inside m a n f) (getD-take n (drop a m) i 0 h ∙ getD-drop a m i 0)
+
+-- ---- no number is due: the test of each holds
+pub lowestDue-none : (b : Bool) (n k : ℕ) → lowestDue (unless b (suc n)) k ≡ 0 → (b ≡ true) × (k ≡ 0)
+lowestDue-none true n k e = (refl, e)
+lowestDue-none false n k e = absurd (omega arith)
+
+pub unless-none : (b : Bool) (n : ℕ) → unless b (suc n) ≡ 0 → b ≡ true
+unless-none true n e = refl
+unless-none false n e = absurd (omega arith)
 
 -- ---- the bit of an external address, as the code asks for it: in the first 16 MiB or behind them
 pub mar-bit : (r : Record) (a : ℕ) → externalBase ≤ a → marBit r a ≡ cond (ltb a (129 * 0x1000000)) (r .mar128) (r .mar129)

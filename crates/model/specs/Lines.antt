@@ -24,14 +24,16 @@ pub record Kind : Type 0 where
 abbrev pub setOf : Kind → ℕ → ℕ
 setOf k a = a / k .lineLength % k .sets
 
--- "A line address is that of the line's first byte.": that of the line of an address, and how far behind it the address is
+-- "A line address is that of the line's first byte.": that of the line of an address, and how far behind it the
+-- address is
 abbrev pub lineAddress : Kind → ℕ → ℕ
 lineAddress k a = a / k .lineLength * k .lineLength
 
 abbrev pub offsetIn : Kind → ℕ → ℕ
 offsetIn k a = a % k .lineLength
 
--- "Data of set s, way w, at (w × 128 + s) × 64.", ".. (w × sets + s) × 128.": the place of a way among all ways, and its data
+-- "Data of set s, way w, at (w × 128 + s) × 64.", ".. (w × sets + s) × 128.": the place of a way among all ways, and
+-- its data
 abbrev pub slotOf : Kind → ℕ → ℕ → ℕ
 slotOf k s w = w * k .sets + s
 
@@ -55,7 +57,8 @@ l1dLine a = lineAddress l1dKind a
 abbrev pub l1dData : ℕ → ℕ → ℕ
 l1dData s w = dataOf l1dKind s w
 
--- ---- "L2 cache: 4 ways, C ÷ 512 sets, none in mode 0. Set = (address ÷ 128) mod sets. Data at S + (w × sets + s) × 128."
+-- ---- "L2 cache: 4 ways, C ÷ 512 sets, none in mode 0. Set = (address ÷ 128) mod sets. Data at S + (w × sets + s) ×
+-- 128."
 abbrev pub l2LineLength : ℕ
 l2LineLength = 128
 

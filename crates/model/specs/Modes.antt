@@ -13,14 +13,16 @@ use Rattle.model.specs.Homes.{writeOutL2}
 unfoldable pub smaller : ℕ → ℕ → ℕ
 smaller a b = cond (leb a b) a b
 
--- "An accepted mode change, even to the same mode, writes back all dirty lines of L1D, then of L2,": set by set and way by way
+-- "An accepted mode change, even to the same mode, writes back all dirty lines of L1D, then of L2,": set by set and
+-- way by way
 unfoldable pub flushL1d : State → State
 flushL1d z = eachWay l1dKind writebackL1d z
 
 unfoldable pub flushL2 : State → State
 flushL2 z = eachWay (l2KindBy (z .rec)) writeOutL2 z
 
--- ".. makes every line invalid and every order fresh, and sets zero every L2 byte from the smaller of old and new S on."
+-- ".. makes every line invalid and every order fresh, and sets zero every L2 byte from the smaller of old and new S
+-- on."
 unfoldable pub newMode : ℕ → State → State
 newMode m z =
     withL2 (withRecord z (withMode (withL2Sets (withL1dSets (z .rec) freshL1dSets) freshL2Sets) m))

@@ -1,5 +1,5 @@
--- Every definition that computes, opened by one name: a theorem by computation says `unfolding opened`. A new definition that such a theorem computes
--- with is added here.
+-- Every definition that computes, opened by one name: a theorem by computation says `unfolding opened`. A new
+-- definition that such a theorem computes with is added here.
 use Rattle.model.specs.Basics.{each, anyOf, allIndexed}
 use Rattle.model.specs.Bytes.{splice, part, stored, little, littleBytes, zeroFrom}
 use Rattle.model.specs.Memories.{legalL2, legalExternal, cacheSize, isMode}

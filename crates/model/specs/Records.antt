@@ -1,4 +1,5 @@
--- Paper 01, "Lines and the record": the record with the lent memories, which records are well formed, the fresh record.
+-- Paper 01, "Lines and the record": the record with the lent memories, which records are well formed, the fresh
+-- record.
 use Prim.Native.Nat.{ℕ, _<_, _+_, _/_}
 use mathlib.Core.Bool.{Bool, true, false, not, cond, _&&_}
 use mathlib.Core.Path.{_≡_}
@@ -25,7 +26,8 @@ pub record State : Type 0 where
 abbrev pub state : Record → List ℕ → List ℕ → List ℕ → State
 state r d m e = record { rec = r; l1d = d; l2 = m; ext = e }
 
--- the state with another record, with other bytes of L1D, of L2, of external memory: every change of a state goes through these
+-- the state with another record, with other bytes of L1D, of L2, of external memory: every change of a state goes
+-- through these
 abbrev pub withRecord : State → Record → State
 withRecord z r = state r (z .l1d) (z .l2) (z .ext)
 
@@ -38,7 +40,8 @@ withL2 z m = state (z .rec) (z .l1d) m (z .ext)
 abbrev pub withExternal : State → List ℕ → State
 withExternal z e = state (z .rec) (z .l1d) (z .l2) e
 
--- ---- the record with other sets, with another mode, with other MAR bits: every change of a record goes through these
+-- ---- the record with other sets, with another mode, with other MAR bits: every change of a record goes through
+-- these
 abbrev pub withL1dSets : Record → List L1dSet → Record
 withL1dSets r vs =
     record { l2len = r .l2len; extlen = r .extlen; mode = r .mode; mar128 = r .mar128; mar129 = r .mar129; l1d = vs; l2 = r .l2 }
@@ -71,8 +74,8 @@ l2SetOf r a = setOf (l2KindBy r) a
 abbrev pub l2Data : Record → ℕ → ℕ → ℕ
 l2Data r t v = l2DataIn (sramOf r) (l2SetsOf r) t v
 
--- mode 0, which has no L2 cache. What is no mode has none either, so that L2 has no sets in mode 0 and some in every other
--- (`mode0-sets` in Laws).
+-- mode 0, which has no L2 cache. What is no mode has none either, so that L2 has no sets in mode 0 and some in every
+-- other (`mode0-sets` in Laws).
 unfoldable pub mode0 : Record → Bool
 mode0 r = cond (isMode (r .mode)) (eqb (r .mode) 0) true
 
@@ -143,7 +146,8 @@ permuted4 o =
 unfoldable pub emptyWay : Line → Bool
 emptyWay x = not (x .dirty) && eqb (x .address) 0
 
--- "valid line addresses are multiples of the line length and lie in their own set,": address a of a line in set s of L1D, set t of L2
+-- "valid line addresses are multiples of the line length and lie in their own set,": address a of a line in set s of
+-- L1D, set t of L2
 unfoldable pub ownL1dSet : ℕ → ℕ → Bool
 ownL1dSet s a = eqb (offsetIn l1dKind a) 0 && eqb s (l1dSetOf a)
 

@@ -41,7 +41,8 @@ sizeOk n = eqb n 1 || (eqb n 2 || (eqb n 4 || eqb n 8))
 abbrev pub multipleOf : ℕ → ℕ → Bool
 multipleOf n a = eqb (a % n) 0
 
--- ---- "5: access or viewed line not wholly in SRAM or external memory (blocks may lie anywhere)": n bytes at a, by S and E
+-- ---- "5: access or viewed line not wholly in SRAM or external memory (blocks may lie anywhere)": n bytes at a, by S
+-- and E
 unfoldable pub placeOk : ℕ → ℕ → ℕ → ℕ → Bool
 placeOk s e n a = cond (ltb a externalBase) (leb (a + n) s) (leb (a + n) (externalBase + e))
 
@@ -69,7 +70,8 @@ unfoldable pub holdsRange : ℕ → Record → Bool
 holdsRange n r = anyOf (λ (v : L1dSet). anyOf (inRange n) (v .lines)) (r .l1d) || anyOf (λ (v : L2Set). anyOf (inRange n) (v .lines)) (r .l2)
 
 -- "11: trace damaged": `damaged` (Trace). "12: fewer than 10 answer bytes left": `runFrom` (Calls).
--- ---- the lowest number due, call by call. 1 and 2 stand in front of every call; the view is lent L2 and external memory only.
+-- ---- the lowest number due, call by call. 1 and 2 stand in front of every call; the view is lent L2 and external
+-- memory only.
 unfoldable pub lentDue : State → ℕ
 lentDue z =
     lowestDue (unless (lentL1d (z .l1d) && (lentL2 (z .rec) (z .l2) && lentExternal (z .rec) (z .ext))) 1)

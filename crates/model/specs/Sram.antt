@@ -1,5 +1,6 @@
--- Paper 01, "Cache commands": "L2 commands .. never reach L1D lines of SRAM.": what it says; `Unreached` proves it. It is a statement about the
--- definitions of the five L2 commands (codes 2 to 6), for every state whose arrays have their lengths, refused calls too.
+-- Paper 01, "Cache commands": "L2 commands .. never reach L1D lines of SRAM.": what it says; `Unreached` proves it.
+-- It is a statement about the definitions of the five L2 commands (codes 2 to 6), for every state whose arrays have
+-- their lengths, refused calls too.
 use Prim.Native.Nat.{ℕ, _<_, _≤_}
 use mathlib.Core.Bool.{true}
 use mathlib.Core.Path.{_≡_}

@@ -1,6 +1,8 @@
--- Demand 3 for runs over traces, what it says; `TraceAgreement` proves it. First for every well-formed state and every trace: a run is its commands called one
--- after another (`RunIsCalls`), all twelve codes, damaged traces and too few answer bytes included. Then from an accepted fresh start: the answers of a run, or
--- of runs over the pieces of a trace, are flat memory's for reads, writes and mode changes, and global writebacks settle external memory (`TraceDemand3`).
+-- Demand 3 for runs over traces, what it says; `TraceAgreement` proves it. First for every well-formed state and
+-- every trace: a run is its commands called one after another (`RunIsCalls`), all twelve codes, damaged traces and
+-- too few answer bytes included. Then from an accepted fresh start: the answers of a run, or of runs over the pieces
+-- of a trace, are flat memory's for reads, writes and mode changes, and global writebacks settle external memory
+-- (`TraceDemand3`).
 use Prim.Native.Nat.{ℕ, zero, suc, _+_, _*_, _-_, _≤_, _<_}
 use mathlib.Core.Bool.{true, false, cond}
 use mathlib.Core.Path.{_≡_}
@@ -20,7 +22,8 @@ abbrev pub TurnsSuffice : Type 0
 TurnsSuffice =
     (t : List ℕ) (turns i : ℕ) (z : State) (k : ℕ) (o : List ℕ) → length t ≤ i + turns → runFrom t turns i z k o ≡ runFrom t (length t - i) i z k o
 
--- ---- the commands that a run carries out: those of the trace in their order, up to its end, to damage, or to where fewer than 10 answer bytes are left
+-- ---- the commands that a run carries out: those of the trace in their order, up to its end, to damage, or to where
+-- fewer than 10 answer bytes are left
 unfoldable pub carriedFrom : List ℕ → ℕ → ℕ → ℕ → ℕ → List Command
 carriedFrom t room zero i k = []
 carriedFrom t room (suc turns) i k =
@@ -40,7 +43,8 @@ pub data AnswersAre (o : List ℕ) : ℕ → List Command → State → Type 0 w
       part o (k * 10) 10 ≡ call c z .number ∷ call c z .server ∷ littleBytes (call c z .value) 8 → AnswersAre o (suc k) cs (call c z .next) →
       AnswersAre o k (c ∷ cs) z
 
--- ---- where a run stops: from byte i on, with k answers so far, it carries out the commands cs and stops before byte j with number n.
+-- ---- where a run stops: from byte i on, with k answers so far, it carries out the commands cs and stops before byte
+-- j with number n.
 -- "11, then 12, stop it before that command"; "stop number (0 at the end)"
 pub data Carries (t : List ℕ) (room : ℕ) : ℕ → ℕ → List Command → ℕ → ℕ → Type 0 where
   atEnd : {i k : ℕ} → length t ≤ i → Carries t room i k [] i 0
@@ -49,14 +53,16 @@ pub data Carries (t : List ℕ) (room : ℕ) : ℕ → ℕ → List Command → 
   onward : {i k j n : ℕ} {cs : List Command} → i < length t → commandAt t i .ok ≡ true → k * 10 + 10 ≤ room →
       Carries t room (i + commandAt t i .used) (suc k) cs j n → Carries t room i k (commandAt t i .found ∷ cs) j n
 
--- ---- a run is its commands called one after another: the state, the count, the answers, the bytes consumed and the stop number
+-- ---- a run is its commands called one after another: the state, the count, the answers, the bytes consumed and the
+-- stop number
 pub record RunIsCalls (trace answers : List ℕ) (z : State) : Type 0 where
   pub next : runCall trace answers z .next ≡ after (commands (carried trace (length answers))) z
   pub count : runCall trace answers z .count ≡ length (carried trace (length answers))
   pub answers-are : AnswersAre (runCall trace answers z .answers) 0 (carried trace (length answers)) z
   pub stops : Carries trace (length answers) 0 0 (carried trace (length answers)) (runCall trace answers z .consumed) (runCall trace answers z .stop)
 
--- ---- the answers from the k-th on agree with flat memory's: for reads, writes and mode changes its number and its value, whatever the server
+-- ---- the answers from the k-th on agree with flat memory's: for reads, writes and mode changes its number and its
+-- value, whatever the server
 pub data AnswersAgree (o : List ℕ) : ℕ → List Command → Flat → Type 0 where
   end : {k : ℕ} {f : Flat} → AnswersAgree o k [] f
   next : {k : ℕ} {c : Command} {cs : List Command} {f : Flat} →
@@ -75,8 +81,8 @@ unfoldable pub allCommands : List Piece → List Command
 allCommands [] = []
 allCommands (p ∷ ps) = pieceCommands p ++ allCommands ps
 
--- ---- what agrees of one run, the mode before it being given: its answers; at each of its places, the calls that it is; and where it ends with a global
--- writeback in a mode other than 0, external memory, and no line of it is dirty
+-- ---- what agrees of one run, the mode before it being given: its answers; at each of its places, the calls that it
+-- is; and where it ends with a global writeback in a mode other than 0, external memory, and no line of it is dirty
 pub record RunAgrees (mode : ℕ) (p : Piece) (z : State) (f : Flat) : Type 0 where
   pub answers : AnswersAgree (runCall (p .trace) (p .answers) z .answers) 0 (pieceCommands p) f
   pub places : Agree mode (commands (pieceCommands p)) z f

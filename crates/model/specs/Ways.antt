@@ -1,4 +1,5 @@
--- Paper 01, "CPU reads and writes": the ways of a set: found, chosen, used, emptied. Here and in what follows s and w are a set and a way of L1D, t and v of L2.
+-- Paper 01, "CPU reads and writes": the ways of a set: found, chosen, used, emptied. Here and in what follows s and w
+-- are a set and a way of L1D, t and v of L2.
 use Prim.Native.Nat.{ℕ, zero, suc, _%_}
 use mathlib.Core.Bool.{Bool, cond}
 use lib.Dec.{ltb}
@@ -26,7 +27,8 @@ unfoldable pub lowestInvalid : (ℕ → Line) → ℕ → ℕ → ℕ → ℕ
 lowestInvalid g zero k last = last
 lowestInvalid g (suc n) k last = cond (g k .valid) (lowestInvalid g n (suc k) last) k
 
--- Of a permutation the remainder is the last way itself (`l1d-victim`, `l2-victim` in Laws); it makes the way one of the set for every record.
+-- Of a permutation the remainder is the last way itself (`l1d-victim`, `l2-victim` in Laws); it makes the way one of
+-- the set for every record.
 unfoldable pub l1dVictim : L1dSet → ℕ
 l1dVictim v = lowestInvalid (l1dGet v) (l1dKind .ways) 0 (v .order .second % l1dKind .ways)
 
