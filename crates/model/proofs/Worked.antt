@@ -54,6 +54,14 @@ mode m n = same (oneCommand (command 10 m 0 0)) n 0 0
 abbrev mar128 : ℕ → ℕ → Place
 mar128 b n = unseen (oneCommand (command 11 128 b 0)) n
 
+-- ---- a row: how many bytes of external memory there are behind its first L2 line, and a list of calls with their answers
+pub record Row : Type 0 where
+  pub behind : ℕ
+  pub places : List Place
+
+abbrev row : ℕ → List Place → Row
+row n ps = record { behind = n; places = ps }
+
 -- ---- what is answered along a list
 unfoldable pub both : Reply → FlatReply → (State → Flat → List (List ℕ)) → List (List ℕ)
 both r g rest = (r .number ∷ r .server ∷ r .value ∷ g .number ∷ g .value ∷ little (r .bytes) ∷ []) ∷ rest (r .next) (g .next)
@@ -62,94 +70,128 @@ unfoldable pub along : List Place → State → Flat → List (List ℕ)
 along [] z f = []
 along (p ∷ ps) z f = both (called (p .call) z) (flatCalled (p .call) f) (along ps)
 
--- ---- the rows from a fresh start with L = 32,768 and E = 128; the two halves of the external L2 line begin with 1
--- and 2 Servers 1 and 2. "A write miss fills L1D.": it does not, the read behind it misses too.
-pub sram : List Place
-sram = reads 0 2 0 ∷ writes 0 5 1 ∷ reads 0 1 5 ∷ writes 256 6 2 ∷ reads 256 2 6 ∷ reads 256 1 6 ∷ []
+unfoldable pub started : List Place → List ℕ → List (List ℕ)
+started ps e = along ps (freshState 32768 e) (freshFlat 32768 e)
+
+unfoldable pub given : Row → List (List ℕ)
+given r = started (r .places) ((1 ∷ replicate 63 0) ++ ((2 ∷ replicate 63 0) ++ replicate (r .behind) 0))
+
+unfoldable pub stated : Row → List (List ℕ)
+stated r = map (λ (p : Place). p .answer) (r .places)
+
+-- ---- the rows, from a fresh start with L = 32,768 and in most E = 128: one L2 line, whose halves begin with 1 and 2.
+-- Servers 1 and 2. "A write miss fills L1D.": it does not, the read behind it misses too.
+pub sram : Row
+sram =
+    row 0
+    (reads 0 2 0 ∷ writes 0 5 1 ∷ reads 0 1 5 ∷ writes 256 6 2 ∷ reads 256 2 6 ∷ reads 256 1 6 ∷ [])
 
 -- Servers 1 and 4: "External memory with MAR bit 0 is reached directly"; the write miss likewise.
-pub external : List Place
+pub external : Row
 external =
-    reads 0x80000000 4 1 ∷ reads 0x80000000 4 1 ∷ mar128 1 0 ∷ reads 0x80000000 4 1 ∷ reads 0x80000000 1 1
-    ∷ writes 0x80000040 3 4 ∷ reads 0x80000040 4 3 ∷ []
+    row 0
+    (reads 0x80000000 4 1 ∷ reads 0x80000000 4 1 ∷ mar128 1 0 ∷ reads 0x80000000 4 1 ∷ reads 0x80000000 1 1
+    ∷ writes 0x80000040 3 4 ∷ reads 0x80000040 4 3 ∷ [])
 
 -- "The mode 0 L2 command empties L1D.": it does nothing.
-pub modeZero : List Place
+pub modeZero : Row
 modeZero =
-    mar128 1 0 ∷ reads 0x80000000 4 1 ∷ writes 0x80000000 7 1 ∷ all 2 ∷ all 3 ∷ block 4 0x80000000 ∷ block 5 0x80000000
-    ∷ block 6 0x80000000 ∷ reads 0x80000000 1 7 ∷ []
+    row 0
+    (mar128 1 0 ∷ reads 0x80000000 4 1 ∷ writes 0x80000000 7 1 ∷ all 2 ∷ all 3 ∷ block 4 0x80000000 ∷ block 5 0x80000000
+    ∷ block 6 0x80000000 ∷ reads 0x80000000 1 7 ∷ [])
 
 -- Three lines of one L1D set: the way used last stays, a dirty line that leaves goes home.
-pub replaced : List Place
+pub replaced : Row
 replaced =
-    reads 0 2 0 ∷ reads 0x2000 2 0 ∷ writes 0 7 1 ∷ reads 0x4000 2 0 ∷ reads 0 1 7 ∷ reads 0x2000 2 0 ∷ reads 0x4000 2 0
-    ∷ reads 0 2 7 ∷ []
+    row 0
+    (reads 0 2 0 ∷ reads 0x2000 2 0 ∷ writes 0 7 1 ∷ reads 0x4000 2 0 ∷ reads 0 1 7 ∷ reads 0x2000 2 0 ∷ reads 0x4000 2 0
+    ∷ reads 0 2 7 ∷ [])
 
 -- A mode change writes back and clears, and is refused where C is above L; SRAM that comes back is zero.
-pub modes : List Place
+pub modes : Row
 modes =
-    mar128 1 0 ∷ reads 0x80000000 4 1 ∷ writes 0x80000000 7 1 ∷ writes 0 5 2 ∷ mode 2 8 ∷ mode 1 0 ∷ shows 0x80000000 0 7
-    ∷ same (oneCommand (command 0 1 0 0)) 5 0 0 ∷ mode 0 0 ∷ reads 0 2 0 ∷ reads 0x80000000 4 7 ∷ []
+    row 0
+    (mar128 1 0 ∷ reads 0x80000000 4 1 ∷ writes 0x80000000 7 1 ∷ writes 0 5 2 ∷ mode 2 8 ∷ mode 1 0 ∷ shows 0x80000000 0 7
+    ∷ same (oneCommand (command 0 1 0 0)) 5 0 0 ∷ mode 0 0 ∷ reads 0 2 0 ∷ reads 0x80000000 4 7 ∷ [])
 
 -- The view: "the bytes of SRAM or of external memory themselves"; L1D writeback-invalidate, and what L1D drops
 -- unwritten.
-pub views : List Place
+pub views : Row
 views =
-    reads 0 2 0 ∷ writes 0 7 1 ∷ shows 0 0 0 ∷ block 7 0 ∷ shows 0 0 7 ∷ shows 4 4 0 ∷ shows 0x8000 5 0 ∷ shows 0x80000080 5 0
+    row 0
+    (reads 0 2 0 ∷ writes 0 7 1 ∷ shows 0 0 0 ∷ block 7 0 ∷ shows 0 0 7 ∷ shows 4 4 0 ∷ shows 0x8000 5 0 ∷ shows 0x80000080 5 0
     ∷ reads 0 2 7 ∷ writes 0 8 1 ∷ block 8 0 ∷ apart (oneCommand (command 0 1 0 0)) 2 7 8
-    ∷ writes 0 8 1 ∷ all 9 ∷ apart (oneCommand (command 0 1 0 0)) 2 7 8 ∷ []
+    ∷ writes 0 8 1 ∷ all 9 ∷ apart (oneCommand (command 0 1 0 0)) 2 7 8 ∷ [])
 
 -- In mode 1. Servers 1, 3 and 4. "The lower half alone is dropped by an L2 block command.": both halves are, by 6,
 -- and by 4 and 5, which write. A line that L1D writes back makes its L2 line dirty, which the view does not show; a
 -- global writeback writes it out. A MAR bit is not cleared while either cache holds a line of its range.
-pub throughL2 : List Place
+pub throughL2 : Row
 throughL2 =
-    mode 1 0 ∷ mar128 1 0 ∷ reads 0x80000000 4 1 ∷ reads 0x80000040 3 2 ∷ writes 0x80000040 9 1
+    row 0
+    (mode 1 0 ∷ mar128 1 0 ∷ reads 0x80000000 4 1 ∷ reads 0x80000040 3 2 ∷ writes 0x80000040 9 1
     ∷ block 6 0x80000000 ∷ apart (oneCommand (command 0 1 0x80000040 0)) 4 2 9 ∷ writes 0x80000000 3 3 ∷ reads 0x80000000 3 3
     ∷ writes 0x80000040 9 1 ∷ block 4 0x80000000 ∷ shows 0x80000040 0 9 ∷ reads 0x80000040 3 9
     ∷ writes 0x80000040 8 1 ∷ block 5 0x80000000 ∷ shows 0x80000040 0 8 ∷ reads 0x80000040 4 8
     ∷ writes 0x80000040 7 1 ∷ block 7 0x80000040 ∷ shows 0x80000040 0 8 ∷ reads 0x80000040 3 7 ∷ mar128 0 10
-    ∷ all 9 ∷ mar128 0 10 ∷ all 2 ∷ shows 0x80000040 0 7 ∷ all 3 ∷ mar128 0 0 ∷ reads 0x80000040 4 7 ∷ reads 0x80000040 4 7 ∷ []
+    ∷ all 9 ∷ mar128 0 10 ∷ all 2 ∷ shows 0x80000040 0 7 ∷ all 3 ∷ mar128 0 0 ∷ reads 0x80000040 4 7 ∷ reads 0x80000040 4 7 ∷ [])
 
 -- ---- with more external memory: a global writeback reaches the last set of L2
-pub lastSet : List Place
-lastSet = mode 1 0 ∷ mar128 1 0 ∷ writes 0x80001F80 5 4 ∷ all 2 ∷ shows 0x80001F80 0 5 ∷ []
+pub lastSet : Row
+lastSet =
+    row 8064
+    (mode 1 0 ∷ mar128 1 0 ∷ writes 0x80001F80 5 4 ∷ all 2 ∷ shows 0x80001F80 0 5 ∷ [])
 
 -- "An L2 line is evicted and its dirty L1D half forgotten.": five lines of one L2 set. The half goes out with its
 -- line, and is no longer in L1D.
-pub evicted : List Place
+pub evicted : Row
 evicted =
-    mode 1 0 ∷ mar128 1 0 ∷ reads 0x80000040 4 2 ∷ writes 0x80000040 8 1 ∷ writes 0x80002000 1 4 ∷ writes 0x80004000 1 4
-    ∷ writes 0x80006000 1 4 ∷ writes 0x80008000 1 4 ∷ shows 0x80000040 0 8 ∷ reads 0x80000040 4 8 ∷ []
+    row 32768
+    (mode 1 0 ∷ mar128 1 0 ∷ reads 0x80000040 4 2 ∷ writes 0x80000040 8 1 ∷ writes 0x80002000 1 4 ∷ writes 0x80004000 1 4
+    ∷ writes 0x80006000 1 4 ∷ writes 0x80008000 1 4 ∷ shows 0x80000040 0 8 ∷ reads 0x80000040 4 8 ∷ [])
 
--- ---- the table: rows by how much external memory there is behind its first L2 line
-pub record Group : Type 0 where
-  pub behind : ℕ
-  pub rows : List (List Place)
+-- ---- each row holds by computing; the table, and the theorem about it
+sram-holds : given sram ≡ stated sram
+unfolding opened both along started given stated sram
+sram-holds = refl
 
-abbrev group : ℕ → List (List Place) → Group
-group n ps = record { behind = n; rows = ps }
+external-holds : given external ≡ stated external
+unfolding opened both along started given stated external
+external-holds = refl
 
-pub table : List Group
-table =
-    group 0 (sram ∷ external ∷ modeZero ∷ replaced ∷ modes ∷ views ∷ throughL2 ∷ [])
-    ∷ group 8064 (lastSet ∷ [])
-    ∷ group 32768 (evicted ∷ [])
-    ∷ []
+modeZero-holds : given modeZero ≡ stated modeZero
+unfolding opened both along started given stated modeZero
+modeZero-holds = refl
 
--- the answers of a group's rows, each from the same fresh start; and those that the rows state
-unfoldable pub answersFrom : List (List Place) → State → Flat → List (List (List ℕ))
-answersFrom ps z f = map (λ p. along p z f) ps
+replaced-holds : given replaced ≡ stated replaced
+unfolding opened both along started given stated replaced
+replaced-holds = refl
 
-unfoldable pub started : List (List Place) → List ℕ → List (List (List ℕ))
-started ps e = answersFrom ps (freshState 32768 e) (freshFlat 32768 e)
+modes-holds : given modes ≡ stated modes
+unfolding opened both along started given stated modes
+modes-holds = refl
 
-unfoldable pub given : Group → List (List (List ℕ))
-given g = started (g .rows) ((1 ∷ replicate 63 0) ++ ((2 ∷ replicate 63 0) ++ replicate (g .behind) 0))
+views-holds : given views ≡ stated views
+unfolding opened both along started given stated views
+views-holds = refl
 
-unfoldable pub stated : Group → List (List (List ℕ))
-stated g = map (map (λ (p : Place). p .answer)) (g .rows)
+throughL2-holds : given throughL2 ≡ stated throughL2
+unfolding opened both along started given stated throughL2
+throughL2-holds = refl
+
+lastSet-holds : given lastSet ≡ stated lastSet
+unfolding opened both along started given stated lastSet
+lastSet-holds = refl
+
+evicted-holds : given evicted ≡ stated evicted
+unfolding opened both along started given stated evicted
+evicted-holds = refl
+
+pub table : List Row
+table = sram ∷ external ∷ modeZero ∷ replaced ∷ modes ∷ views ∷ throughL2 ∷ lastSet ∷ evicted ∷ []
 
 pub worked : map given table ≡ map stated table
-unfolding opened both along answersFrom started given stated table sram external modeZero replaced modes views throughL2 lastSet evicted
-worked = refl
+unfolding table
+worked i =
+    sram-holds i ∷ external-holds i ∷ modeZero-holds i ∷ replaced-holds i ∷ modes-holds i ∷ views-holds i
+    ∷ throughL2-holds i ∷ lastSet-holds i ∷ evicted-holds i ∷ []
