@@ -50,9 +50,9 @@ fn main() {
     let mut l2 = io::large_buffer();
     let mut ext = io::large_buffer();
     let mut answers = [0u8; 40960];
-    let start = start::fresh(&mut l1d, &mut l2, &mut ext);
+    let start = by_value::fresh(&mut l1d, &mut l2, &mut ext);
     let r = start.record;
-    let q = calls::run(r, &input[..n], &mut l1d, &mut l2, &mut ext, &mut answers);
+    let q = by_value::run(r, &input[..n], &mut l1d, &mut l2, &mut ext, &mut answers);
     show_all(&answers, q.count);
     io::write_all(1, b"end ");
     io::print_decimal(1, wide(q.stop));

@@ -1,230 +1,250 @@
-// The exported calls. None requires anything. A lent memory is a pointer and a length; a record goes in and comes back by value, in C's layout. The
-// contracts are those of the crate crossing: each equates the answer, the record and every lent byte with paper 01's definitions, through that layout.
+// The calls for C. A record is the caller's own, lent where it stands: `c64x_record *` of include/c64x.h, seen as words. A lent memory is a pointer and a length.
+// None requires anything: every content of the record and of a memory, every length and every number meets a check. The contracts equate the answer, the record
+// that the words stand for and every lent byte with paper 01's definitions; a refused command changes no word.
+ghost use mathlib.Core.Logic.{_≢_};
 ghost use mathlib.Core.Path.{_≡_};
+ghost use Rattle.model.specs.Records.{state};
+ghost use Rattle.model.specs.Refusals.{lentDue, viewDue};
 ghost use Rattle.model.specs.Trace.{command};
-ghost use Rattle.model.specs.Calls.{freshCall};
-ghost use Rattle.crossing.specs.Crossing.{calledInC, ranInC, seenAs, through, commandCall, runBy, viewNumber, viewInto};
-use crossing::CCalled;
-use crossing::CRun;
-use layout::CRecord;
+ghost use Rattle.model.specs.Calls.{reply, call, freshCall, ran, runCall};
+ghost use Rattle.tags.specs.Words.{recordIn};
+ghost use Rattle.view.specs.Into.{seenAs, viewInto};
+use access::Answer;
+use calls::Ran;
+use tags::WORDS;
 
 #[no_mangle]
 pub extern "C" fn c64x_read(
-    c: CRecord,
+    words: &mut [u32; WORDS],
     size: u32,
     address: u32,
     l1d: &mut [u8],
     l2: &mut [u8],
     ext: &mut [u8],
-) -> CCalled
-    ensures { λ x. ⌜ calledInC x (now (l1d .exit)) (now (l2 .exit)) (now (ext .exit))
-        ≡ commandCall (command 0 size address 0) c (now (l1d .entry)) (now (l2 .entry)) (now (ext .entry)) ⌝ }
+) -> Answer
+    ensures { λ x. ⌜ reply (x .number) (x .server) (x .value) (state (recordIn (now (words .exit))) (now (l1d .exit)) (now (l2 .exit)) (now (ext .exit)))
+        ≡ call (command 0 size address 0) (state (recordIn (now (words .entry))) (now (l1d .entry)) (now (l2 .entry)) (now (ext .entry))) ⌝ }
+    ensures refused { λ x. ⌜ (x .number ≢ 0 → now (words .exit) ≡ now (words .entry)) ⌝ }
 {
-    crossing::carry_out(c, 0, size, address, 0, l1d, l2, ext)
+    calls::carry_out(words, 0, size, address, 0, l1d, l2, ext)
 }
 
 #[no_mangle]
 pub extern "C" fn c64x_write(
-    c: CRecord,
+    words: &mut [u32; WORDS],
     size: u32,
     address: u32,
     value: u64,
     l1d: &mut [u8],
     l2: &mut [u8],
     ext: &mut [u8],
-) -> CCalled
-    ensures { λ x. ⌜ calledInC x (now (l1d .exit)) (now (l2 .exit)) (now (ext .exit))
-        ≡ commandCall (command 1 size address value) c (now (l1d .entry)) (now (l2 .entry)) (now (ext .entry)) ⌝ }
+) -> Answer
+    ensures { λ x. ⌜ reply (x .number) (x .server) (x .value) (state (recordIn (now (words .exit))) (now (l1d .exit)) (now (l2 .exit)) (now (ext .exit)))
+        ≡ call (command 1 size address value) (state (recordIn (now (words .entry))) (now (l1d .entry)) (now (l2 .entry)) (now (ext .entry))) ⌝ }
+    ensures refused { λ x. ⌜ (x .number ≢ 0 → now (words .exit) ≡ now (words .entry)) ⌝ }
 {
-    crossing::carry_out(c, 1, size, address, value, l1d, l2, ext)
+    calls::carry_out(words, 1, size, address, value, l1d, l2, ext)
 }
 
 #[no_mangle]
 pub extern "C" fn c64x_l2_writeback_all(
-    c: CRecord,
+    words: &mut [u32; WORDS],
     l1d: &mut [u8],
     l2: &mut [u8],
     ext: &mut [u8],
-) -> CCalled
-    ensures { λ x. ⌜ calledInC x (now (l1d .exit)) (now (l2 .exit)) (now (ext .exit))
-        ≡ commandCall (command 2 0 0 0) c (now (l1d .entry)) (now (l2 .entry)) (now (ext .entry)) ⌝ }
+) -> Answer
+    ensures { λ x. ⌜ reply (x .number) (x .server) (x .value) (state (recordIn (now (words .exit))) (now (l1d .exit)) (now (l2 .exit)) (now (ext .exit)))
+        ≡ call (command 2 0 0 0) (state (recordIn (now (words .entry))) (now (l1d .entry)) (now (l2 .entry)) (now (ext .entry))) ⌝ }
+    ensures refused { λ x. ⌜ (x .number ≢ 0 → now (words .exit) ≡ now (words .entry)) ⌝ }
 {
-    crossing::carry_out(c, 2, 0, 0, 0, l1d, l2, ext)
+    calls::carry_out(words, 2, 0, 0, 0, l1d, l2, ext)
 }
 
 #[no_mangle]
 pub extern "C" fn c64x_l2_writeback_invalidate_all(
-    c: CRecord,
+    words: &mut [u32; WORDS],
     l1d: &mut [u8],
     l2: &mut [u8],
     ext: &mut [u8],
-) -> CCalled
-    ensures { λ x. ⌜ calledInC x (now (l1d .exit)) (now (l2 .exit)) (now (ext .exit))
-        ≡ commandCall (command 3 0 0 0) c (now (l1d .entry)) (now (l2 .entry)) (now (ext .entry)) ⌝ }
+) -> Answer
+    ensures { λ x. ⌜ reply (x .number) (x .server) (x .value) (state (recordIn (now (words .exit))) (now (l1d .exit)) (now (l2 .exit)) (now (ext .exit)))
+        ≡ call (command 3 0 0 0) (state (recordIn (now (words .entry))) (now (l1d .entry)) (now (l2 .entry)) (now (ext .entry))) ⌝ }
+    ensures refused { λ x. ⌜ (x .number ≢ 0 → now (words .exit) ≡ now (words .entry)) ⌝ }
 {
-    crossing::carry_out(c, 3, 0, 0, 0, l1d, l2, ext)
+    calls::carry_out(words, 3, 0, 0, 0, l1d, l2, ext)
 }
 
 #[no_mangle]
 pub extern "C" fn c64x_l2_writeback_block(
-    c: CRecord,
+    words: &mut [u32; WORDS],
     base: u32,
     count: u32,
     l1d: &mut [u8],
     l2: &mut [u8],
     ext: &mut [u8],
-) -> CCalled
-    ensures { λ x. ⌜ calledInC x (now (l1d .exit)) (now (l2 .exit)) (now (ext .exit))
-        ≡ commandCall (command 4 base count 0) c (now (l1d .entry)) (now (l2 .entry)) (now (ext .entry)) ⌝ }
+) -> Answer
+    ensures { λ x. ⌜ reply (x .number) (x .server) (x .value) (state (recordIn (now (words .exit))) (now (l1d .exit)) (now (l2 .exit)) (now (ext .exit)))
+        ≡ call (command 4 base count 0) (state (recordIn (now (words .entry))) (now (l1d .entry)) (now (l2 .entry)) (now (ext .entry))) ⌝ }
+    ensures refused { λ x. ⌜ (x .number ≢ 0 → now (words .exit) ≡ now (words .entry)) ⌝ }
 {
-    crossing::carry_out(c, 4, base, count, 0, l1d, l2, ext)
+    calls::carry_out(words, 4, base, count, 0, l1d, l2, ext)
 }
 
 #[no_mangle]
 pub extern "C" fn c64x_l2_writeback_invalidate_block(
-    c: CRecord,
+    words: &mut [u32; WORDS],
     base: u32,
     count: u32,
     l1d: &mut [u8],
     l2: &mut [u8],
     ext: &mut [u8],
-) -> CCalled
-    ensures { λ x. ⌜ calledInC x (now (l1d .exit)) (now (l2 .exit)) (now (ext .exit))
-        ≡ commandCall (command 5 base count 0) c (now (l1d .entry)) (now (l2 .entry)) (now (ext .entry)) ⌝ }
+) -> Answer
+    ensures { λ x. ⌜ reply (x .number) (x .server) (x .value) (state (recordIn (now (words .exit))) (now (l1d .exit)) (now (l2 .exit)) (now (ext .exit)))
+        ≡ call (command 5 base count 0) (state (recordIn (now (words .entry))) (now (l1d .entry)) (now (l2 .entry)) (now (ext .entry))) ⌝ }
+    ensures refused { λ x. ⌜ (x .number ≢ 0 → now (words .exit) ≡ now (words .entry)) ⌝ }
 {
-    crossing::carry_out(c, 5, base, count, 0, l1d, l2, ext)
+    calls::carry_out(words, 5, base, count, 0, l1d, l2, ext)
 }
 
 #[no_mangle]
 pub extern "C" fn c64x_l2_invalidate_block(
-    c: CRecord,
+    words: &mut [u32; WORDS],
     base: u32,
     count: u32,
     l1d: &mut [u8],
     l2: &mut [u8],
     ext: &mut [u8],
-) -> CCalled
-    ensures { λ x. ⌜ calledInC x (now (l1d .exit)) (now (l2 .exit)) (now (ext .exit))
-        ≡ commandCall (command 6 base count 0) c (now (l1d .entry)) (now (l2 .entry)) (now (ext .entry)) ⌝ }
+) -> Answer
+    ensures { λ x. ⌜ reply (x .number) (x .server) (x .value) (state (recordIn (now (words .exit))) (now (l1d .exit)) (now (l2 .exit)) (now (ext .exit)))
+        ≡ call (command 6 base count 0) (state (recordIn (now (words .entry))) (now (l1d .entry)) (now (l2 .entry)) (now (ext .entry))) ⌝ }
+    ensures refused { λ x. ⌜ (x .number ≢ 0 → now (words .exit) ≡ now (words .entry)) ⌝ }
 {
-    crossing::carry_out(c, 6, base, count, 0, l1d, l2, ext)
+    calls::carry_out(words, 6, base, count, 0, l1d, l2, ext)
 }
 
 #[no_mangle]
 pub extern "C" fn c64x_l1d_writeback_invalidate_block(
-    c: CRecord,
+    words: &mut [u32; WORDS],
     base: u32,
     count: u32,
     l1d: &mut [u8],
     l2: &mut [u8],
     ext: &mut [u8],
-) -> CCalled
-    ensures { λ x. ⌜ calledInC x (now (l1d .exit)) (now (l2 .exit)) (now (ext .exit))
-        ≡ commandCall (command 7 base count 0) c (now (l1d .entry)) (now (l2 .entry)) (now (ext .entry)) ⌝ }
+) -> Answer
+    ensures { λ x. ⌜ reply (x .number) (x .server) (x .value) (state (recordIn (now (words .exit))) (now (l1d .exit)) (now (l2 .exit)) (now (ext .exit)))
+        ≡ call (command 7 base count 0) (state (recordIn (now (words .entry))) (now (l1d .entry)) (now (l2 .entry)) (now (ext .entry))) ⌝ }
+    ensures refused { λ x. ⌜ (x .number ≢ 0 → now (words .exit) ≡ now (words .entry)) ⌝ }
 {
-    crossing::carry_out(c, 7, base, count, 0, l1d, l2, ext)
+    calls::carry_out(words, 7, base, count, 0, l1d, l2, ext)
 }
 
 #[no_mangle]
 pub extern "C" fn c64x_l1d_invalidate_block(
-    c: CRecord,
+    words: &mut [u32; WORDS],
     base: u32,
     count: u32,
     l1d: &mut [u8],
     l2: &mut [u8],
     ext: &mut [u8],
-) -> CCalled
-    ensures { λ x. ⌜ calledInC x (now (l1d .exit)) (now (l2 .exit)) (now (ext .exit))
-        ≡ commandCall (command 8 base count 0) c (now (l1d .entry)) (now (l2 .entry)) (now (ext .entry)) ⌝ }
+) -> Answer
+    ensures { λ x. ⌜ reply (x .number) (x .server) (x .value) (state (recordIn (now (words .exit))) (now (l1d .exit)) (now (l2 .exit)) (now (ext .exit)))
+        ≡ call (command 8 base count 0) (state (recordIn (now (words .entry))) (now (l1d .entry)) (now (l2 .entry)) (now (ext .entry))) ⌝ }
+    ensures refused { λ x. ⌜ (x .number ≢ 0 → now (words .exit) ≡ now (words .entry)) ⌝ }
 {
-    crossing::carry_out(c, 8, base, count, 0, l1d, l2, ext)
+    calls::carry_out(words, 8, base, count, 0, l1d, l2, ext)
 }
 
 #[no_mangle]
 pub extern "C" fn c64x_l1d_invalidate_all(
-    c: CRecord,
+    words: &mut [u32; WORDS],
     l1d: &mut [u8],
     l2: &mut [u8],
     ext: &mut [u8],
-) -> CCalled
-    ensures { λ x. ⌜ calledInC x (now (l1d .exit)) (now (l2 .exit)) (now (ext .exit))
-        ≡ commandCall (command 9 0 0 0) c (now (l1d .entry)) (now (l2 .entry)) (now (ext .entry)) ⌝ }
+) -> Answer
+    ensures { λ x. ⌜ reply (x .number) (x .server) (x .value) (state (recordIn (now (words .exit))) (now (l1d .exit)) (now (l2 .exit)) (now (ext .exit)))
+        ≡ call (command 9 0 0 0) (state (recordIn (now (words .entry))) (now (l1d .entry)) (now (l2 .entry)) (now (ext .entry))) ⌝ }
+    ensures refused { λ x. ⌜ (x .number ≢ 0 → now (words .exit) ≡ now (words .entry)) ⌝ }
 {
-    crossing::carry_out(c, 9, 0, 0, 0, l1d, l2, ext)
+    calls::carry_out(words, 9, 0, 0, 0, l1d, l2, ext)
 }
 
 #[no_mangle]
 pub extern "C" fn c64x_change_mode(
-    c: CRecord,
+    words: &mut [u32; WORDS],
     mode: u32,
     l1d: &mut [u8],
     l2: &mut [u8],
     ext: &mut [u8],
-) -> CCalled
-    ensures { λ x. ⌜ calledInC x (now (l1d .exit)) (now (l2 .exit)) (now (ext .exit))
-        ≡ commandCall (command 10 mode 0 0) c (now (l1d .entry)) (now (l2 .entry)) (now (ext .entry)) ⌝ }
+) -> Answer
+    ensures { λ x. ⌜ reply (x .number) (x .server) (x .value) (state (recordIn (now (words .exit))) (now (l1d .exit)) (now (l2 .exit)) (now (ext .exit)))
+        ≡ call (command 10 mode 0 0) (state (recordIn (now (words .entry))) (now (l1d .entry)) (now (l2 .entry)) (now (ext .entry))) ⌝ }
+    ensures refused { λ x. ⌜ (x .number ≢ 0 → now (words .exit) ≡ now (words .entry)) ⌝ }
 {
-    crossing::carry_out(c, 10, mode, 0, 0, l1d, l2, ext)
+    calls::carry_out(words, 10, mode, 0, 0, l1d, l2, ext)
 }
 
 #[no_mangle]
 pub extern "C" fn c64x_change_mar(
-    c: CRecord,
+    words: &mut [u32; WORDS],
     mar: u32,
     bit: u32,
     l1d: &mut [u8],
     l2: &mut [u8],
     ext: &mut [u8],
-) -> CCalled
-    ensures { λ x. ⌜ calledInC x (now (l1d .exit)) (now (l2 .exit)) (now (ext .exit))
-        ≡ commandCall (command 11 mar bit 0) c (now (l1d .entry)) (now (l2 .entry)) (now (ext .entry)) ⌝ }
+) -> Answer
+    ensures { λ x. ⌜ reply (x .number) (x .server) (x .value) (state (recordIn (now (words .exit))) (now (l1d .exit)) (now (l2 .exit)) (now (ext .exit)))
+        ≡ call (command 11 mar bit 0) (state (recordIn (now (words .entry))) (now (l1d .entry)) (now (l2 .entry)) (now (ext .entry))) ⌝ }
+    ensures refused { λ x. ⌜ (x .number ≢ 0 → now (words .exit) ≡ now (words .entry)) ⌝ }
 {
-    crossing::carry_out(c, 11, mar, bit, 0, l1d, l2, ext)
+    calls::carry_out(words, 11, mar, bit, 0, l1d, l2, ext)
 }
 
-// A fresh start: L and E are the lengths that are lent.
 #[no_mangle]
-pub extern "C" fn c64x_fresh(l1d: &mut [u8], l2: &mut [u8], ext: &mut [u8]) -> CCalled
-    ensures { λ x. ⌜ calledInC x (now (l1d .exit)) (now (l2 .exit)) (now (ext .exit))
-        ≡ through (freshCall (now (l1d .entry)) (now (l2 .entry)) (now (ext .entry))) ⌝ }
+pub extern "C" fn c64x_fresh(
+    words: &mut [u32; WORDS],
+    l1d: &mut [u8],
+    l2: &mut [u8],
+    ext: &mut [u8],
+) -> Answer
+    ensures { λ x. ⌜ reply (x .number) (x .server) (x .value) (state (recordIn (now (words .exit))) (now (l1d .exit)) (now (l2 .exit)) (now (ext .exit)))
+        ≡ freshCall (now (l1d .entry)) (now (l2 .entry)) (now (ext .entry)) ⌝ }
 {
-    crossing::fresh(l1d, l2, ext)
+    calls::fresh(words, l1d, l2, ext)
 }
 
-// A run over a trace; one answer of ten bytes for each command.
 #[no_mangle]
 pub extern "C" fn c64x_run(
-    c: CRecord,
+    words: &mut [u32; WORDS],
     trace: &[u8],
     l1d: &mut [u8],
     l2: &mut [u8],
     ext: &mut [u8],
     answers: &mut [u8],
-) -> CRun
-    ensures { λ x. ⌜ ranInC x (now (l1d .exit)) (now (l2 .exit)) (now (ext .exit)) (now (answers .exit))
-        ≡ runBy (now (trace .entry)) (now (answers .entry)) c (now (l1d .entry)) (now (l2 .entry)) (now (ext .entry)) ⌝ }
+) -> Ran
+    ensures { λ x. ⌜ ran (state (recordIn (now (words .exit))) (now (l1d .exit)) (now (l2 .exit)) (now (ext .exit))) (x .consumed) (x .count) (x .stop) (now (answers .exit))
+        ≡ runCall (now (trace .entry)) (now (answers .entry)) (state (recordIn (now (words .entry))) (now (l1d .entry)) (now (l2 .entry)) (now (ext .entry))) ⌝ }
+    ensures refused { λ _. ⌜ (lentDue (state (recordIn (now (words .entry))) (now (l1d .entry)) (now (l2 .entry)) (now (ext .entry))) ≢ 0 → now (words .exit) ≡ now (words .entry)) ⌝ }
 {
-    crossing::run(c, trace, l1d, l2, ext, answers)
+    calls::run_trace(words, trace, l1d, l2, ext, answers)
 }
 
-// The 64 bytes go into the front of the lent buffer; one of fewer bytes is refused with 1. Returns the number, 0 when accepted.
 #[no_mangle]
 pub extern "C" fn c64x_view<'a>(
-    c: CRecord,
+    words: &[u32; WORDS],
     address: u32,
     l2: &'a [u8],
     ext: &'a [u8],
     seen: &mut [u8],
 ) -> u8
-    ensures { λ n. ⌜ seenAs n (now (seen .exit)) ≡ viewInto c address (now (l2 .entry)) (now (ext .entry)) (now (seen .entry)) ⌝ }
+    ensures { λ n. ⌜ seenAs n (now (seen .exit))
+        ≡ viewInto (recordIn (now (words .entry))) address (now (l2 .entry)) (now (ext .entry)) (now (seen .entry)) ⌝ }
 {
-    crossing::view(c, address, l2, ext, seen)
+    view::view_into(words, address, l2, ext, seen)
 }
 
-// The number of that call for a buffer that is long enough.
 #[no_mangle]
-pub extern "C" fn c64x_view_number(c: CRecord, address: u32, l2: &[u8], ext: &[u8]) -> u8
-    ensures { λ n. ⌜ n ≡ viewNumber c address (now (l2 .entry)) (now (ext .entry)) ⌝ }
+pub extern "C" fn c64x_view_number(words: &[u32; WORDS], address: u32, l2: &[u8], ext: &[u8]) -> u8
+    ensures { λ n. ⌜ n ≡ viewDue (recordIn (now (words .entry))) (now (l2 .entry)) (now (ext .entry)) address ⌝ }
 {
-    crossing::view_due(c, address, l2, ext)
+    view::view_due(words, l2, ext, address)
 }

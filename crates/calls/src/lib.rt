@@ -1,26 +1,50 @@
-// Any command as a call, and the run over a trace. Neither requires anything: every number a caller can pass, every record and every length of a lent buffer
-// meets a check, and a refused call leaves all as it was. The contracts equate the answer, the record and every lent byte with paper 01's definitions
-// (model/specs/Calls).
+// The calls of paper 01 on a record that is lent as words: the fresh start, any command, the run over a trace. Every content of the words, every number that a
+// caller can pass and every length of a lent buffer meets a check, and a refused call leaves every word and every byte as it was. The contracts equate the
+// answer, the record and every lent byte with paper 01's definitions (model/specs/Calls).
+ghost use mathlib.Core.Logic.{_≢_};
 ghost use mathlib.Core.Path.{_≡_};
+ghost use lib.ListN.{length};
 ghost use Rattle.model.specs.Records.{state};
+ghost use Rattle.model.specs.Refusals.{lentDue};
 ghost use Rattle.model.specs.Trace.{command};
-ghost use Rattle.model.specs.Calls.{call, runCall};
-ghost use Rattle.start.specs.Called.{calledAs};
-ghost use Rattle.calls.specs.Done.{ranAs};
-use model::Record;
-use start::Called;
+ghost use Rattle.model.specs.Calls.{reply, call, freshOk, freshCall, ran, runCall};
+ghost use Rattle.tags.specs.Words.{recordWords, recordIn};
+use access::Answer;
+use geometry::L1d;
+use geometry::L2;
+use model::Command;
 
-// What a run returns: the record, the bytes of the trace that were consumed, the count of answers, and why it stopped (0: at the end).
-pub struct RunResult {
-    pub record: Record,
-    pub consumed: usize,
-    pub count: usize,
-    pub stop: u8,
+// The smallest legal L and E: the record that comes with a refused fresh start has them.
+const SMALLEST_L2: u32 = 32768;
+
+const SMALLEST_EXTERNAL: u32 = L2::LINE as u32;
+
+// The command that a call asks for, from its numbers.
+fn command_of(code: u8, first: u32, second: u32, value: u64) -> Command
+    ensures { λ c. ⌜ c ≡ command code first second value ⌝ }
+{
+    Command {
+        code: code,
+        first: first,
+        second: second,
+        value: value,
+    }
 }
 
-// Any command as a direct call: the checks of lengths and record, then a run of this one command.
-pub fn one_command(
-    r: Record,
+// An answer without server and value: a refusal, or a fresh start.
+fn numbered(number: u8) -> Answer
+    ensures { λ x. ⌜ x ≡ record { number = number; server = 0; value = 0 } ⌝ }
+{
+    Answer {
+        value: 0,
+        number: number,
+        server: 0,
+    }
+}
+
+// Any command, from its numbers as they come: the checks of lengths and record, then a run of this one command.
+pub fn carry_out(
+    tags: &mut [u32],
     code: u8,
     first: u32,
     second: u32,
@@ -28,54 +52,87 @@ pub fn one_command(
     l1d: &mut [u8],
     l2: &mut [u8],
     ext: &mut [u8],
-) -> Called
-    ensures { λ x. ⌜ calledAs x (now (l1d .exit)) (now (l2 .exit)) (now (ext .exit)) ≡ call (command code first second value) (state r (now (l1d .entry)) (now (l2 .entry)) (now (ext .entry))) ⌝ }
+) -> Answer
+    requires { ⌜ length (now tags) ≡ recordWords ⌝ }
+    ensures { λ x. ⌜ reply (x .number) (x .server) (x .value) (state (recordIn (now (tags .exit))) (now (l1d .exit)) (now (l2 .exit)) (now (ext .exit)))
+        ≡ call (command code first second value) (state (recordIn (now (tags .entry))) (now (l1d .entry)) (now (l2 .entry)) (now (ext .entry))) ⌝ }
+    ensures refused { λ x. ⌜ (x .number ≢ 0 → now (tags .exit) ≡ now (tags .entry)) ⌝ }
 {
-    let due = refusals::lent_due(r, l1d, l2, ext);
+    let due = record_check::lent_due(tags, l1d, l2, ext);
     if due != 0 {
-        return start::answered(due, r);
+        return numbered(due);
     }
-    let c = start::asked(code, first, second, value);
+    let c = command_of(code, first, second, value);
     let none = [0u8; 1];
     let mut answer = [0u8; 10];
-    let q = engine::execute(r, true, c, &none, l1d, l2, ext, &mut answer);
-    let last = q.last;
-    let after = q.record;
-    Called {
-        number: last.number,
-        server: last.server,
-        value: last.value,
-        record: after,
-    }
+    let q = run::run(tags, true, c, &none, l1d, l2, ext, &mut answer);
+    q.last
 }
 
-// A run over a trace; one answer of ten bytes for each command.
-pub fn run(
-    r: Record,
+fn fresh_ok(l1d: &[u8], l2: &[u8], ext: &[u8]) -> bool
+    ensures { λ r. ⌜ r ≡ freshOk (now (l1d .entry)) (now (l2 .entry)) (now (ext .entry)) ⌝ }
+{
+    if l1d.len() != L1d::BYTES {
+        return false;
+    }
+    if !geometry::legal_l2(l2.len()) {
+        return false;
+    }
+    geometry::legal_external(ext.len())
+}
+
+// A fresh start: L and E are the lengths that are lent. What the words held before is not looked at.
+pub fn fresh(tags: &mut [u32], l1d: &mut [u8], l2: &mut [u8], ext: &mut [u8]) -> Answer
+    requires { ⌜ length (now tags) ≡ recordWords ⌝ }
+    ensures { λ x. ⌜ reply (x .number) (x .server) (x .value) (state (recordIn (now (tags .exit))) (now (l1d .exit)) (now (l2 .exit)) (now (ext .exit)))
+        ≡ freshCall (now (l1d .entry)) (now (l2 .entry)) (now (ext .entry)) ⌝ }
+{
+    if !fresh_ok(l1d, l2, ext) {
+        packing::write_fresh(tags, SMALLEST_L2, SMALLEST_EXTERNAL);
+        return numbered(1);
+    }
+    let l = l2.len() as u32;
+    let e = ext.len() as u32;
+    memory::clear_from(l1d, 0);
+    memory::clear_from(l2, 0);
+    packing::write_fresh(tags, l, e);
+    numbered(0)
+}
+
+// What a run returns: the bytes of the trace that were consumed, the count of answers, and why it stopped (0: at the end). C is given it as it stands.
+#[repr(C)]
+pub struct Ran {
+    pub consumed: usize,
+    pub count: usize,
+    pub stop: u8,
+}
+
+// A run over a trace; one answer of ten bytes for each command. Stopped by 1 or 2 it leaves every word as it was.
+pub fn run_trace(
+    tags: &mut [u32],
     trace: &[u8],
     l1d: &mut [u8],
     l2: &mut [u8],
     ext: &mut [u8],
     answers: &mut [u8],
-) -> RunResult
-    ensures { λ x. ⌜ ranAs x (now (l1d .exit)) (now (l2 .exit)) (now (ext .exit)) (now (answers .exit))
-        ≡ runCall (now (trace .entry)) (now (answers .entry)) (state r (now (l1d .entry)) (now (l2 .entry)) (now (ext .entry))) ⌝ }
+) -> Ran
+    requires { ⌜ length (now tags) ≡ recordWords ⌝ }
+    ensures { λ x. ⌜ ran (state (recordIn (now (tags .exit))) (now (l1d .exit)) (now (l2 .exit)) (now (ext .exit))) (x .consumed) (x .count) (x .stop) (now (answers .exit))
+        ≡ runCall (now (trace .entry)) (now (answers .entry)) (state (recordIn (now (tags .entry))) (now (l1d .entry)) (now (l2 .entry)) (now (ext .entry))) ⌝ }
+    ensures refused { λ _. ⌜ (lentDue (state (recordIn (now (tags .entry))) (now (l1d .entry)) (now (l2 .entry)) (now (ext .entry))) ≢ 0 → now (tags .exit) ≡ now (tags .entry)) ⌝ }
 {
-    let due = refusals::lent_due(r, l1d, l2, ext);
+    let due = record_check::lent_due(tags, l1d, l2, ext);
     if due != 0 {
-        return RunResult {
-            record: r,
+        return Ran {
             consumed: 0,
             count: 0,
             stop: due,
         };
     }
     // the commands come from the trace, and the loop does not look at this one
-    let unused = start::asked(0, 0, 0, 0);
-    let q = engine::execute(r, false, unused, trace, l1d, l2, ext, answers);
-    let after = q.record;
-    RunResult {
-        record: after,
+    let unused = command_of(0, 0, 0, 0);
+    let q = run::run(tags, false, unused, trace, l1d, l2, ext, answers);
+    Ran {
         consumed: q.consumed,
         count: q.count,
         stop: q.stop,

@@ -1,104 +1,102 @@
-// The L1D commands by the codes of paper 01's trace, and what a mode change writes back of L1D. One loop owns the record: it loads and stores
-// single sets, since a copy of the record in each turn would cost more than the turn. L1D's bytes never change here.
+// The L1D cache commands on lent words: what is done to one line, to the lines of a block, to all lines. `code` is the trace's; 10 stands for what a mode change does.
+// Each contract is the definition of paper 01 that the code asks for (`l1dOperation`), at one way, at the line of an address, at each line.
 ghost use mathlib.Core.Path.{_≡_};
-ghost use Prim.Native.Nat.{_≤_, _<_};
+ghost use Prim.Native.Nat.{_<_, _/_, _%_};
+ghost use Rattle.model.specs.Basics.{each};
 ghost use Rattle.model.specs.Records.{state};
-ghost use Rattle.model.specs.Modes.{flushL1d};
-ghost use Rattle.l1d_commands.specs.Sweep.{l1dTurns, l1dTarget, l1dWayOf, sentLine, l1dGone};
-use blocks::Target;
-use model::L1dSet;
-use model::Line;
-use model::Record;
-use sets::L1d;
-use sets::L2;
-use stages::Departure;
+ghost use Rattle.model.specs.Commands.{atL1d, eachTouched};
+ghost use Rattle.tags.specs.Words.{recordIn};
+ghost use Rattle.tags.specs.Sizes.{Lent};
+ghost use Rattle.l1d_commands.specs.Steps.{l1dOperation};
+use geometry::L1d;
 
-pub fn l1d_turns(code: u8, base: u32, count: u32) -> usize
-    ensures { λ r. ⌜ r ≡ l1dTurns code base count ⌝ }
-{
-    if code <= 8 {
-        return blocks::lines_touched(L1d::LINE, base, count);
-    }
-    L1d::SETS * L1d::WAYS
-}
-
-pub fn l1d_target(code: u8, base: u32, count: u32, k: usize) -> Target
-    requires { ⌜ k < l1dTurns code base count ⌝ }
-    ensures { λ r. ⌜ (r ≡ l1dTarget code base k) × ((r .set < 128) × (r .way < 2)) ⌝ }
-{
-    if code <= 8 {
-        let a = blocks::line_after(L1d::LINE, base, count, k);
-        return Target {
-            held: true,
-            address: a,
-            set: L1d::set_of(a),
-            way: 0,
-        };
-    }
-    Target {
-        held: false,
-        address: 0,
-        set: k / L1d::WAYS,
-        way: k % L1d::WAYS,
-    }
-}
-
-pub fn l1d_way(s: L1dSet, p: Target) -> usize
-    requires { ⌜ p .way < 2 ⌝ }
-    ensures { λ r. ⌜ (r ≡ l1dWayOf s p) × (r ≤ 2) ⌝ }
-{
-    if p.held {
-        return sets::l1d_find(s, L1d::line_of(p.address));
-    }
-    p.way
-}
-
-// The line that goes home, if it is dirty: none where the code drops lines unwritten.
-pub fn sent_line(code: u8, x: Line) -> Line
-    ensures { λ r. ⌜ r ≡ sentLine code x ⌝ }
+// What the code asks for, at one way.
+pub fn l1d_operate(
+    tags: &mut [u32],
+    sram: usize,
+    sets: usize,
+    code: u8,
+    s: usize,
+    w: usize,
+    l1d: &[u8],
+    l2: &mut [u8],
+    ext: &mut [u8],
+)
+    requires { ⌜ (s < 128) × (w < 2) ⌝ }
+    requires { ⌜ Lent sram sets (now tags) ⌝ }
+    ensures { λ _. ⌜ state (recordIn (now (tags .exit))) (now (l1d .entry)) (now (l2 .exit)) (now (ext .exit)) ≡ l1dOperation code s w (state (recordIn (now (tags .entry))) (now (l1d .entry)) (now (l2 .entry)) (now (ext .entry))) ⌝ }
 {
     if code == 7 {
-        return x;
+        l1d_writeback::evict_l1d(tags, sram, sets, s, w, l1d, l2, ext);
+        return;
     }
-    sets::empty_line()
+    if code == 10 {
+        l1d_writeback::writeback_l1d(tags, sram, sets, s, w, l1d, l2, ext);
+        return;
+    }
+    tags::l1d_put(tags, s, w, geometry::empty_line());
 }
 
-// What leaves L1D in a turn: the way that is emptied, and the line that goes home from it. Nothing where the block's line is not held.
-pub fn l1d_gone(s: L1dSet, p: Target, code: u8) -> Departure
-    requires { ⌜ p .way < 2 ⌝ }
-    ensures { λ r. ⌜ (r ≡ l1dGone s p code) × (r .way < 2) ⌝ }
+// The same at the way that holds the line of address a, if one does.
+pub fn l1d_touched(
+    tags: &mut [u32],
+    sram: usize,
+    sets: usize,
+    code: u8,
+    a: u32,
+    l1d: &[u8],
+    l2: &mut [u8],
+    ext: &mut [u8],
+)
+    requires { ⌜ Lent sram sets (now tags) ⌝ }
+    ensures { λ _. ⌜ state (recordIn (now (tags .exit))) (now (l1d .entry)) (now (l2 .exit)) (now (ext .exit)) ≡ atL1d (l1dOperation code) a (state (recordIn (now (tags .entry))) (now (l1d .entry)) (now (l2 .entry)) (now (ext .entry))) ⌝ }
 {
-    let w = l1d_way(s, p);
-    if 2 <= w {
-        return Departure {
-            empties: false,
-            way: 0,
-            line: sets::empty_line(),
-        };
+    let s = L1d::set_of(a);
+    let w = tags::l1d_find(tags, s, L1d::line_of(a));
+    if L1d::WAYS <= w {
+        return;
     }
-    Departure {
-        empties: true,
-        way: w,
-        line: sent_line(code, sets::l1d_get(s, w)),
+    l1d_operate(tags, sram, sets, code, s, w, l1d, l2, ext);
+}
+
+// Each line that a block touches.
+pub fn l1d_block(
+    tags: &mut [u32],
+    sram: usize,
+    sets: usize,
+    code: u8,
+    base: u32,
+    count: u32,
+    l1d: &[u8],
+    l2: &mut [u8],
+    ext: &mut [u8],
+)
+    requires { ⌜ Lent sram sets (now tags) ⌝ }
+    ensures { λ _. ⌜ state (recordIn (now (tags .exit))) (now (l1d .entry)) (now (l2 .exit)) (now (ext .exit)) ≡ eachTouched 64 (atL1d (l1dOperation code)) base count (state (recordIn (now (tags .entry))) (now (l1d .entry)) (now (l2 .entry)) (now (ext .entry))) ⌝ }
+{
+    let n = geometry::lines_touched(L1d::LINE, base, count);
+    for k in 0..n {
+        let a = geometry::line_after(L1d::LINE, base, count, k);
+        l1d_touched(tags, sram, sets, code, a, l1d, l2, ext);
     }
 }
 
-// All dirty L1D lines go home, as a mode change asks; the lines themselves stay as they are.
-pub fn flush_l1d(r0: Record, l1d: &[u8], l2: &mut [u8], ext: &mut [u8]) -> Record
-    ensures { λ q. ⌜ state q (now (l1d .entry)) (now (l2 .exit)) (now (ext .exit)) ≡ flushL1d (state r0 (now (l1d .entry)) (now (l2 .entry)) (now (ext .entry))) ⌝ }
+// Each way, set by set and way by way.
+pub fn l1d_all(
+    tags: &mut [u32],
+    sram: usize,
+    sets: usize,
+    code: u8,
+    l1d: &[u8],
+    l2: &mut [u8],
+    ext: &mut [u8],
+)
+    requires { ⌜ Lent sram sets (now tags) ⌝ }
+    ensures { λ _. ⌜ state (recordIn (now (tags .exit))) (now (l1d .entry)) (now (l2 .exit)) (now (ext .exit)) ≡ each (λ k. l1dOperation code (k / 2) (k % 2)) 256 (state (recordIn (now (tags .entry))) (now (l1d .entry)) (now (l2 .entry)) (now (ext .entry))) ⌝ }
 {
-    let sets = L2::sets(r0.mode);
-    let sram = L2::sram(r0.l2len, r0.mode);
-    let mut q = r0;
-    for k in 0..256 {
-        let i = k / L1d::WAYS;
+    for k in 0..L1d::LINES {
+        let s = k / L1d::WAYS;
         let w = k % L1d::WAYS;
-        let s = q.l1d[i];
-        let x = sets::l1d_get(s, w);
-        let j = L2::set_of(sets, x.address);
-        let u = q.l2[j];
-        let t = eviction::send_home(u, sram, sets, j, i, w, x, l1d, l2, ext);
-        q.l2[j] = t;
+        l1d_operate(tags, sram, sets, code, s, w, l1d, l2, ext);
     }
-    q
 }

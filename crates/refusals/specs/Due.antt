@@ -1,74 +1,17 @@
 -- Each number, as the code comes to it: the tests passed so far, and what the next one says. Where only the last test is left, one law gives the number for
--- both its answers (`lent-last`, `view-last`, `access-last`).
+-- both its answers (`access-last`).
 use Prim.Native.Nat.{ℕ, _+_, _%_, _≤_, _<_}
 use mathlib.Core.Bool.{Bool, true, false, _&&_, _||_}
-use mathlib.Core.List.{List}
 use mathlib.Core.Path.{_≡_, refl, sym, _∙_}
 use native.Mathlib.Omega.{arith}
-use lib.ListN.{length}
 use lib.Dec.{ltb, leb, eqb}
 use borrow.Author.Tests.{lt-ltb, le-ltb, le-leb, lt-leb, eq-eqb, ne-eqb, eqb-true}
-use Rattle.model.specs.Memories.{legalL2, legalExternal, externalBase, isMode, cacheSize}
-use Rattle.model.specs.Records.{state, sramOf, wellFormed}
-use Rattle.model.specs.Refusals.{first, unless, lentL1d, lentL2, lentExternal, lentDue, viewLentDue, viewDue, sizeOk, placeOk, valueOk, accessDue, blockDue, modeDue}
-use Rattle.model.specs.declared.Record.{Record}
+use Rattle.model.specs.Memories.{externalBase, isMode, cacheSize}
+use Rattle.model.specs.Refusals.{unless, sizeOk, placeOk, valueOk, accessDue, blockDue, modeDue}
 
 -- "4: address not a multiple of the size"
 abbrev pub aligned : ℕ → ℕ → Bool
 aligned n a = eqb (a % n) 0
-
--- ---- the lent lengths: a and b are what the tests of L2's and of external memory's say
-pub record Legal (r : Record) (m e : List ℕ) (a b : Bool) : Type 0 where
-  pub l2 : a ≡ legalL2 (length m)
-  pub ext : b ≡ legalExternal (length e)
-
-module _ {r : Record} {m e : List ℕ} {a b : Bool} (k : Legal r m e a b) where
-  abbrev bothLent : Bool
-  bothLent = (a && eqb (length m) (r .l2len)) && (b && eqb (length e) (r .extlen))
-
-  both-lent : bothLent ≡ (lentL2 r m && lentExternal r e)
-  unfolding lentL2 lentExternal
-  both-lent = rw (k .l2, k .ext) refl
-
-  module _ (d : List ℕ) where
-    by-lent : lentDue (state r d m e) ≡ first (unless (eqb (length d) 16384 && bothLent) 1) (unless (wellFormed r) 2)
-    unfolding lentDue lentL1d
-    by-lent = rw both-lent refl
-
-    pub lent-one : (eqb (length d) 16384 && bothLent) ≡ false → 1 ≡ lentDue (state r d m e)
-    lent-one f = sym (by-lent ∙ rw f refl)
-
-    -- w: what the test of the record says
-    pub lent-last : (eqb (length d) 16384 && bothLent) ≡ true → (w : Bool) → w ≡ wellFormed r → lentDue (state r d m e) ≡ unless w 2
-    lent-last f w g = by-lent ∙ rw (f, g) refl
-
-  -- ---- the view
-  module _ (x : ℕ) where
-    pub view-one : bothLent ≡ false → 1 ≡ viewDue r m e x
-    unfolding viewDue viewLentDue
-    view-one f = rw (sym both-lent ∙ f) refl
-
-    pub view-two : bothLent ≡ true → wellFormed r ≡ false → 2 ≡ viewDue r m e x
-    unfolding viewDue viewLentDue
-    view-two f w = rw (sym both-lent ∙ f, w) refl
-
--- nothing is due for the memories and the record
-pub record Accepted (r : Record) (m e : List ℕ) (a b : Bool) : Type 0 where
-  pub legal : Legal r m e a b
-  pub lent : bothLent legal ≡ true
-  pub formed : wellFormed r ≡ true
-
-module _ {r : Record} {m e : List ℕ} {a b : Bool} (k : Accepted r m e a b) (x : ℕ) where
-  by-address : viewDue r m e x ≡ first (unless (eqb (x % 64) 0) 4) (unless (placeOk (sramOf r) (r .extlen) 64 x) 5)
-  unfolding viewDue viewLentDue
-  by-address = rw (sym (both-lent (k .legal)) ∙ k .lent, k .formed) refl
-
-  pub view-four : (x % 64 ≡ 0 → ⊥) → 4 ≡ viewDue r m e x
-  view-four n = sym (by-address ∙ rw (ne-eqb (x % 64) 0 n) refl)
-
-  -- p: what the test of the place says
-  pub view-last : x % 64 ≡ 0 → (s : ℕ) → s ≡ sramOf r → (p : Bool) → p ≡ placeOk s (r .extlen) 64 x → viewDue r m e x ≡ unless p 5
-  view-last n s es p ep = by-address ∙ rw (eq-eqb (x % 64) 0 n, ep, es) refl
 
 -- ---- a read or a write
 pub size-joined : (n : ℕ) → (eqb n 1 || (eqb n 2 || (eqb n 4 || eqb n 8))) ≡ sizeOk n

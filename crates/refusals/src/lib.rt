@@ -1,50 +1,11 @@
 // The lowest number of the refusal table that is due (paper 01, "Refusal table"); 0 where none is. Every function answers for every argument.
 ghost use mathlib.Core.Bool.{true};
 ghost use mathlib.Core.Path.{_≡_};
-ghost use Rattle.model.specs.Records.{state};
-ghost use Rattle.model.specs.Refusals.{sizeOk, placeOk, valueOk, accessDue, blockDue, modeDue, lentDue, viewDue};
+ghost use Rattle.model.specs.Refusals.{sizeOk, placeOk, valueOk, accessDue, blockDue, modeDue};
 ghost use Rattle.refusals.specs.Due.{aligned};
-use model::Record;
 
-// ---- lent memories and the record: 1 and 2
-pub fn lent_due(r: Record, l1d: &[u8], l2: &[u8], ext: &[u8]) -> u8
-    ensures { λ n. ⌜ n ≡ lentDue (state r (now (l1d .entry)) (now (l2 .entry)) (now (ext .entry))) ⌝ }
-{
-    let m = l2.len();
-    let e = ext.len();
-    let l2_lent = sizes::legal_l2(m) & (m == r.l2len as usize);
-    let ext_lent = sizes::legal_external(e) & (e == r.extlen as usize);
-    if (l1d.len() == 16384) & (l2_lent & ext_lent) {} else {
-        return 1;
-    }
-    if wellformed::well_formed(r) {
-        return 0;
-    }
-    2
-}
-
-// The technician's view of the 64 bytes at a: 1, 2, 4, 5.
-pub fn view_due(r: Record, l2: &[u8], ext: &[u8], a: u32) -> u8
-    ensures { λ n. ⌜ n ≡ viewDue r (now (l2 .entry)) (now (ext .entry)) a ⌝ }
-{
-    let m = l2.len();
-    let e = ext.len();
-    let l2_lent = sizes::legal_l2(m) & (m == r.l2len as usize);
-    let ext_lent = sizes::legal_external(e) & (e == r.extlen as usize);
-    if l2_lent & ext_lent {} else {
-        return 1;
-    }
-    if wellformed::well_formed(r) {} else {
-        return 2;
-    }
-    if a % 64 == 0 {
-        if place_ok(sizes::sram_length(r.l2len, r.mode as u32), r.extlen, 64, a) {
-            return 0;
-        }
-        return 5;
-    }
-    4
-}
+// Sums of an address and a length are made of 64 bits, so that none wraps.
+const EXTERNAL: u64 = geometry::EXTERNAL_BASE as u64;
 
 // ---- a read or a write: 3 to 6
 fn size_ok(size: u32) -> bool
@@ -69,14 +30,14 @@ fn is_aligned(size: u32, a: u32) -> bool
     a % 8 == 0
 }
 
-fn place_ok(sram: u32, ext: u32, size: u32, a: u32) -> bool
+pub fn place_ok(sram: u32, ext: u32, size: u32, a: u32) -> bool
     ensures { λ b. ⌜ b ≡ placeOk sram ext size a ⌝ }
 {
     let end = a as u64 + size as u64;
-    if a < 2147483648 {
+    if a < geometry::EXTERNAL_BASE {
         return end <= sram as u64;
     }
-    end <= 2147483648 + ext as u64
+    end <= EXTERNAL + ext as u64
 }
 
 fn value_ok(size: u32, value: u64) -> bool
@@ -133,7 +94,7 @@ pub fn block_due(base: u32, count: u32) -> u8
 pub fn mode_due(l2len: u32, mode: u32) -> u8
     ensures { λ n. ⌜ n ≡ modeDue l2len mode ⌝ }
 {
-    if sizes::is_mode(mode) & (sizes::cache_size(mode) <= l2len) {
+    if geometry::is_mode(mode) & (geometry::cache_size(mode) <= l2len) {
         return 0;
     }
     8

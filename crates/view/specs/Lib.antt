@@ -1,1 +1,3 @@
 pub mod Seen
+pub mod Due
+pub mod Into

@@ -1,0 +1,63 @@
+use Rattle.access.specs.Serving.{room-made}
+use Rattle.tags.specs.Words.{recordIn}
+use Rattle.model.specs.Records.{state}
+use mathlib.Core.Path.{sym, _∙_}
+use native.Mathlib.Omega.{arith}
+use Rattle.model.specs.Laws.{cond-true, false-true}
+use Rattle.model.specs.Access.{evictL1d}
+use Rattle.model.specs.Ways.{l1dVictim}
+use Rattle.model.specs.Records.{l1dSetAt}
+use borrow.Author.Needs.{needs}
+use Rattle.access.proofs.free_way.Statement.{statement}
+use Rattle.access.proofs.free_way.Tie as tie
+use Rattle.access.proofs.free_way.Reads as reads
+use Rattle.access.proofs.free_way.Lts as lts
+use Rattle.l1d_writeback.proofs.evict_l1d.Reads as evict-l1d-reads
+use Rattle.tags.proofs.l1d_victim.Reads as l1d-victim-reads
+
+-- src/lib.rt:146:9
+returns : tie.Need-returns
+returns c =
+    let a = (c .before .before .before .before .before) .args in let k = (c .before .before .before .before .before) .pre in let r = recordIn (a .tags .now) in let z = state r (a .l1d .now) (a .l2 .now) (a .ext .now) in
+    ((omega arith, λ q. false-true (sym q ∙ (c .if1) .taken)), cond-true (a .write) z (evictL1d (a .i) (l1dVictim (l1dSetAt r (a .i))) z) ((c .if1) .taken))
+
+-- src/lib.rt:148:9
+l1d-victim-requires : tie.Need-l1d-victim-requires
+l1d-victim-requires c κs = search needs
+
+-- src/lib.rt:149:5
+evict-l1d-requires : tie.Need-evict-l1d-requires
+evict-l1d-requires c κs = search needs
+
+-- src/lib.rt:137:1
+same-length : tie.Need-same-length
+same-length c = search needs
+
+-- src/lib.rt:137:1
+same-length-2 : tie.Need-same-length-2
+same-length-2 c = search needs
+
+-- src/lib.rt:137:1
+same-length-3 : tie.Need-same-length-3
+same-length-3 c = search needs
+
+-- src/lib.rt:137:1
+returns-2 : tie.Need-returns-2
+returns-2 c =
+    let a = (c .before .before .before .before .before .before .before .before .before .before .before .before .before .before .before .before .before) .args in let k = (c .before .before .before .before .before .before .before .before .before .before .before .before .before .before .before .before .before) .pre in let r = recordIn (a .tags .now) in let z = state r (a .l1d .now) (a .l2 .now) (a .ext .now) in
+    let g = (c .before .before .before .before .before .before .evict-l1d) in (
+      ((c .before .before .before .before .before .before .before .before .before .before .l1d-victim) .ensures .1, λ _. (c .before .before .before .before .before .before .before .before .before .before .l1d-victim) .ensures .0),
+      room-made (a .write) z (state (recordIn (g .last .0)) (a .l1d .now) (g .last .1 .1 .1 .1 .1 .1 .0) (g .last .1 .1 .1 .1 .1 .1 .1 .0)) (a .i) ((c .before .before .before .before .before .before .before .before .before .before .l1d-victim) .result) (l1dVictim (l1dSetAt r (a .i))) ((c .before .before .before .before .before .before .before .before .before .before .before .before .if1) .left) ((c .before .before .before .before .before .before .before .before .before .before .l1d-victim) .ensures .0) (g .ensures),
+    )
+
+pub free-way-spec : {M : Type 1} → statement M
+free-way-spec =
+    tie.close
+    (tie.spec
+    returns
+    l1d-victim-requires
+    evict-l1d-requires
+    same-length
+    same-length-2
+    same-length-3
+    returns-2)

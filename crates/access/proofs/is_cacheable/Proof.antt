@@ -1,0 +1,46 @@
+use Rattle.access.specs.Serving.{cached-inside, cached-128, cached-129}
+use Rattle.tags.specs.Words.{recordIn}
+use mathlib.Core.Path.{_∙_}
+use borrow.Author.Needs.{needs}
+use Rattle.access.proofs.is_cacheable.Statement.{statement}
+use Rattle.access.proofs.is_cacheable.Tie as tie
+use Rattle.access.proofs.is_cacheable.Reads as reads
+use Rattle.access.proofs.is_cacheable.Lts as lts
+use Rattle.geometry.proofs.is_external.Reads as is-external-reads
+use Rattle.tags.proofs.mar128_of.Reads as mar128-of-reads
+use Rattle.tags.proofs.mar129_of.Reads as mar129-of-reads
+
+-- src/lib.rt:302:9
+mar128-of-requires : tie.Need-mar128-of-requires
+mar128-of-requires c κs = search needs
+
+-- src/lib.rt:303:9
+mar129-of-requires : tie.Need-mar129-of-requires
+mar129-of-requires c κs = search needs
+
+-- src/lib.rt:304:9
+is-external-requires : tie.Need-is-external-requires
+is-external-requires c κs = search needs
+
+-- src/lib.rt:305:9
+returns : tie.Need-returns
+returns c = cached-inside (recordIn ((c .before .before .before .before .before) .args .tags .now)) ((c .before .before .before .before .before) .args .a) ((c .before .is-external) .ensures ∙ (c .if1) .taken)
+
+-- src/lib.rt:308:9
+returns-2 : tie.Need-returns-2
+returns-2 c = cached-128 (recordIn ((c .before .before .before .before .before .before) .args .tags .now)) ((c .before .before .before .before .before .before) .args .a) ((c .before .before .before .before .mar128-of) .result) ((c .before .before .is-external) .ensures ∙ (c .before .if1) .left) ((c .if2) .taken) ((c .before .before .before .before .mar128-of) .ensures)
+
+-- src/lib.rt:298:1
+returns-3 : tie.Need-returns-3
+returns-3 c = cached-129 (recordIn ((c .before .before .before .before .before .before) .args .tags .now)) ((c .before .before .before .before .before .before) .args .a) ((c .before .before .before .mar129-of) .result) ((c .before .before .is-external) .ensures ∙ (c .before .if1) .left) ((c .if2) .left) ((c .before .before .before .mar129-of) .ensures)
+
+pub is-cacheable-spec : {M : Type 1} → statement M
+is-cacheable-spec =
+    tie.close
+    (tie.spec
+    mar128-of-requires
+    mar129-of-requires
+    is-external-requires
+    returns
+    returns-2
+    returns-3)

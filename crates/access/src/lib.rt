@@ -1,0 +1,231 @@
+// An access on lent words: each function is the step of paper 01 itself, and all are total: they say what they do for every content of the words. Nothing here sees a word:
+// lines, orders and bits are reached through crate tags, bytes through crate memory.
+ghost use mathlib.Core.Bool.{true, false, cond};
+ghost use mathlib.Core.Logic.{_≢_};
+ghost use mathlib.Core.Path.{_≡_};
+ghost use mathlib.Core.List.{List, []};
+ghost use Prim.Native.Nat.{ℕ, _<_};
+ghost use lib.Dec.{eqb, ltb};
+ghost use lib.ListN.{length};
+ghost use Rattle.model.specs.Bytes.{little, littleBytes};
+ghost use Rattle.model.specs.Lines.{l1dSetOf};
+ghost use Rattle.model.specs.Memories.{externalBase};
+ghost use Rattle.model.specs.Records.{State, state, l1dSetAt};
+ghost use Rattle.model.specs.Ways.{l1dVictim, l1dWay, useL1d};
+ghost use Rattle.model.specs.Homes.{memoryPart, putMemory};
+ghost use Rattle.model.specs.Access.{access, cacheable, l1dBytes, evictL1d, putL1d, readHit, writeHit, readMiss, writeMiss};
+ghost use Rattle.model.specs.Refusals.{sizeOk};
+ghost use Rattle.model.specs.Calls.{reply, step};
+ghost use Rattle.tags.specs.Words.{recordWords, recordIn};
+ghost use Rattle.tags.specs.Sizes.{Lent};
+ghost use Rattle.access.specs.Serving.{answered};
+use geometry::L1d;
+use geometry::L2;
+use model::Command;
+
+// What an access answers: the number of its refusal (0: accepted), who served it, and the value that was read.
+// C is given it as it stands.
+#[repr(C)]
+pub struct Answer {
+    pub value: u64,
+    pub number: u8,
+    pub server: u8,
+}
+
+// ---- a way of L1D serves
+// Its bytes, the way used.
+pub fn read_way(tags: &mut [u32], i: usize, w: usize, a: u32, n: u32, l1d: &[u8]) -> u64
+    requires { ⌜ ((i < 128) × (w < 2)) × (length (now tags) ≡ recordWords) ⌝ }
+    requires { ⌜ (i ≡ l1dSetOf a) × (sizeOk n ≡ true) ⌝ }
+    ensures { λ r. ⌜ ((m e : List ℕ) → r ≡ little (l1dBytes w a n (state (recordIn (now (tags .entry))) (now (l1d .entry)) m e))) ⌝ }
+    ensures { λ _. ⌜ ((m e : List ℕ) → state (recordIn (now (tags .exit))) (now (l1d .entry)) m e
+        ≡ useL1d (l1dSetOf a) w (state (recordIn (now (tags .entry))) (now (l1d .entry)) m e)) ⌝ }
+{
+    tags::l1d_use(tags, i, w);
+    memory::load(l1d, L1d::data_at(i, w) + L1d::offset_of(a), n)
+}
+
+// Bytes changed, line dirty, way used.
+pub fn write_way(tags: &mut [u32], i: usize, w: usize, a: u32, n: u32, v: u64, l1d: &mut [u8])
+    requires { ⌜ ((i < 128) × (w < 2)) × (length (now tags) ≡ recordWords) ⌝ }
+    requires { ⌜ (i ≡ l1dSetOf a) × (sizeOk n ≡ true) ⌝ }
+    ensures { λ _. ⌜ ((m e : List ℕ) → state (recordIn (now (tags .exit))) (now (l1d .exit)) m e
+        ≡ useL1d (l1dSetOf a) w (putL1d w a (littleBytes v n) (state (recordIn (now (tags .entry))) (now (l1d .entry)) m e))) ⌝ }
+{
+    memory::store(l1d, L1d::data_at(i, w) + L1d::offset_of(a), n, v);
+    let y = tags::l1d_line(tags, i, w);
+    tags::l1d_put(tags, i, w, geometry::line_at(y.address, true));
+    tags::l1d_use(tags, i, w);
+}
+
+// A hit in way w of L1D set i.
+pub fn hit(tags: &mut [u32], i: usize, w: usize, c: Command, l1d: &mut [u8]) -> u64
+    requires { ⌜ ((i < 128) × (w < 2)) × (length (now tags) ≡ recordWords) ⌝ }
+    requires { ⌜ (i ≡ l1dSetOf (c .second)) × (sizeOk (c .first) ≡ true) ⌝ }
+    ensures { λ r. ⌜ ((m e : List ℕ) → w ≡ l1dWay (state (recordIn (now (tags .entry))) (now (l1d .entry)) m e) (c .second) →
+        reply 0 1 r (state (recordIn (now (tags .exit))) (now (l1d .exit)) m e)
+        ≡ answered c (readHit (c .first) (c .second) (state (recordIn (now (tags .entry))) (now (l1d .entry)) m e))
+        (writeHit (c .second) (littleBytes (c .value) (c .first)) (state (recordIn (now (tags .entry))) (now (l1d .entry)) m e))) ⌝ }
+{
+    if c.code == 1 {
+        write_way(tags, i, w, c.second, c.first, c.value, l1d);
+        return 0;
+    }
+    read_way(tags, i, w, c.second, c.first, l1d)
+}
+
+// ---- a miss
+// A read miss chooses a way of L1D set i; a dirty line there is written back to its home and the way emptied. A write miss chooses none.
+pub fn free_way(
+    tags: &mut [u32],
+    sram: usize,
+    sets: usize,
+    i: usize,
+    write: bool,
+    l1d: &[u8],
+    l2: &mut [u8],
+    ext: &mut [u8],
+) -> usize
+    requires { ⌜ i < 128 ⌝ }
+    requires { ⌜ Lent sram sets (now tags) ⌝ }
+    ensures { λ r. ⌜ (r < 2) × (write ≡ false → r ≡ l1dVictim (l1dSetAt (recordIn (now (tags .entry))) i)) ⌝ }
+    ensures { λ _. ⌜ state (recordIn (now (tags .exit))) (now (l1d .entry)) (now (l2 .exit)) (now (ext .exit))
+        ≡ cond write (state (recordIn (now (tags .entry))) (now (l1d .entry)) (now (l2 .entry)) (now (ext .entry)))
+        (evictL1d i (l1dVictim (l1dSetAt (recordIn (now (tags .entry))) i)) (state (recordIn (now (tags .entry))) (now (l1d .entry)) (now (l2 .entry)) (now (ext .entry)))) ⌝ }
+{
+    if write {
+        return 0;
+    }
+    let w = tags::l1d_victim(tags, i);
+    l1d_writeback::evict_l1d(tags, sram, sets, i, w, l1d, l2, ext);
+    w
+}
+
+// Neither way of L1D set i holds the line.
+pub fn miss(
+    tags: &mut [u32],
+    sram: usize,
+    sets: usize,
+    i: usize,
+    c: Command,
+    l1d: &mut [u8],
+    l2: &mut [u8],
+    ext: &mut [u8],
+) -> Answer
+    requires { ⌜ (i < 128) × ((i ≡ l1dSetOf (c .second)) × (sizeOk (c .first) ≡ true)) ⌝ }
+    requires { ⌜ Lent sram sets (now tags) ⌝ }
+    ensures { λ r. ⌜ reply (r .number) (r .server) (r .value) (state (recordIn (now (tags .exit))) (now (l1d .exit)) (now (l2 .exit)) (now (ext .exit)))
+        ≡ answered c (readMiss (c .first) (c .second) (state (recordIn (now (tags .entry))) (now (l1d .entry)) (now (l2 .entry)) (now (ext .entry))))
+        (writeMiss (c .second) (littleBytes (c .value) (c .first)) (state (recordIn (now (tags .entry))) (now (l1d .entry)) (now (l2 .entry)) (now (ext .entry)))) ⌝ }
+{
+    let write = c.code == 1;
+    let w = free_way(tags, sram, sets, i, write, l1d, l2, ext);
+    let h = l2_fetch::fetch_l2(tags, sram, sets, c.second, l1d, l2, ext);
+    if write {
+        l2_fetch::write_home(tags, sram, sets, h, c.second, c.first, c.value, l2, ext);
+        return Answer {
+            number: 0,
+            server: h.server,
+            value: 0,
+        };
+    }
+    l2_fetch::fill_l1d(tags, sram, sets, h, i, w, c.second, l1d, l2, ext);
+    let v = read_way(tags, i, w, c.second, c.first, l1d);
+    Answer {
+        number: 0,
+        server: h.server,
+        value: v,
+    }
+}
+
+// ---- the whole
+// Both bits are read first: the tests then choose between values and not between loads, which the whole loop is faster for.
+pub fn is_cacheable(tags: &[u32], a: u32) -> bool
+    requires { ⌜ length (now tags) ≡ recordWords ⌝ }
+    ensures { λ r. ⌜ r ≡ cacheable (recordIn (now (tags .entry))) a ⌝ }
+{
+    let m = tags::mar128_of(tags);
+    let n = tags::mar129_of(tags);
+    if !geometry::is_external(a) {
+        return true;
+    }
+    if a < geometry::MAR_129_FROM {
+        return m;
+    }
+    n
+}
+
+// External memory with MAR bit 0 is reached directly, touching no line.
+pub fn uncached(c: Command, ext: &mut [u8]) -> u64
+    requires { ⌜ (sizeOk (c .first) ≡ true) × (ltb (c .second) externalBase ≡ false) ⌝ }
+    ensures { λ r. ⌜ ((z : State) → z .ext ≡ now (ext .entry) → reply 0 4 r (state (z .rec) (z .l1d) (z .l2) (now (ext .exit)))
+        ≡ answered c (access 4 (memoryPart (c .second) (c .first) z) z) (access 4 [] (putMemory (c .second) (littleBytes (c .value) (c .first)) z))) ⌝ }
+{
+    let at = geometry::external_place(c.second);
+    if c.code == 1 {
+        memory::store(ext, at, c.first, c.value);
+        return 0;
+    }
+    memory::load(ext, at, c.first)
+}
+
+// The value that is checked: a read has none.
+pub fn checked_value(c: Command) -> u64
+    ensures { λ r. ⌜ r ≡ cond (eqb (c .code) 1) (c .value) 0 ⌝ }
+{
+    if c.code == 1 {
+        return c.value;
+    }
+    0
+}
+
+// A read or a write: number, server and value of the answer, the record and every lent byte are those of `step`.
+pub fn access(
+    tags: &mut [u32],
+    sram: usize,
+    sets: usize,
+    c: Command,
+    l1d: &mut [u8],
+    l2: &mut [u8],
+    ext: &mut [u8],
+) -> Answer
+    requires { ⌜ c .code < 2 ⌝ }
+    requires { ⌜ Lent sram sets (now tags) ⌝ }
+    ensures { λ r. ⌜ reply (r .number) (r .server) (r .value) (state (recordIn (now (tags .exit))) (now (l1d .exit)) (now (l2 .exit)) (now (ext .exit)))
+        ≡ step c (state (recordIn (now (tags .entry))) (now (l1d .entry)) (now (l2 .entry)) (now (ext .entry))) ⌝ }
+    ensures refused { λ r. ⌜ (r .number ≢ 0 → now (tags .exit) ≡ now (tags .entry)) ⌝ }
+{
+    let due = refusals::access_due(
+        sram as u32,
+        tags::extlen_of(tags),
+        c.first,
+        c.second,
+        checked_value(c),
+    );
+    if due != 0 {
+        return Answer {
+            number: due,
+            server: 0,
+            value: 0,
+        };
+    }
+    if !is_cacheable(tags, c.second) {
+        let v = uncached(c, ext);
+        return Answer {
+            number: 0,
+            server: 4,
+            value: v,
+        };
+    }
+    let i = L1d::set_of(c.second);
+    let w = tags::l1d_find(tags, i, L1d::line_of(c.second));
+    if w < L1d::WAYS {
+        let v = hit(tags, i, w, c, l1d);
+        return Answer {
+            number: 0,
+            server: 1,
+            value: v,
+        };
+    }
+    miss(tags, sram, sets, i, c, l1d, l2, ext)
+}

@@ -1,0 +1,28 @@
+-- `by_value::view` meets its contract: the words stand for the record (pack), and the view goes by them.
+use Rattle.model.specs.declared.Record.{Record}
+use mathlib.Core.Path.{ap, _∙_}
+use Rattle.model.specs.Calls.{viewCall}
+use borrow.Author.Needs.{needs}
+use Rattle.by_value.proofs.view.Statement.{statement}
+use Rattle.by_value.proofs.view.Tie as tie
+
+slice-aggregate-pack : tie.Need-slice-aggregate-pack
+slice-aggregate-pack c = search needs
+
+pack-requires : tie.Need-pack-requires
+pack-requires c κs = search needs
+
+slice-aggregate-view : tie.Need-slice-aggregate-view
+slice-aggregate-view c = search needs
+
+view-requires : tie.Need-view-requires
+view-requires c κs = search needs
+
+returns : tie.Need-returns
+returns c =
+    let a = (c .before .before .before .before .before .before .before) .args in (c .view) .ensures ∙ ap (λ (q : Record). viewCall q (a .l2 .now) (a .ext .now) (a .address)) ((c .before .before .before .pack) .ensures)
+
+pub view-spec : {M : Type 1} → statement M
+view-spec =
+    tie.close
+    (tie.spec slice-aggregate-pack pack-requires slice-aggregate-view view-requires returns)

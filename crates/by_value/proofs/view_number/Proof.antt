@@ -1,0 +1,33 @@
+-- `by_value::view_number` meets its contract: the words stand for the record (pack), and the number goes by them.
+use Rattle.model.specs.declared.Record.{Record}
+use mathlib.Core.Path.{ap, _∙_}
+use Rattle.model.specs.Refusals.{viewDue}
+use borrow.Author.Needs.{needs}
+use Rattle.by_value.proofs.view_number.Statement.{statement}
+use Rattle.by_value.proofs.view_number.Tie as tie
+
+slice-aggregate-pack : tie.Need-slice-aggregate-pack
+slice-aggregate-pack c = search needs
+
+pack-requires : tie.Need-pack-requires
+pack-requires c κs = search needs
+
+slice-aggregate-view-due : tie.Need-slice-aggregate-view-due
+slice-aggregate-view-due c = search needs
+
+view-due-requires : tie.Need-view-due-requires
+view-due-requires c κs = search needs
+
+returns : tie.Need-returns
+returns c =
+    let a = (c .before .before .before .before .before .before .before) .args in (c .view-due) .ensures ∙ ap (λ (q : Record). viewDue q (a .l2 .now) (a .ext .now) (a .address)) ((c .before .before .before .pack) .ensures)
+
+pub view-number-spec : {M : Type 1} → statement M
+view-number-spec =
+    tie.close
+    (tie.spec
+    slice-aggregate-pack
+    pack-requires
+    slice-aggregate-view-due
+    view-due-requires
+    returns)

@@ -1,0 +1,259 @@
+// The exported calls of paper 01 in Rattle. The record goes in and comes back by value, with its sets in arrays of set structs; each call puts it into words,
+// makes the call on the words, and takes it out again. None requires anything. The contracts equate the answer, the record and every lent byte with paper 01's
+// definitions (model/specs/Calls).
+ghost use mathlib.Core.Path.{_≡_};
+ghost use Rattle.model.specs.Records.{state};
+ghost use Rattle.model.specs.Refusals.{viewDue};
+ghost use Rattle.model.specs.Trace.{command};
+ghost use Rattle.model.specs.Calls.{call, freshCall, runCall, viewCall};
+ghost use Rattle.by_value.specs.Called.{calledAs, ranAs};
+use model::Record;
+use tags::WORDS;
+
+// What a call returns: the number of its refusal (0: accepted), the server and the value of an access, and the record after it.
+pub struct Called {
+    pub number: u8,
+    pub server: u8,
+    pub value: u64,
+    pub record: Record,
+}
+
+// What a run returns: the record, the bytes of the trace that were consumed, the count of answers, and why it stopped (0: at the end).
+pub struct RunResult {
+    pub record: Record,
+    pub consumed: usize,
+    pub count: usize,
+    pub stop: u8,
+}
+
+// Any command.
+pub fn one_command(
+    r: Record,
+    code: u8,
+    first: u32,
+    second: u32,
+    value: u64,
+    l1d: &mut [u8],
+    l2: &mut [u8],
+    ext: &mut [u8],
+) -> Called
+    ensures { λ x. ⌜ calledAs x (now (l1d .exit)) (now (l2 .exit)) (now (ext .exit))
+        ≡ call (command code first second value) (state r (now (l1d .entry)) (now (l2 .entry)) (now (ext .entry))) ⌝ }
+{
+    let mut tags = [0u32; WORDS];
+    packing::pack(r, &mut tags);
+    let x = calls::carry_out(&mut tags, code, first, second, value, l1d, l2, ext);
+    let after = packing::unpack(&tags);
+    Called {
+        number: x.number,
+        server: x.server,
+        value: x.value,
+        record: after,
+    }
+}
+
+// A fresh start: L and E are the lengths that are lent.
+pub fn fresh(l1d: &mut [u8], l2: &mut [u8], ext: &mut [u8]) -> Called
+    ensures { λ x. ⌜ calledAs x (now (l1d .exit)) (now (l2 .exit)) (now (ext .exit))
+        ≡ freshCall (now (l1d .entry)) (now (l2 .entry)) (now (ext .entry)) ⌝ }
+{
+    let mut tags = [0u32; WORDS];
+    let x = calls::fresh(&mut tags, l1d, l2, ext);
+    let after = packing::unpack(&tags);
+    Called {
+        number: x.number,
+        server: x.server,
+        value: x.value,
+        record: after,
+    }
+}
+
+// A run over a trace; one answer of ten bytes for each command.
+pub fn run(
+    r: Record,
+    trace: &[u8],
+    l1d: &mut [u8],
+    l2: &mut [u8],
+    ext: &mut [u8],
+    answers: &mut [u8],
+) -> RunResult
+    ensures { λ x. ⌜ ranAs x (now (l1d .exit)) (now (l2 .exit)) (now (ext .exit)) (now (answers .exit))
+        ≡ runCall (now (trace .entry)) (now (answers .entry)) (state r (now (l1d .entry)) (now (l2 .entry)) (now (ext .entry))) ⌝ }
+{
+    let mut tags = [0u32; WORDS];
+    packing::pack(r, &mut tags);
+    let x = calls::run_trace(&mut tags, trace, l1d, l2, ext, answers);
+    let after = packing::unpack(&tags);
+    RunResult {
+        record: after,
+        consumed: x.consumed,
+        count: x.count,
+        stop: x.stop,
+    }
+}
+
+// ---- looking behind L1D
+// The 64 bytes of SRAM or external memory themselves, a part of whichever is their home; the empty part on refusal.
+pub fn view<'a>(r: Record, l2: &'a [u8], ext: &'a [u8], address: u32) -> &'a [u8]
+    ensures { λ p. ⌜ now p ≡ viewCall r (now (l2 .entry)) (now (ext .entry)) address ⌝ }
+{
+    let mut tags = [0u32; WORDS];
+    packing::pack(r, &mut tags);
+    view::view(&tags, l2, ext, address)
+}
+
+// The number of that call, 0 when it is accepted.
+pub fn view_number(r: Record, l2: &[u8], ext: &[u8], address: u32) -> u8
+    ensures { λ n. ⌜ n ≡ viewDue r (now (l2 .entry)) (now (ext .entry)) address ⌝ }
+{
+    let mut tags = [0u32; WORDS];
+    packing::pack(r, &mut tags);
+    view::view_due(&tags, l2, ext, address)
+}
+
+// ---- each command as a call of its own: its operands in the places that the definitions give them, and 0 in those that the command does not have
+pub fn read(
+    r: Record,
+    size: u32,
+    address: u32,
+    l1d: &mut [u8],
+    l2: &mut [u8],
+    ext: &mut [u8],
+) -> Called
+    ensures { λ x. ⌜ calledAs x (now (l1d .exit)) (now (l2 .exit)) (now (ext .exit))
+        ≡ call (command 0 size address 0) (state r (now (l1d .entry)) (now (l2 .entry)) (now (ext .entry))) ⌝ }
+{
+    one_command(r, 0, size, address, 0, l1d, l2, ext)
+}
+
+pub fn write(
+    r: Record,
+    size: u32,
+    address: u32,
+    value: u64,
+    l1d: &mut [u8],
+    l2: &mut [u8],
+    ext: &mut [u8],
+) -> Called
+    ensures { λ x. ⌜ calledAs x (now (l1d .exit)) (now (l2 .exit)) (now (ext .exit))
+        ≡ call (command 1 size address value) (state r (now (l1d .entry)) (now (l2 .entry)) (now (ext .entry))) ⌝ }
+{
+    one_command(r, 1, size, address, value, l1d, l2, ext)
+}
+
+pub fn l2_writeback_all(r: Record, l1d: &mut [u8], l2: &mut [u8], ext: &mut [u8]) -> Called
+    ensures { λ x. ⌜ calledAs x (now (l1d .exit)) (now (l2 .exit)) (now (ext .exit))
+        ≡ call (command 2 0 0 0) (state r (now (l1d .entry)) (now (l2 .entry)) (now (ext .entry))) ⌝ }
+{
+    one_command(r, 2, 0, 0, 0, l1d, l2, ext)
+}
+
+pub fn l2_writeback_invalidate_all(
+    r: Record,
+    l1d: &mut [u8],
+    l2: &mut [u8],
+    ext: &mut [u8],
+) -> Called
+    ensures { λ x. ⌜ calledAs x (now (l1d .exit)) (now (l2 .exit)) (now (ext .exit))
+        ≡ call (command 3 0 0 0) (state r (now (l1d .entry)) (now (l2 .entry)) (now (ext .entry))) ⌝ }
+{
+    one_command(r, 3, 0, 0, 0, l1d, l2, ext)
+}
+
+pub fn l2_writeback_block(
+    r: Record,
+    base: u32,
+    count: u32,
+    l1d: &mut [u8],
+    l2: &mut [u8],
+    ext: &mut [u8],
+) -> Called
+    ensures { λ x. ⌜ calledAs x (now (l1d .exit)) (now (l2 .exit)) (now (ext .exit))
+        ≡ call (command 4 base count 0) (state r (now (l1d .entry)) (now (l2 .entry)) (now (ext .entry))) ⌝ }
+{
+    one_command(r, 4, base, count, 0, l1d, l2, ext)
+}
+
+pub fn l2_writeback_invalidate_block(
+    r: Record,
+    base: u32,
+    count: u32,
+    l1d: &mut [u8],
+    l2: &mut [u8],
+    ext: &mut [u8],
+) -> Called
+    ensures { λ x. ⌜ calledAs x (now (l1d .exit)) (now (l2 .exit)) (now (ext .exit))
+        ≡ call (command 5 base count 0) (state r (now (l1d .entry)) (now (l2 .entry)) (now (ext .entry))) ⌝ }
+{
+    one_command(r, 5, base, count, 0, l1d, l2, ext)
+}
+
+pub fn l2_invalidate_block(
+    r: Record,
+    base: u32,
+    count: u32,
+    l1d: &mut [u8],
+    l2: &mut [u8],
+    ext: &mut [u8],
+) -> Called
+    ensures { λ x. ⌜ calledAs x (now (l1d .exit)) (now (l2 .exit)) (now (ext .exit))
+        ≡ call (command 6 base count 0) (state r (now (l1d .entry)) (now (l2 .entry)) (now (ext .entry))) ⌝ }
+{
+    one_command(r, 6, base, count, 0, l1d, l2, ext)
+}
+
+pub fn l1d_writeback_invalidate_block(
+    r: Record,
+    base: u32,
+    count: u32,
+    l1d: &mut [u8],
+    l2: &mut [u8],
+    ext: &mut [u8],
+) -> Called
+    ensures { λ x. ⌜ calledAs x (now (l1d .exit)) (now (l2 .exit)) (now (ext .exit))
+        ≡ call (command 7 base count 0) (state r (now (l1d .entry)) (now (l2 .entry)) (now (ext .entry))) ⌝ }
+{
+    one_command(r, 7, base, count, 0, l1d, l2, ext)
+}
+
+pub fn l1d_invalidate_block(
+    r: Record,
+    base: u32,
+    count: u32,
+    l1d: &mut [u8],
+    l2: &mut [u8],
+    ext: &mut [u8],
+) -> Called
+    ensures { λ x. ⌜ calledAs x (now (l1d .exit)) (now (l2 .exit)) (now (ext .exit))
+        ≡ call (command 8 base count 0) (state r (now (l1d .entry)) (now (l2 .entry)) (now (ext .entry))) ⌝ }
+{
+    one_command(r, 8, base, count, 0, l1d, l2, ext)
+}
+
+pub fn l1d_invalidate_all(r: Record, l1d: &mut [u8], l2: &mut [u8], ext: &mut [u8]) -> Called
+    ensures { λ x. ⌜ calledAs x (now (l1d .exit)) (now (l2 .exit)) (now (ext .exit))
+        ≡ call (command 9 0 0 0) (state r (now (l1d .entry)) (now (l2 .entry)) (now (ext .entry))) ⌝ }
+{
+    one_command(r, 9, 0, 0, 0, l1d, l2, ext)
+}
+
+pub fn change_mode(r: Record, mode: u32, l1d: &mut [u8], l2: &mut [u8], ext: &mut [u8]) -> Called
+    ensures { λ x. ⌜ calledAs x (now (l1d .exit)) (now (l2 .exit)) (now (ext .exit))
+        ≡ call (command 10 mode 0 0) (state r (now (l1d .entry)) (now (l2 .entry)) (now (ext .entry))) ⌝ }
+{
+    one_command(r, 10, mode, 0, 0, l1d, l2, ext)
+}
+
+pub fn change_mar(
+    r: Record,
+    mar: u32,
+    bit: u32,
+    l1d: &mut [u8],
+    l2: &mut [u8],
+    ext: &mut [u8],
+) -> Called
+    ensures { λ x. ⌜ calledAs x (now (l1d .exit)) (now (l2 .exit)) (now (ext .exit))
+        ≡ call (command 11 mar bit 0) (state r (now (l1d .entry)) (now (l2 .entry)) (now (ext .entry))) ⌝ }
+{
+    one_command(r, 11, mar, bit, 0, l1d, l2, ext)
+}

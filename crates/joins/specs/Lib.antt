@@ -1,4 +1,0 @@
-pub mod Sets
-pub mod Leaving
-pub mod Access
-pub mod Miss

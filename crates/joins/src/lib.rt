@@ -1,1 +1,0 @@
-// That the stages, put back into the record, are the steps of paper 01: theorems only, in specs/.

@@ -1,0 +1,95 @@
+use Rattle.l1d_writeback.specs.Going.{back-none, back-dirty, evicted}
+use Rattle.tags.specs.Words.{recordIn}
+use Rattle.model.specs.Records.{state}
+use mathlib.Core.Path.{sym, _∙_}
+use borrow.Author.Needs.{needs}
+use Rattle.l1d_writeback.proofs.evict_l1d.Statement.{statement}
+use Rattle.l1d_writeback.proofs.evict_l1d.Tie as tie
+use Rattle.l1d_writeback.proofs.evict_l1d.Reads as reads
+use Rattle.l1d_writeback.proofs.evict_l1d.Lts as lts
+use Rattle.l1d_writeback.proofs.goes_home.Reads as goes-home-reads
+use Rattle.l1d_writeback.proofs.put_home.Reads as put-home-reads
+use Rattle.geometry.proofs.L1d.data_at.Reads as data-at-reads
+use Rattle.geometry.proofs.empty_line.Reads as empty-line-reads
+use Rattle.tags.proofs.l1d_line.Reads as l1d-line-reads
+use Rattle.tags.proofs.l1d_put.Reads as l1d-put-reads
+
+-- src/lib.rt:67:9
+l1d-line-requires : tie.Need-l1d-line-requires
+l1d-line-requires c κs = search needs
+
+-- src/lib.rt:68:8
+goes-home-requires : tie.Need-goes-home-requires
+goes-home-requires c κs = search needs
+
+-- src/lib.rt:69:47
+data-at-requires : tie.Need-data-at-requires
+data-at-requires c κs = search needs
+
+-- src/lib.rt:69:9
+put-home-requires : tie.Need-put-home-requires
+put-home-requires c κs = search needs
+
+-- src/lib.rt:70:35
+empty-line-requires : tie.Need-empty-line-requires
+empty-line-requires c κs = search needs
+
+-- src/lib.rt:70:9
+l1d-put-requires : tie.Need-l1d-put-requires
+l1d-put-requires c κs = ((c .before .before .before .before .before .before .before .before .before .before .before .before .before .before .before .before .before .before .before .before .before) .pre .0, (c .before .before .before .before .before .before .before .before .put-home) .kept .0 ∙ (c .before .before .before .before .before .before .before .before .before .before .before .before .before .before .before .before .before .before .before .before .before) .pre .1 .0)
+
+-- src/lib.rt:71:9
+same-length : tie.Need-same-length
+same-length c = search needs
+
+-- src/lib.rt:71:9
+same-length-2 : tie.Need-same-length-2
+same-length-2 c = search needs
+
+-- src/lib.rt:71:9
+same-length-3 : tie.Need-same-length-3
+same-length-3 c = search needs
+
+-- src/lib.rt:71:9
+returns : tie.Need-returns
+returns c =
+    let a = (c .before .before .before .before .before .before .before .before .before .before .before .before .before .before .before .before .before .before .before .before .before .before .before .before) .args in let z = state (recordIn (a .tags .now)) (a .l1d .now) (a .l2 .now) (a .ext .now) in
+    let p = (c .before .before .before .before .before .before .before .before .before .before .before .put-home) in let y = state (recordIn (p .last .0)) (a .l1d .now) (p .last .1 .1 .1 .1 .1 .1 .0) (p .last .1 .1 .1 .1 .1 .1 .1 .0) in
+    evicted z y (recordIn ((c .before .before .l1d-put) .last .0)) (a .i) (a .w) ((c .before .before .before .empty-line) .result) (back-dirty z y (a .i) (a .w) ((c .before .before .before .before .before .before .before .before .before .before .before .before .before .before .data-at) .result) ((c .before .before .before .before .before .before .before .before .before .before .before .before .before .before .before .before .before .before .l1d-line) .result) ((c .before .before .before .before .before .before .before .before .before .before .before .before .before .before .before .before .before .before .l1d-line) .ensures) (sym ((c .before .before .before .before .before .before .before .before .before .before .before .before .before .before .before .before .before .goes-home) .ensures) ∙ (c .before .before .before .before .before .before .before .before .before .before .before .before .before .before .before .before .if1) .taken) ((c .before .before .before .before .before .before .before .before .before .before .before .before .before .before .data-at) .ensures .0) (p .ensures)) ((c .before .before .before .empty-line) .ensures) ((c .before .before .l1d-put) .ensures)
+
+-- src/lib.rt:73:31
+empty-line-requires-2 : tie.Need-empty-line-requires-2
+empty-line-requires-2 c κs = search needs
+
+-- src/lib.rt:73:5
+l1d-put-requires-2 : tie.Need-l1d-put-requires-2
+l1d-put-requires-2 c κs = search needs
+
+-- src/lib.rt:61:1
+same-length-4 : tie.Need-same-length-4
+same-length-4 c = search needs
+
+-- src/lib.rt:61:1
+returns-2 : tie.Need-returns-2
+returns-2 c =
+    let a = (c .before .before .before .before .before .before .before .before .before .before .before .before .before) .args in let z = state (recordIn (a .tags .now)) (a .l1d .now) (a .l2 .now) (a .ext .now) in
+    evicted z z (recordIn ((c .before .before .l1d-put2) .last .0)) (a .i) (a .w) ((c .before .before .before .empty-line2) .result) (back-none z (a .i) (a .w) ((c .before .before .before .before .before .before .before .l1d-line) .result) ((c .before .before .before .before .before .before .before .l1d-line) .ensures) (sym ((c .before .before .before .before .before .before .goes-home) .ensures) ∙ (c .before .before .before .before .before .if1) .left)) ((c .before .before .before .empty-line2) .ensures) ((c .before .before .l1d-put2) .ensures)
+
+pub evict-l1d-spec : {M : Type 1} → statement M
+evict-l1d-spec =
+    tie.close
+    (tie.spec
+    l1d-line-requires
+    goes-home-requires
+    data-at-requires
+    put-home-requires
+    empty-line-requires
+    l1d-put-requires
+    same-length
+    same-length-2
+    same-length-3
+    returns
+    empty-line-requires-2
+    l1d-put-requires-2
+    same-length-4
+    returns-2)

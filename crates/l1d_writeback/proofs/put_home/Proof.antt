@@ -1,0 +1,160 @@
+use Rattle.l1d_writeback.specs.Going.{put-sram, put-external, put-nowhere, put-inside}
+use Rattle.tags.specs.Words.{recordIn}
+use Rattle.model.specs.Bytes.{part}
+use mathlib.Core.Path.{_∙_}
+use borrow.Author.Needs.{needs}
+use Rattle.l1d_writeback.proofs.put_home.Statement.{statement}
+use Rattle.l1d_writeback.proofs.put_home.Tie as tie
+use Rattle.l1d_writeback.proofs.put_home.Reads as reads
+use Rattle.l1d_writeback.proofs.put_home.Lts as lts
+use Rattle.memory.proofs.move64.Reads as move64-reads
+use Rattle.geometry.proofs.L2.data_at.Reads as data-at-reads
+use Rattle.geometry.proofs.L2.line_of.Reads as line-of-reads
+use Rattle.geometry.proofs.L2.offset_of.Reads as offset-of-reads
+use Rattle.geometry.proofs.L2.set_of.Reads as set-of-reads
+use Rattle.geometry.proofs.external_place.Reads as external-place-reads
+use Rattle.geometry.proofs.is_external.Reads as is-external-reads
+use Rattle.geometry.proofs.line_at.Reads as line-at-reads
+use Rattle.geometry.proofs.place_of.Reads as place-of-reads
+use Rattle.tags.proofs.l2_find.Reads as l2-find-reads
+use Rattle.tags.proofs.l2_line.Reads as l2-line-reads
+use Rattle.tags.proofs.l2_put.Reads as l2-put-reads
+
+-- src/lib.rt:19:9
+is-external-requires : tie.Need-is-external-requires
+is-external-requires c κs = search needs
+
+-- src/lib.rt:20:28
+place-of-requires : tie.Need-place-of-requires
+place-of-requires c κs = search needs
+
+-- src/lib.rt:20:9
+move64-requires : tie.Need-move64-requires
+move64-requires c κs = search needs
+
+-- src/lib.rt:21:9
+same-length : tie.Need-same-length
+same-length c = search needs
+
+-- src/lib.rt:21:9
+returns : tie.Need-returns
+returns c =
+    let a = (c .before .before .before .before .before .before .before .before .before .before .before) .args in let h = (c .before .before .before .before .before .before .before .before .before .before .before) .pre in let r = recordIn (a .tags .now) in let bs = part (a .l1d .now) (a .from) 64 in
+    put-sram r (a .l1d .now) (a .l2 .now) ((c .before .before .move64) .last .0) (a .ext .now) bs (a .a) ((c .before .before .before .place-of) .result)
+    ((c .before .before .before .before .before .before .is-external) .ensures ∙ (c .before .before .before .before .before .if1) .taken) ((c .before .before .before .place-of) .ensures .0) ((c .before .before .move64) .ensures)
+
+-- src/lib.rt:24:29
+external-place-requires : tie.Need-external-place-requires
+external-place-requires c κs = search needs
+
+-- src/lib.rt:24:9
+move64-requires-2 : tie.Need-move64-requires-2
+move64-requires-2 c κs = search needs
+
+-- src/lib.rt:25:9
+same-length-2 : tie.Need-same-length-2
+same-length-2 c = search needs
+
+-- src/lib.rt:25:9
+returns-2 : tie.Need-returns-2
+returns-2 c =
+    let a = (c .before .before .before .before .before .before .before .before .before .before .before .before) .args in let h = (c .before .before .before .before .before .before .before .before .before .before .before .before) .pre in let r = recordIn (a .tags .now) in let bs = part (a .l1d .now) (a .from) 64 in
+    put-external r (a .l1d .now) (a .l2 .now) (a .ext .now) ((c .before .before .move642) .last .0) bs (a .a) (a .sets) ((c .before .before .before .external-place) .result)
+    ((c .before .before .before .before .before .before .before .is-external) .ensures ∙ (c .before .before .before .before .before .before .if1) .left) (h .1 .1 .1) ((c .before .before .before .before .before .if2) .taken) ((c .before .before .before .external-place) .ensures .0) ((c .before .before .move642) .ensures)
+
+-- src/lib.rt:27:9
+set-of-requires : tie.Need-set-of-requires
+set-of-requires c κs = search needs
+
+-- src/lib.rt:28:36
+line-of-requires : tie.Need-line-of-requires
+line-of-requires c κs = search needs
+
+-- src/lib.rt:28:9
+l2-find-requires : tie.Need-l2-find-requires
+l2-find-requires c κs = search needs
+
+-- src/lib.rt:30:9
+same-length-3 : tie.Need-same-length-3
+same-length-3 c = search needs
+
+-- src/lib.rt:30:9
+returns-3 : tie.Need-returns-3
+returns-3 c =
+    let a = (c .before .before .before .before .before .before .before .before .before .before .before .before) .args in let h = (c .before .before .before .before .before .before .before .before .before .before .before .before) .pre in let r = recordIn (a .tags .now) in let bs = part (a .l1d .now) (a .from) 64 in
+    put-nowhere r (a .l1d .now) (a .l2 .now) (a .ext .now) bs (a .a) (a .sets) ((c .before .before .before .before .set-of) .result) ((c .before .before .line-of) .result) ((c .before .l2-find) .result)
+    ((c .before .before .before .before .before .before .before .is-external) .ensures ∙ (c .before .before .before .before .before .before .if1) .left) (h .1 .1 .1) ((c .before .before .before .before .before .if2) .left) ((c .before .before .before .before .set-of) .ensures .0 ((c .before .before .before .before .before .if2) .left)) ((c .before .before .line-of) .ensures) ((c .before .l2-find) .ensures .0) ((c .if3) .taken)
+
+-- src/lib.rt:32:24
+data-at-requires : tie.Need-data-at-requires
+data-at-requires c κs = search needs
+
+-- src/lib.rt:32:56
+offset-of-requires : tie.Need-offset-of-requires
+offset-of-requires c κs = search needs
+
+-- src/lib.rt:32:24
+add-move64 : tie.Need-add-move64
+add-move64 c = search needs
+
+-- src/lib.rt:32:5
+move64-requires-3 : tie.Need-move64-requires-3
+move64-requires-3 c κs = search needs
+
+-- src/lib.rt:33:9
+l2-line-requires : tie.Need-l2-line-requires
+l2-line-requires c κs = search needs
+
+-- src/lib.rt:34:30
+line-at-requires : tie.Need-line-at-requires
+line-at-requires c κs = search needs
+
+-- src/lib.rt:34:5
+l2-put-requires : tie.Need-l2-put-requires
+l2-put-requires c κs = search needs
+
+-- src/lib.rt:14:1
+same-length-4 : tie.Need-same-length-4
+same-length-4 c = search needs
+
+-- src/lib.rt:14:1
+same-length-5 : tie.Need-same-length-5
+same-length-5 c = search needs
+
+-- src/lib.rt:14:1
+returns-4 : tie.Need-returns-4
+returns-4 c =
+    let a = (c .before .before .before .before .before .before .before .before .before .before .before .before .before .before .before .before .before .before .before .before .before .before .before .before .before) .args in let h = (c .before .before .before .before .before .before .before .before .before .before .before .before .before .before .before .before .before .before .before .before .before .before .before .before .before) .pre in let r = recordIn (a .tags .now) in let bs = part (a .l1d .now) (a .from) 64 in
+    put-inside r (recordIn ((c .before .before .l2-put) .last .0)) (a .l1d .now) (a .l2 .now) ((c .before .before .before .before .before .before .before .before .before .move643) .last .0) (a .ext .now) bs (a .a) (a .sram) (a .sets) ((c .before .before .before .before .before .before .before .before .before .before .before .before .before .before .before .before .before .set-of) .result) ((c .before .before .before .before .before .before .before .before .before .before .before .before .before .before .before .line-of) .result)
+    ((c .before .before .before .before .before .before .before .before .before .before .before .before .before .before .l2-find) .result) ((c .before .before .before .before .before .before .before .before .before .before .before .data-at) .result) ((c .before .before .before .before .before .before .before .before .before .before .offset-of) .result) ((c .before .before .before .before .before .l2-line) .result) ((c .before .before .before .line-at) .result)
+    ((c .before .before .before .before .before .before .before .before .before .before .before .before .before .before .before .before .before .before .before .before .is-external) .ensures ∙ (c .before .before .before .before .before .before .before .before .before .before .before .before .before .before .before .before .before .before .before .if1) .left) (h .1 .1 .0) (h .1 .1 .1) ((c .before .before .before .before .before .before .before .before .before .before .before .before .before .before .before .before .before .before .if2) .left) ((c .before .before .before .before .before .before .before .before .before .before .before .before .before .before .before .before .before .set-of) .ensures .0 ((c .before .before .before .before .before .before .before .before .before .before .before .before .before .before .before .before .before .before .if2) .left)) ((c .before .before .before .before .before .before .before .before .before .before .before .before .before .before .before .line-of) .ensures) ((c .before .before .before .before .before .before .before .before .before .before .before .before .before .before .l2-find) .ensures .0) ((c .before .before .before .before .before .before .before .before .before .before .before .before .before .if3) .left)
+    ((c .before .before .before .before .before .before .before .before .before .before .before .data-at) .ensures .0) ((c .before .before .before .before .before .before .before .before .before .before .offset-of) .ensures .0) ((c .before .before .before .before .before .before .before .before .before .move643) .ensures) ((c .before .before .before .before .before .l2-line) .ensures) ((c .before .before .before .line-at) .ensures) ((c .before .before .l2-put) .ensures)
+
+pub put-home-spec : {M : Type 1} → statement M
+put-home-spec =
+    tie.close
+    (tie.spec
+    is-external-requires
+    place-of-requires
+    move64-requires
+    same-length
+    returns
+    external-place-requires
+    move64-requires-2
+    same-length-2
+    returns-2
+    set-of-requires
+    line-of-requires
+    l2-find-requires
+    same-length-3
+    returns-3
+    data-at-requires
+    offset-of-requires
+    add-move64
+    move64-requires-3
+    l2-line-requires
+    line-at-requires
+    l2-put-requires
+    same-length-4
+    same-length-5
+    returns-4)

@@ -1,0 +1,74 @@
+use Rattle.l1d_writeback.specs.Going.{back-none, back-dirty}
+use Rattle.tags.specs.Words.{recordIn}
+use Rattle.model.specs.Records.{state}
+use borrow.Author.Tests.{not-true, not-false}
+use mathlib.Core.Path.{sym, _∙_}
+use borrow.Author.Needs.{needs}
+use Rattle.l1d_writeback.proofs.writeback_l1d.Statement.{statement}
+use Rattle.l1d_writeback.proofs.writeback_l1d.Tie as tie
+use Rattle.l1d_writeback.proofs.writeback_l1d.Reads as reads
+use Rattle.l1d_writeback.proofs.writeback_l1d.Lts as lts
+use Rattle.l1d_writeback.proofs.goes_home.Reads as goes-home-reads
+use Rattle.l1d_writeback.proofs.put_home.Reads as put-home-reads
+use Rattle.geometry.proofs.L1d.data_at.Reads as data-at-reads
+use Rattle.tags.proofs.l1d_line.Reads as l1d-line-reads
+
+-- src/lib.rt:53:9
+l1d-line-requires : tie.Need-l1d-line-requires
+l1d-line-requires c κs = search needs
+
+-- src/lib.rt:54:9
+goes-home-requires : tie.Need-goes-home-requires
+goes-home-requires c κs = search needs
+
+-- src/lib.rt:55:9
+same-length : tie.Need-same-length
+same-length c = search needs
+
+-- src/lib.rt:55:9
+returns : tie.Need-returns
+returns c =
+    let a = (c .before .before .before .before .before .before .before .before) .args in let z = state (recordIn (a .tags .now)) (a .l1d .now) (a .l2 .now) (a .ext .now) in
+    back-none z (a .i) (a .w) ((c .before .before .l1d-line) .result) ((c .before .before .l1d-line) .ensures) (sym ((c .before .goes-home) .ensures) ∙ not-true ((c .before .goes-home) .result) ((c .if1) .taken))
+
+-- src/lib.rt:57:43
+data-at-requires : tie.Need-data-at-requires
+data-at-requires c κs = search needs
+
+-- src/lib.rt:57:5
+put-home-requires : tie.Need-put-home-requires
+put-home-requires c κs = search needs
+
+-- src/lib.rt:47:1
+same-length-2 : tie.Need-same-length-2
+same-length-2 c = search needs
+
+-- src/lib.rt:47:1
+same-length-3 : tie.Need-same-length-3
+same-length-3 c = search needs
+
+-- src/lib.rt:47:1
+same-length-4 : tie.Need-same-length-4
+same-length-4 c = search needs
+
+-- src/lib.rt:47:1
+returns-2 : tie.Need-returns-2
+returns-2 c =
+    let a = (c .before .before .before .before .before .before .before .before .before .before .before .before .before .before .before .before .before .before .before) .args in let z = state (recordIn (a .tags .now)) (a .l1d .now) (a .l2 .now) (a .ext .now) in
+    let p = (c .before .before .before .before .before .before .put-home) in let y = state (recordIn (p .last .0)) (a .l1d .now) (p .last .1 .1 .1 .1 .1 .1 .0) (p .last .1 .1 .1 .1 .1 .1 .1 .0) in
+    back-dirty z y (a .i) (a .w) ((c .before .before .before .before .before .before .before .before .before .data-at) .result) ((c .before .before .before .before .before .before .before .before .before .before .before .before .before .l1d-line) .result) ((c .before .before .before .before .before .before .before .before .before .before .before .before .before .l1d-line) .ensures) (sym ((c .before .before .before .before .before .before .before .before .before .before .before .before .goes-home) .ensures) ∙ not-false ((c .before .before .before .before .before .before .before .before .before .before .before .before .goes-home) .result) ((c .before .before .before .before .before .before .before .before .before .before .before .if1) .left)) ((c .before .before .before .before .before .before .before .before .before .data-at) .ensures .0) (p .ensures)
+
+pub writeback-l1d-spec : {M : Type 1} → statement M
+writeback-l1d-spec =
+    tie.close
+    (tie.spec
+    l1d-line-requires
+    goes-home-requires
+    same-length
+    returns
+    data-at-requires
+    put-home-requires
+    same-length-2
+    same-length-3
+    same-length-4
+    returns-2)

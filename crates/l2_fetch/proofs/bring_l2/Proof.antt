@@ -1,0 +1,85 @@
+use Rattle.l2_fetch.specs.Fetching.{brought}
+use Rattle.tags.specs.Words.{recordIn}
+use Rattle.model.specs.Records.{state}
+use mathlib.Core.Path.{refl, _∙_}
+use Rattle.model.specs.Homes.{evictL2}
+use Rattle.tags.specs.Sizes.{lent-next, same-evict-l2}
+use borrow.Author.Needs.{needs}
+use Rattle.l2_fetch.proofs.bring_l2.Statement.{statement}
+use Rattle.l2_fetch.proofs.bring_l2.Tie as tie
+use Rattle.l2_fetch.proofs.bring_l2.Reads as reads
+use Rattle.l2_fetch.proofs.bring_l2.Lts as lts
+use Rattle.l2_writeback.proofs.evict_l2.Reads as evict-l2-reads
+use Rattle.memory.proofs.move128.Reads as move128-reads
+use Rattle.geometry.proofs.L2.data_at.Reads as data-at-reads
+use Rattle.geometry.proofs.external_place.Reads as external-place-reads
+use Rattle.geometry.proofs.line_at.Reads as line-at-reads
+use Rattle.tags.proofs.l2_put.Reads as l2-put-reads
+use Rattle.tags.proofs.l2_use.Reads as l2-use-reads
+
+-- src/lib.rt:42:5
+evict-l2-requires : tie.Need-evict-l2-requires
+evict-l2-requires c κs = search needs
+
+-- src/lib.rt:43:25
+data-at-requires : tie.Need-data-at-requires
+data-at-requires c κs = search needs
+
+-- src/lib.rt:43:61
+external-place-requires : tie.Need-external-place-requires
+external-place-requires c κs = search needs
+
+-- src/lib.rt:43:5
+move128-requires : tie.Need-move128-requires
+move128-requires c κs = search needs
+
+-- src/lib.rt:44:30
+line-at-requires : tie.Need-line-at-requires
+line-at-requires c κs = search needs
+
+-- src/lib.rt:44:5
+l2-put-requires : tie.Need-l2-put-requires
+l2-put-requires c κs = search needs
+
+-- src/lib.rt:45:5
+l2-use-requires : tie.Need-l2-use-requires
+l2-use-requires c κs =
+    let a = (c .before .before .before .before .before .before .before .before .before .before .before .before .before .before .before .before .before .before .before .before .before .before .before .before .before .before .before) .args in let k = (c .before .before .before .before .before .before .before .before .before .before .before .before .before .before .before .before .before .before .before .before .before .before .before .before .before .before .before) .pre in let r = recordIn (a .tags .now) in let z = state r (a .l1d .now) (a .l2 .now) (a .ext .now) in
+    let g = (c .before .before .before .before .before .before .before .before .before .before .before .before .before .before .before .before .before .before .before .evict-l2) in (k .0, (c .before .before .before .l2-put) .kept .0 ∙ g .kept .0 ∙ k .1 .0)
+
+-- src/lib.rt:36:1
+same-length : tie.Need-same-length
+same-length c = search needs
+
+-- src/lib.rt:36:1
+same-length-2 : tie.Need-same-length-2
+same-length-2 c = search needs
+
+-- src/lib.rt:36:1
+same-length-3 : tie.Need-same-length-3
+same-length-3 c = search needs
+
+-- src/lib.rt:36:1
+returns : tie.Need-returns
+returns c =
+    let a = (c .before .before .before .before .before .before .before .before .before .before .before .before .before .before .before .before .before .before .before .before .before .before .before .before .before .before .before .before .before .before) .args in let k = (c .before .before .before .before .before .before .before .before .before .before .before .before .before .before .before .before .before .before .before .before .before .before .before .before .before .before .before .before .before .before) .pre in let r = recordIn (a .tags .now) in let z = state r (a .l1d .now) (a .l2 .now) (a .ext .now) in
+    let g = (c .before .before .before .before .before .before .before .before .before .before .before .before .before .before .before .before .before .before .before .before .before .before .evict-l2) in let y = (state (recordIn (g .last .0)) (a .l1d .now) (g .last .1 .1 .1 .1 .1 .1 .0) (g .last .1 .1 .1 .1 .1 .1 .1 .0)) in let l = lent-next (a .sram) (a .sets) (a .tags .now) (g .last .0) y (evictL2 (a .t) (a .v) z) (k .1) (g .kept .0) (g .ensures) refl (same-evict-l2 (a .t) (a .v) z) in
+    brought z y (recordIn ((c .before .before .before .before .before .before .l2-put) .last .0)) (recordIn ((c .before .before .l2-use) .last .0)) ((c .before .before .before .before .before .before .before .before .before .before .before .move128) .last .0) (a .t) (a .v) (a .b) (a .sram) (a .sets) ((c .before .before .before .before .before .before .before .before .before .before .before .before .before .before .data-at) .result) ((c .before .before .before .before .before .before .before .before .before .before .before .before .external-place) .result) ((c .before .before .before .before .before .before .before .line-at) .result)
+    (g .ensures) (l .1 .1 .0) (l .1 .1 .1) ((c .before .before .before .before .before .before .before .before .before .before .before .before .before .before .data-at) .ensures .0) ((c .before .before .before .before .before .before .before .before .before .before .before .before .external-place) .ensures .0) ((c .before .before .before .before .before .before .before .before .before .before .before .move128) .ensures)
+    ((c .before .before .before .before .before .before .before .line-at) .ensures) ((c .before .before .before .before .before .before .l2-put) .ensures) ((c .before .before .l2-use) .ensures)
+
+pub bring-l2-spec : {M : Type 1} → statement M
+bring-l2-spec =
+    tie.close
+    (tie.spec
+    evict-l2-requires
+    data-at-requires
+    external-place-requires
+    move128-requires
+    line-at-requires
+    l2-put-requires
+    l2-use-requires
+    same-length
+    same-length-2
+    same-length-3
+    returns)

@@ -1,0 +1,144 @@
+use mathlib.Core.Bool.{not}
+use Rattle.l2_fetch.specs.Fetching.{filled-homed, filled-external, filled-sram}
+use Rattle.tags.specs.Words.{recordIn}
+use mathlib.Core.Path.{ap, _∙_}
+use borrow.Author.Needs.{needs}
+use Rattle.l2_fetch.proofs.fill_l1d.Statement.{statement}
+use Rattle.l2_fetch.proofs.fill_l1d.Tie as tie
+use Rattle.l2_fetch.proofs.fill_l1d.Reads as reads
+use Rattle.l2_fetch.proofs.fill_l1d.Lts as lts
+use Rattle.memory.proofs.move64.Reads as move64-reads
+use Rattle.geometry.proofs.L1d.data_at.Reads as L1d-data-at-reads
+use Rattle.geometry.proofs.L1d.line_of.Reads as line-of-reads
+use Rattle.geometry.proofs.L2.data_at.Reads as L2-data-at-reads
+use Rattle.geometry.proofs.L2.offset_of.Reads as offset-of-reads
+use Rattle.geometry.proofs.external_place.Reads as external-place-reads
+use Rattle.geometry.proofs.is_external.Reads as is-external-reads
+use Rattle.geometry.proofs.line_at.Reads as line-at-reads
+use Rattle.geometry.proofs.place_of.Reads as place-of-reads
+use Rattle.tags.proofs.l1d_put.Reads as l1d-put-reads
+
+-- src/lib.rt:161:9
+line-of-requires : tie.Need-line-of-requires
+line-of-requires c κs = search needs
+
+-- src/lib.rt:162:9
+data-at-requires : tie.Need-data-at-requires
+data-at-requires c κs = search needs
+
+-- src/lib.rt:163:31
+line-at-requires : tie.Need-line-at-requires
+line-at-requires c κs = search needs
+
+-- src/lib.rt:163:5
+l1d-put-requires : tie.Need-l1d-put-requires
+l1d-put-requires c κs = search needs
+
+-- src/lib.rt:165:37
+data-at-requires-2 : tie.Need-data-at-requires-2
+data-at-requires-2 c κs = search needs
+
+-- src/lib.rt:165:77
+offset-of-requires : tie.Need-offset-of-requires
+offset-of-requires c κs = search needs
+
+-- src/lib.rt:165:37
+add-move64 : tie.Need-add-move64
+add-move64 c = search needs
+
+-- src/lib.rt:165:9
+move64-requires : tie.Need-move64-requires
+move64-requires c κs = search needs
+
+-- src/lib.rt:166:9
+same-length : tie.Need-same-length
+same-length c = search needs
+
+-- src/lib.rt:166:9
+same-length-2 : tie.Need-same-length-2
+same-length-2 c = search needs
+
+-- src/lib.rt:166:9
+returns : tie.Need-returns
+returns c =
+    let a = (c .before .before .before .before .before .before .before .before .before .before .before .before .before .before .before .before .before .before) .args in let k = (c .before .before .before .before .before .before .before .before .before .before .before .before .before .before .before .before .before .before) .pre in let r = recordIn (a .tags .now) in
+    filled-homed r (recordIn ((c .before .before .before .before .before .before .before .before .before .l1d-put) .last .0)) (a .l1d .now) ((c .before .before .move64) .last .0) (a .l2 .now) (a .ext .now) (a .a) (a .i) (a .w) (a .sram) (a .sets) ((c .before .before .before .before .before .before .before .before .before .before .before .before .before .line-of) .result) ((c .before .before .before .before .before .before .before .before .before .before .before .before .data-at) .result)
+    ((c .before .before .before .before .data-at2) .result) ((c .before .before .before .offset-of) .result) (a .h) ((c .before .before .before .before .before .before .before .before .before .before .line-at) .result) (k .0 .1) (k .1 .0 .1 .1 .0) (k .1 .0 .1 .1 .1) (k .1 .1) ((c .before .before .before .before .before .before .if1) .taken) ((c .before .before .before .before .before .before .before .before .before .before .before .before .before .line-of) .ensures) ((c .before .before .before .before .before .before .before .before .before .before .before .before .data-at) .ensures .0) ((c .before .before .before .before .data-at2) .ensures .0) ((c .before .before .before .offset-of) .ensures .0)
+    ((c .before .before .move64) .ensures) ((c .before .before .before .before .before .before .before .before .before .before .line-at) .ensures) ((c .before .before .before .before .before .before .before .before .before .l1d-put) .ensures)
+
+-- src/lib.rt:168:8
+is-external-requires : tie.Need-is-external-requires
+is-external-requires c κs = search needs
+
+-- src/lib.rt:169:38
+external-place-requires : tie.Need-external-place-requires
+external-place-requires c κs = search needs
+
+-- src/lib.rt:169:9
+move64-requires-2 : tie.Need-move64-requires-2
+move64-requires-2 c κs = search needs
+
+-- src/lib.rt:170:9
+same-length-3 : tie.Need-same-length-3
+same-length-3 c = search needs
+
+-- src/lib.rt:170:9
+same-length-4 : tie.Need-same-length-4
+same-length-4 c = search needs
+
+-- src/lib.rt:170:9
+returns-2 : tie.Need-returns-2
+returns-2 c =
+    let a = (c .before .before .before .before .before .before .before .before .before .before .before .before .before .before .before .before .before .before .before) .args in let k = (c .before .before .before .before .before .before .before .before .before .before .before .before .before .before .before .before .before .before .before) .pre in let r = recordIn (a .tags .now) in
+    filled-external r (recordIn ((c .before .before .before .before .before .before .before .before .before .before .l1d-put) .last .0)) (a .l1d .now) ((c .before .before .move642) .last .0) (a .l2 .now) (a .ext .now) (a .a) (a .i) (a .w) ((c .before .before .before .before .before .before .before .before .before .before .before .before .before .before .line-of) .result) ((c .before .before .before .before .before .before .before .before .before .before .before .before .before .data-at) .result)
+    ((c .before .before .before .external-place) .result) (a .h) ((c .before .before .before .before .before .before .before .before .before .before .before .line-at) .result) (k .0 .1) (k .1 .1) ((c .before .before .before .before .before .before .before .if1) .left) ((c .before .before .before .before .before .before .before .before .before .before .before .before .before .before .line-of) .ensures) ((c .before .before .before .before .before .before .is-external) .ensures ∙ ap not ((c .before .before .before .before .before .if2) .taken)) ((c .before .before .before .before .before .before .before .before .before .before .before .before .before .data-at) .ensures .0) ((c .before .before .before .external-place) .ensures .0) ((c .before .before .move642) .ensures) ((c .before .before .before .before .before .before .before .before .before .before .before .line-at) .ensures) ((c .before .before .before .before .before .before .before .before .before .before .l1d-put) .ensures)
+
+-- src/lib.rt:172:33
+place-of-requires : tie.Need-place-of-requires
+place-of-requires c κs = search needs
+
+-- src/lib.rt:172:5
+move64-requires-3 : tie.Need-move64-requires-3
+move64-requires-3 c κs = search needs
+
+-- src/lib.rt:154:1
+same-length-5 : tie.Need-same-length-5
+same-length-5 c = search needs
+
+-- src/lib.rt:154:1
+same-length-6 : tie.Need-same-length-6
+same-length-6 c = search needs
+
+-- src/lib.rt:154:1
+returns-3 : tie.Need-returns-3
+returns-3 c =
+    let a = (c .before .before .before .before .before .before .before .before .before .before .before .before .before .before .before .before .before .before .before) .args in let k = (c .before .before .before .before .before .before .before .before .before .before .before .before .before .before .before .before .before .before .before) .pre in let r = recordIn (a .tags .now) in
+    filled-sram r (recordIn ((c .before .before .before .before .before .before .before .before .before .before .l1d-put) .last .0)) (a .l1d .now) ((c .before .before .move643) .last .0) (a .l2 .now) (a .ext .now) (a .a) (a .i) (a .w) ((c .before .before .before .before .before .before .before .before .before .before .before .before .before .before .line-of) .result) ((c .before .before .before .before .before .before .before .before .before .before .before .before .before .data-at) .result)
+    ((c .before .before .before .place-of) .result) (a .h) ((c .before .before .before .before .before .before .before .before .before .before .before .line-at) .result) (k .0 .1) (k .1 .1) ((c .before .before .before .before .before .before .before .if1) .left) ((c .before .before .before .before .before .before .before .before .before .before .before .before .before .before .line-of) .ensures) ((c .before .before .before .before .before .before .is-external) .ensures ∙ ap not ((c .before .before .before .before .before .if2) .left)) ((c .before .before .before .before .before .before .before .before .before .before .before .before .before .data-at) .ensures .0) ((c .before .before .before .place-of) .ensures .0) ((c .before .before .move643) .ensures) ((c .before .before .before .before .before .before .before .before .before .before .before .line-at) .ensures) ((c .before .before .before .before .before .before .before .before .before .before .l1d-put) .ensures)
+
+pub fill-l1d-spec : {M : Type 1} → statement M
+fill-l1d-spec =
+    tie.close
+    (tie.spec
+    line-of-requires
+    data-at-requires
+    line-at-requires
+    l1d-put-requires
+    data-at-requires-2
+    offset-of-requires
+    add-move64
+    move64-requires
+    same-length
+    same-length-2
+    returns
+    is-external-requires
+    external-place-requires
+    move64-requires-2
+    same-length-3
+    same-length-4
+    returns-2
+    place-of-requires
+    move64-requires-3
+    same-length-5
+    same-length-6
+    returns-3)

@@ -1,0 +1,129 @@
+use mathlib.Core.Bool.{not}
+use Rattle.l2_fetch.specs.Fetching.{wrote-homed, wrote-external, wrote-sram}
+use Rattle.tags.specs.Words.{recordIn}
+use mathlib.Core.Path.{ap, _∙_}
+use Rattle.model.specs.Bytes.{littleBytes}
+use borrow.Author.Needs.{needs}
+use Rattle.l2_fetch.proofs.write_home.Statement.{statement}
+use Rattle.l2_fetch.proofs.write_home.Tie as tie
+use Rattle.l2_fetch.proofs.write_home.Reads as reads
+use Rattle.l2_fetch.proofs.write_home.Lts as lts
+use Rattle.memory.proofs.store.Reads as store-reads
+use Rattle.geometry.proofs.L2.data_at.Reads as data-at-reads
+use Rattle.geometry.proofs.L2.offset_of.Reads as offset-of-reads
+use Rattle.geometry.proofs.external_place.Reads as external-place-reads
+use Rattle.geometry.proofs.is_external.Reads as is-external-reads
+use Rattle.geometry.proofs.line_at.Reads as line-at-reads
+use Rattle.geometry.proofs.place_of.Reads as place-of-reads
+use Rattle.tags.proofs.l2_line.Reads as l2-line-reads
+use Rattle.tags.proofs.l2_put.Reads as l2-put-reads
+
+-- src/lib.rt:184:27
+data-at-requires : tie.Need-data-at-requires
+data-at-requires c κs = search needs
+
+-- src/lib.rt:184:67
+offset-of-requires : tie.Need-offset-of-requires
+offset-of-requires c κs = search needs
+
+-- src/lib.rt:184:27
+add-store : tie.Need-add-store
+add-store c = search needs
+
+-- src/lib.rt:184:9
+store-requires : tie.Need-store-requires
+store-requires c κs = search needs
+
+-- src/lib.rt:185:13
+l2-line-requires : tie.Need-l2-line-requires
+l2-line-requires c κs = search needs
+
+-- src/lib.rt:186:42
+line-at-requires : tie.Need-line-at-requires
+line-at-requires c κs = search needs
+
+-- src/lib.rt:186:9
+l2-put-requires : tie.Need-l2-put-requires
+l2-put-requires c κs = search needs
+
+-- src/lib.rt:187:9
+same-length : tie.Need-same-length
+same-length c = search needs
+
+-- src/lib.rt:187:9
+same-length-2 : tie.Need-same-length-2
+same-length-2 c = search needs
+
+-- src/lib.rt:187:9
+returns : tie.Need-returns
+returns c =
+    let a = (c .before .before .before .before .before .before .before .before .before .before .before .before .before .before .before .before .before) .args in let k = (c .before .before .before .before .before .before .before .before .before .before .before .before .before .before .before .before .before) .pre in let r = recordIn (a .tags .now) in
+    λ d. wrote-homed r (recordIn ((c .before .before .l2-put) .last .0)) d (a .l2 .now) ((c .before .before .before .before .before .before .before .before .before .store) .last .0) (a .ext .now) (littleBytes (a .v) (a .n)) (a .a) (a .sram) (a .sets) ((c .before .before .before .before .before .before .before .before .before .before .before .data-at) .result) ((c .before .before .before .before .before .before .before .before .before .before .offset-of) .result) (a .h)
+    ((c .before .before .before .before .before .l2-line) .result) ((c .before .before .before .line-at) .result) (k .1 .0 .1 .1 .0) (k .1 .0 .1 .1 .1) (k .1 .1) ((c .before .before .before .before .before .before .before .before .before .before .before .before .before .if1) .taken) ((c .before .before .before .before .before .before .before .before .before .before .before .data-at) .ensures .0) ((c .before .before .before .before .before .before .before .before .before .before .offset-of) .ensures .0) ((c .before .before .before .before .before .before .before .before .before .store) .ensures) ((c .before .before .before .before .before .l2-line) .ensures)
+    ((c .before .before .before .line-at) .ensures) ((c .before .before .l2-put) .ensures)
+
+-- src/lib.rt:189:8
+is-external-requires : tie.Need-is-external-requires
+is-external-requires c κs = search needs
+
+-- src/lib.rt:190:28
+external-place-requires : tie.Need-external-place-requires
+external-place-requires c κs = search needs
+
+-- src/lib.rt:190:9
+store-requires-2 : tie.Need-store-requires-2
+store-requires-2 c κs = search needs
+
+-- src/lib.rt:191:9
+same-length-3 : tie.Need-same-length-3
+same-length-3 c = search needs
+
+-- src/lib.rt:191:9
+returns-2 : tie.Need-returns-2
+returns-2 c =
+    let a = (c .before .before .before .before .before .before .before .before .before .before .before) .args in let k = (c .before .before .before .before .before .before .before .before .before .before .before) .pre in let r = recordIn (a .tags .now) in
+    λ d. wrote-external r d (a .l2 .now) (a .ext .now) ((c .before .before .store2) .last .0) (littleBytes (a .v) (a .n)) (a .a) ((c .before .before .before .external-place) .result) (a .h) (k .1 .1) ((c .before .before .before .before .before .before .before .if1) .left)
+    ((c .before .before .before .before .before .before .is-external) .ensures ∙ ap not ((c .before .before .before .before .before .if2) .taken)) ((c .before .before .before .external-place) .ensures .0) ((c .before .before .store2) .ensures)
+
+-- src/lib.rt:193:23
+place-of-requires : tie.Need-place-of-requires
+place-of-requires c κs = search needs
+
+-- src/lib.rt:193:5
+store-requires-3 : tie.Need-store-requires-3
+store-requires-3 c κs = search needs
+
+-- src/lib.rt:176:1
+same-length-4 : tie.Need-same-length-4
+same-length-4 c = search needs
+
+-- src/lib.rt:176:1
+returns-3 : tie.Need-returns-3
+returns-3 c =
+    let a = (c .before .before .before .before .before .before .before .before .before .before .before) .args in let k = (c .before .before .before .before .before .before .before .before .before .before .before) .pre in let r = recordIn (a .tags .now) in
+    λ d. wrote-sram r d (a .l2 .now) ((c .before .before .store3) .last .0) (a .ext .now) (littleBytes (a .v) (a .n)) (a .a) ((c .before .before .before .place-of) .result) (a .h) (k .1 .1) ((c .before .before .before .before .before .before .before .if1) .left)
+    ((c .before .before .before .before .before .before .is-external) .ensures ∙ ap not ((c .before .before .before .before .before .if2) .left)) ((c .before .before .before .place-of) .ensures .0) ((c .before .before .store3) .ensures)
+
+pub write-home-spec : {M : Type 1} → statement M
+write-home-spec =
+    tie.close
+    (tie.spec
+    data-at-requires
+    offset-of-requires
+    add-store
+    store-requires
+    l2-line-requires
+    line-at-requires
+    l2-put-requires
+    same-length
+    same-length-2
+    returns
+    is-external-requires
+    external-place-requires
+    store-requires-2
+    same-length-3
+    returns-2
+    place-of-requires
+    store-requires-3
+    same-length-4
+    returns-3)

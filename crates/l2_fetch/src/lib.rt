@@ -1,0 +1,183 @@
+// What lies behind L1D for an access (paper 01, "CPU reads and writes"): L2 finds or fetches the line, a way of L1D is filled from it, the bytes of a write
+// go there. Each function is the step of paper 01 itself, and all are total: they say what they do for every content of the record.
+ghost use mathlib.Core.Bool.{true, false};
+ghost use mathlib.Core.Path.{_≡_};
+ghost use mathlib.Core.List.{List};
+ghost use Prim.Native.Nat.{ℕ, _<_};
+ghost use Rattle.model.specs.Bytes.{littleBytes};
+ghost use Rattle.model.specs.Lines.{l1dSetOf};
+ghost use Rattle.model.specs.Records.{state};
+ghost use Rattle.model.specs.Homes.{bringL2, fetchL2};
+ghost use Rattle.model.specs.Access.{fillL1d, writeHome};
+ghost use Rattle.model.specs.Refusals.{sizeOk};
+ghost use Rattle.tags.specs.Words.{recordIn};
+ghost use Rattle.tags.specs.Sizes.{Lent};
+ghost use Rattle.l2_fetch.specs.Fetching.{Serves, Found};
+use geometry::L1d;
+use geometry::L2;
+use model::Command;
+
+// What lies behind L1D for an address: whether the L2 cache is its home, and then the set and the way that have its line; and who serves it.
+pub struct Fetched {
+    pub homed: bool,
+    pub set: usize,
+    pub way: usize,
+    pub server: u8,
+}
+
+// ---- L2 serves an address
+// The line in set t, way v of L2 leaves; the line at b is fetched into that way, clean, and used.
+pub fn bring_l2(
+    tags: &mut [u32],
+    sram: usize,
+    sets: usize,
+    t: usize,
+    v: usize,
+    b: u32,
+    l1d: &[u8],
+    l2: &mut [u8],
+    ext: &mut [u8],
+)
+    requires { ⌜ (t < 512) × (v < 4) ⌝ }
+    requires { ⌜ Lent sram sets (now tags) ⌝ }
+    ensures { λ _. ⌜ state (recordIn (now (tags .exit))) (now (l1d .entry)) (now (l2 .exit)) (now (ext .exit))
+        ≡ bringL2 t v b (state (recordIn (now (tags .entry))) (now (l1d .entry)) (now (l2 .entry)) (now (ext .entry))) ⌝ }
+{
+    l2_writeback::evict_l2(tags, sram, sets, t, v, l1d, l2, ext);
+    memory::move128(
+        l2,
+        L2::data_at(sram, sets, t, v),
+        ext,
+        geometry::external_place(b),
+    );
+    tags::l2_put(tags, t, v, geometry::line_at(b, false));
+    tags::l2_use(tags, t, v);
+}
+
+// A fetch or write miss that finds its L2 line uses that way; if it doesn't, the line is brought into the way that is chosen. Where L2 is not the home nothing is done.
+pub fn fetch_l2(
+    tags: &mut [u32],
+    sram: usize,
+    sets: usize,
+    a: u32,
+    l1d: &[u8],
+    l2: &mut [u8],
+    ext: &mut [u8],
+) -> Fetched
+    requires { ⌜ Lent sram sets (now tags) ⌝ }
+    ensures { λ h. ⌜ Serves h a (state (recordIn (now (tags .entry))) (now (l1d .entry)) (now (l2 .entry)) (now (ext .entry))) ⌝ }
+    ensures { λ _. ⌜ state (recordIn (now (tags .exit))) (now (l1d .entry)) (now (l2 .exit)) (now (ext .exit))
+        ≡ fetchL2 a (state (recordIn (now (tags .entry))) (now (l1d .entry)) (now (l2 .entry)) (now (ext .entry))) ⌝ }
+{
+    if !geometry::is_external(a) {
+        return Fetched {
+            homed: false,
+            set: 0,
+            way: 0,
+            server: 2,
+        };
+    }
+    if sets == 0 {
+        return Fetched {
+            homed: false,
+            set: 0,
+            way: 0,
+            server: 4,
+        };
+    }
+    let t = L2::set_of(sets, a);
+    let b = L2::line_of(a);
+    let v = tags::l2_find(tags, t, b);
+    if v < L2::WAYS {
+        tags::l2_use(tags, t, v);
+        return Fetched {
+            homed: true,
+            set: t,
+            way: v,
+            server: 3,
+        };
+    }
+    let u = tags::l2_victim(tags, t);
+    bring_l2(tags, sram, sets, t, u, b, l1d, l2, ext);
+    Fetched {
+        homed: true,
+        set: t,
+        way: u,
+        server: 4,
+    }
+}
+
+// ---- the level behind L1D gives or takes bytes
+// The line of address a is fetched from its home, way w of L1D set i filled clean.
+pub fn fill_l1d(
+    tags: &mut [u32],
+    sram: usize,
+    sets: usize,
+    h: Fetched,
+    i: usize,
+    w: usize,
+    a: u32,
+    l1d: &mut [u8],
+    l2: &[u8],
+    ext: &[u8],
+)
+    requires { ⌜ ((i < 128) × (w < 2)) × (i ≡ l1dSetOf a) ⌝ }
+    requires { ⌜ Lent sram sets (now tags) ⌝ }
+    requires { ⌜ Found h a (recordIn (now tags)) ⌝ }
+    ensures { λ _. ⌜ state (recordIn (now (tags .exit))) (now (l1d .exit)) (now (l2 .entry)) (now (ext .entry))
+        ≡ fillL1d w (h .way) a (state (recordIn (now (tags .entry))) (now (l1d .entry)) (now (l2 .entry)) (now (ext .entry))) ⌝ }
+{
+    let b = L1d::line_of(a);
+    let to = L1d::data_at(i, w);
+    tags::l1d_put(tags, i, w, geometry::line_at(b, false));
+    if h.homed {
+        memory::move64(
+            l1d,
+            to,
+            l2,
+            L2::data_at(sram, sets, h.set, h.way) + L2::offset_of(b),
+        );
+        return;
+    }
+    if geometry::is_external(b) {
+        memory::move64(l1d, to, ext, geometry::external_place(b));
+        return;
+    }
+    memory::move64(l1d, to, l2, geometry::place_of(b));
+}
+
+// The bytes of a write go to the home.
+pub fn write_home(
+    tags: &mut [u32],
+    sram: usize,
+    sets: usize,
+    h: Fetched,
+    a: u32,
+    n: u32,
+    v: u64,
+    l2: &mut [u8],
+    ext: &mut [u8],
+)
+    requires { ⌜ sizeOk n ≡ true ⌝ }
+    requires { ⌜ Lent sram sets (now tags) ⌝ }
+    requires { ⌜ Found h a (recordIn (now tags)) ⌝ }
+    ensures { λ _. ⌜ ((d : List ℕ) → state (recordIn (now (tags .exit))) d (now (l2 .exit)) (now (ext .exit))
+        ≡ writeHome (h .way) a (littleBytes v n) (state (recordIn (now (tags .entry))) d (now (l2 .entry)) (now (ext .entry)))) ⌝ }
+{
+    if h.homed {
+        memory::store(
+            l2,
+            L2::data_at(sram, sets, h.set, h.way) + L2::offset_of(a),
+            n,
+            v,
+        );
+        let y = tags::l2_line(tags, h.set, h.way);
+        tags::l2_put(tags, h.set, h.way, geometry::line_at(y.address, true));
+        return;
+    }
+    if geometry::is_external(a) {
+        memory::store(ext, geometry::external_place(a), n, v);
+        return;
+    }
+    memory::store(l2, geometry::place_of(a), n, v);
+}

@@ -1,0 +1,54 @@
+use Rattle.l2_writeback.specs.Halves.{evicted}
+use Rattle.tags.specs.Words.{recordIn}
+use Rattle.model.specs.Records.{state}
+use borrow.Author.Needs.{needs}
+use Rattle.l2_writeback.proofs.evict_l2.Statement.{statement}
+use Rattle.l2_writeback.proofs.evict_l2.Tie as tie
+use Rattle.l2_writeback.proofs.evict_l2.Reads as reads
+use Rattle.l2_writeback.proofs.evict_l2.Lts as lts
+use Rattle.l2_writeback.proofs.writeback_l2.Reads as writeback-l2-reads
+use Rattle.geometry.proofs.empty_line.Reads as empty-line-reads
+use Rattle.tags.proofs.l2_put.Reads as l2-put-reads
+
+-- src/lib.rt:76:5
+writeback-l2-requires : tie.Need-writeback-l2-requires
+writeback-l2-requires c κs = search needs
+
+-- src/lib.rt:77:30
+empty-line-requires : tie.Need-empty-line-requires
+empty-line-requires c κs = search needs
+
+-- src/lib.rt:77:5
+l2-put-requires : tie.Need-l2-put-requires
+l2-put-requires c κs = search needs
+
+-- src/lib.rt:70:1
+same-length : tie.Need-same-length
+same-length c = search needs
+
+-- src/lib.rt:70:1
+same-length-2 : tie.Need-same-length-2
+same-length-2 c = search needs
+
+-- src/lib.rt:70:1
+same-length-3 : tie.Need-same-length-3
+same-length-3 c = search needs
+
+-- src/lib.rt:70:1
+returns : tie.Need-returns
+returns c =
+    let a = (c .before .before .before .before .before .before .before .before .before .before .before .before .before .before .before .before .before .before .before) .args in let k = (c .before .before .before .before .before .before .before .before .before .before .before .before .before .before .before .before .before .before .before) .pre in let d = a .l1d .now in let e = a .ext .now in let z = state (recordIn (a .tags .now)) d (a .l2 .now) e in
+    let p = (c .before .before .before .before .before .before .before .before .before .before .before .writeback-l2) in let y = state (recordIn (p .last .0)) d (p .last .1 .1 .1 .1 .1 .1 .0) (p .last .1 .1 .1 .1 .1 .1 .1 .0) in
+    evicted z y (recordIn ((c .before .before .l2-put) .last .0)) (a .t) (a .v) ((c .before .before .before .empty-line) .result) (p .ensures) ((c .before .before .before .empty-line) .ensures) ((c .before .before .l2-put) .ensures)
+
+pub evict-l2-spec : {M : Type 1} → statement M
+evict-l2-spec =
+    tie.close
+    (tie.spec
+    writeback-l2-requires
+    empty-line-requires
+    l2-put-requires
+    same-length
+    same-length-2
+    same-length-3
+    returns)

@@ -1,0 +1,91 @@
+use Rattle.l2_writeback.specs.Halves.{out-none, out-clean, out-dirty}
+use Rattle.tags.specs.Words.{recordIn}
+use borrow.Author.Tests.{not-true, not-false}
+use borrow.Author.Needs.{needs}
+use Rattle.l2_writeback.proofs.write_out_l2.Statement.{statement}
+use Rattle.l2_writeback.proofs.write_out_l2.Tie as tie
+use Rattle.l2_writeback.proofs.write_out_l2.Reads as reads
+use Rattle.l2_writeback.proofs.write_out_l2.Lts as lts
+use Rattle.memory.proofs.move128.Reads as move128-reads
+use Rattle.geometry.proofs.L2.data_at.Reads as data-at-reads
+use Rattle.geometry.proofs.external_place.Reads as external-place-reads
+use Rattle.geometry.proofs.line_at.Reads as line-at-reads
+use Rattle.tags.proofs.l2_line.Reads as l2-line-reads
+use Rattle.tags.proofs.l2_put.Reads as l2-put-reads
+
+-- src/lib.rt:42:9
+l2-line-requires : tie.Need-l2-line-requires
+l2-line-requires c κs = search needs
+
+-- src/lib.rt:44:9
+same-length : tie.Need-same-length
+same-length c = search needs
+
+-- src/lib.rt:44:9
+returns : tie.Need-returns
+returns c =
+    let a = (c .before .before .before .before .before .before .before) .args in let h = (c .before .before .before .before .before .before .before) .pre in let r = recordIn (a .tags .now) in
+    λ d. out-none r d (a .l2 .now) (a .ext .now) (a .t) (a .v) ((c .before .before .l2-line) .result) ((c .before .before .l2-line) .ensures) (not-true ((c .before .before .l2-line) .result .valid) ((c .if1) .taken))
+
+-- src/lib.rt:47:9
+same-length-2 : tie.Need-same-length-2
+same-length-2 c = search needs
+
+-- src/lib.rt:47:9
+returns-2 : tie.Need-returns-2
+returns-2 c =
+    let a = (c .before .before .before .before .before .before .before .before .before) .args in let h = (c .before .before .before .before .before .before .before .before .before) .pre in let r = recordIn (a .tags .now) in
+    λ d. out-clean r d (a .l2 .now) (a .ext .now) (a .t) (a .v) ((c .before .before .before .before .l2-line) .result) ((c .before .before .before .before .l2-line) .ensures) (not-false ((c .before .before .before .before .l2-line) .result .valid) ((c .before .before .if1) .left)) (not-true ((c .before .before .before .before .l2-line) .result .dirty) ((c .if2) .taken))
+
+-- src/lib.rt:49:26
+external-place-requires : tie.Need-external-place-requires
+external-place-requires c κs = search needs
+
+-- src/lib.rt:49:63
+data-at-requires : tie.Need-data-at-requires
+data-at-requires c κs = search needs
+
+-- src/lib.rt:49:5
+move128-requires : tie.Need-move128-requires
+move128-requires c κs = search needs
+
+-- src/lib.rt:50:30
+line-at-requires : tie.Need-line-at-requires
+line-at-requires c κs = search needs
+
+-- src/lib.rt:50:5
+l2-put-requires : tie.Need-l2-put-requires
+l2-put-requires c κs = search needs
+
+-- src/lib.rt:36:1
+same-length-3 : tie.Need-same-length-3
+same-length-3 c = search needs
+
+-- src/lib.rt:36:1
+same-length-4 : tie.Need-same-length-4
+same-length-4 c = search needs
+
+-- src/lib.rt:36:1
+returns-3 : tie.Need-returns-3
+returns-3 c =
+    let a = (c .before .before .before .before .before .before .before .before .before .before .before .before .before .before .before .before .before .before .before .before) .args in let h = (c .before .before .before .before .before .before .before .before .before .before .before .before .before .before .before .before .before .before .before .before) .pre in let r = recordIn (a .tags .now) in
+    λ d. out-dirty r (recordIn ((c .before .before .l2-put) .last .0)) d (a .l2 .now) (a .ext .now) ((c .before .before .before .before .before .before .before .move128) .last .0) (a .t) (a .v) (a .sram) (a .sets) ((c .before .before .before .before .before .before .before .before .data-at) .result)
+    ((c .before .before .before .before .before .before .before .before .before .external-place) .result) ((c .before .before .before .before .before .before .before .before .before .before .before .before .before .before .before .l2-line) .result) ((c .before .before .before .line-at) .result) ((c .before .before .before .before .before .before .before .before .before .before .before .before .before .before .before .l2-line) .ensures) (not-false ((c .before .before .before .before .before .before .before .before .before .before .before .before .before .before .before .l2-line) .result .valid) ((c .before .before .before .before .before .before .before .before .before .before .before .before .before .if1) .left)) (not-false ((c .before .before .before .before .before .before .before .before .before .before .before .before .before .before .before .l2-line) .result .dirty) ((c .before .before .before .before .before .before .before .before .before .before .before .if2) .left)) (h .1 .1 .1 .0) (h .1 .1 .1 .1) ((c .before .before .before .before .before .before .before .before .data-at) .ensures .0) ((c .before .before .before .before .before .before .before .before .before .external-place) .ensures .0) ((c .before .before .before .before .before .before .before .move128) .ensures) ((c .before .before .before .line-at) .ensures) ((c .before .before .l2-put) .ensures)
+
+pub write-out-l2-spec : {M : Type 1} → statement M
+write-out-l2-spec =
+    tie.close
+    (tie.spec
+    l2-line-requires
+    same-length
+    returns
+    same-length-2
+    returns-2
+    external-place-requires
+    data-at-requires
+    move128-requires
+    line-at-requires
+    l2-put-requires
+    same-length-3
+    same-length-4
+    returns-3)

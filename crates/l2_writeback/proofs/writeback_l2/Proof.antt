@@ -1,0 +1,94 @@
+use Rattle.l2_writeback.specs.Halves.{back-none, back-all}
+use Rattle.tags.specs.Words.{recordIn}
+use Rattle.model.specs.Records.{state}
+use borrow.Author.Tests.{not-true, not-false}
+use mathlib.Core.Path.{refl}
+use Rattle.model.specs.Homes.{takeHalf}
+use Rattle.tags.specs.Sizes.{lent-next, same-take-half}
+use borrow.Author.Needs.{needs}
+use Rattle.l2_writeback.proofs.writeback_l2.Statement.{statement}
+use Rattle.l2_writeback.proofs.writeback_l2.Tie as tie
+use Rattle.l2_writeback.proofs.writeback_l2.Reads as reads
+use Rattle.l2_writeback.proofs.writeback_l2.Lts as lts
+use Rattle.l2_writeback.proofs.take_half.Reads as take-half-reads
+use Rattle.l2_writeback.proofs.write_out_l2.Reads as write-out-l2-reads
+use Rattle.geometry.proofs.L2.upper_half.Reads as upper-half-reads
+use Rattle.tags.proofs.l2_line.Reads as l2-line-reads
+
+-- src/lib.rt:60:9
+l2-line-requires : tie.Need-l2-line-requires
+l2-line-requires c κs = search needs
+
+-- src/lib.rt:62:9
+same-length : tie.Need-same-length
+same-length c = search needs
+
+-- src/lib.rt:62:9
+returns : tie.Need-returns
+returns c =
+    let a = (c .before .before .before .before .before .before .before .before) .args in let k = (c .before .before .before .before .before .before .before .before) .pre in let d = a .l1d .now in let e = a .ext .now in let z = state (recordIn (a .tags .now)) d (a .l2 .now) e in
+    back-none z (a .t) (a .v) ((c .before .before .l2-line) .result) ((c .before .before .l2-line) .ensures) (not-true ((c .before .before .l2-line) .result .valid) ((c .if1) .taken))
+
+-- src/lib.rt:64:5
+take-half-requires : tie.Need-take-half-requires
+take-half-requires c κs = search needs
+
+-- src/lib.rt:65:39
+upper-half-requires : tie.Need-upper-half-requires
+upper-half-requires c κs = search needs
+
+-- src/lib.rt:65:5
+take-half-requires-2 : tie.Need-take-half-requires-2
+take-half-requires-2 c κs =
+    let a = (c .before .before .before .before .before .before .before .before .before .before .before .before .before .before .before .before .before .before) .args in let k = (c .before .before .before .before .before .before .before .before .before .before .before .before .before .before .before .before .before .before) .pre in let d = a .l1d .now in let e = a .ext .now in let z = state (recordIn (a .tags .now)) d (a .l2 .now) e in
+    let h = (c .before .before .before .before .before .before .before .take-half) in let z₁ = state (recordIn (h .last .0)) d (h .last .1 .1 .1 .1 .1 .1 .1 .0) e in
+    let l₁ = lent-next (a .sram) (a .sets) (a .tags .now) (h .last .0) z₁ (takeHalf (a .t) (a .v) ((c .before .before .before .before .before .before .before .before .before .before .before .before .l2-line) .result .address) z) (k .1) (h .kept .0) (h .ensures e) refl (same-take-half (a .t) (a .v) ((c .before .before .before .before .before .before .before .before .before .before .before .before .l2-line) .result .address) z) in
+    (k .0, l₁)
+
+-- src/lib.rt:66:5
+write-out-l2-requires : tie.Need-write-out-l2-requires
+write-out-l2-requires c κs =
+    let a = (c .before .before .before .before .before .before .before .before .before .before .before .before .before .before .before .before .before .before .before .before .before .before .before .before .before .before) .args in let k = (c .before .before .before .before .before .before .before .before .before .before .before .before .before .before .before .before .before .before .before .before .before .before .before .before .before .before) .pre in let d = a .l1d .now in let e = a .ext .now in let z = state (recordIn (a .tags .now)) d (a .l2 .now) e in
+    let h = (c .before .before .before .before .before .before .before .before .before .before .before .before .before .before .before .take-half) in let z₁ = state (recordIn (h .last .0)) d (h .last .1 .1 .1 .1 .1 .1 .1 .0) e in
+    let g = (c .before .before .before .before .before .before .before .take-half2) in let z₂ = state (recordIn (g .last .0)) d (g .last .1 .1 .1 .1 .1 .1 .1 .0) e in
+    let l₁ = lent-next (a .sram) (a .sets) (a .tags .now) (h .last .0) z₁ (takeHalf (a .t) (a .v) ((c .before .before .before .before .before .before .before .before .before .before .before .before .before .before .before .before .before .before .before .before .l2-line) .result .address) z) (k .1) (h .kept .0) (h .ensures e) refl (same-take-half (a .t) (a .v) ((c .before .before .before .before .before .before .before .before .before .before .before .before .before .before .before .before .before .before .before .before .l2-line) .result .address) z) in
+    let l₂ = lent-next (a .sram) (a .sets) (h .last .0) (g .last .0) z₂ (takeHalf (a .t) (a .v) ((c .before .before .before .before .before .before .before .before .before .upper-half) .result) z₁) l₁ (g .kept .0) (g .ensures e) refl (same-take-half (a .t) (a .v) ((c .before .before .before .before .before .before .before .before .before .upper-half) .result) z₁) in
+    (k .0, l₂)
+
+-- src/lib.rt:54:1
+same-length-2 : tie.Need-same-length-2
+same-length-2 c = search needs
+
+-- src/lib.rt:54:1
+same-length-3 : tie.Need-same-length-3
+same-length-3 c = search needs
+
+-- src/lib.rt:54:1
+same-length-4 : tie.Need-same-length-4
+same-length-4 c = search needs
+
+-- src/lib.rt:54:1
+returns-2 : tie.Need-returns-2
+returns-2 c =
+    let a = (c .before .before .before .before .before .before .before .before .before .before .before .before .before .before .before .before .before .before .before .before .before .before .before .before .before .before .before .before .before .before .before) .args in let k = (c .before .before .before .before .before .before .before .before .before .before .before .before .before .before .before .before .before .before .before .before .before .before .before .before .before .before .before .before .before .before .before) .pre in let d = a .l1d .now in let e = a .ext .now in let z = state (recordIn (a .tags .now)) d (a .l2 .now) e in
+    let h = (c .before .before .before .before .before .before .before .before .before .before .before .before .before .before .before .before .before .before .before .before .take-half) in let z₁ = state (recordIn (h .last .0)) d (h .last .1 .1 .1 .1 .1 .1 .1 .0) e in
+    let g = (c .before .before .before .before .before .before .before .before .before .before .before .before .take-half2) in let z₂ = state (recordIn (g .last .0)) d (g .last .1 .1 .1 .1 .1 .1 .1 .0) e in
+    let o = (c .before .before .before .before .write-out-l2) in
+    back-all z z₁ z₂ (state (recordIn (o .last .0)) d (z₂ .l2) (o .last .1 .1 .1 .1 .1 .1 .0)) (a .t) (a .v) ((c .before .before .before .before .before .before .before .before .before .before .before .before .before .before .upper-half) .result) ((c .before .before .before .before .before .before .before .before .before .before .before .before .before .before .before .before .before .before .before .before .before .before .before .before .before .l2-line) .result) ((c .before .before .before .before .before .before .before .before .before .before .before .before .before .before .before .before .before .before .before .before .before .before .before .before .before .l2-line) .ensures) (not-false ((c .before .before .before .before .before .before .before .before .before .before .before .before .before .before .before .before .before .before .before .before .before .before .before .before .before .l2-line) .result .valid) ((c .before .before .before .before .before .before .before .before .before .before .before .before .before .before .before .before .before .before .before .before .before .before .before .if1) .left)) ((c .before .before .before .before .before .before .before .before .before .before .before .before .before .before .upper-half) .ensures)
+    (h .ensures e) (g .ensures e) (o .ensures d)
+
+pub writeback-l2-spec : {M : Type 1} → statement M
+writeback-l2-spec =
+    tie.close
+    (tie.spec
+    l2-line-requires
+    same-length
+    returns
+    take-half-requires
+    upper-half-requires
+    take-half-requires-2
+    write-out-l2-requires
+    same-length-2
+    same-length-3
+    same-length-4
+    returns-2)

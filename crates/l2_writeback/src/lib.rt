@@ -1,0 +1,123 @@
+// A line leaves L2: on lent words, each function is the step of paper 01 itself. All are total: they say what they do for every content of the words.
+ghost use mathlib.Core.Path.{_≡_};
+ghost use mathlib.Core.List.{List};
+ghost use Prim.Native.Nat.{ℕ, _<_};
+ghost use Rattle.model.specs.Records.{state};
+ghost use Rattle.model.specs.Homes.{takeHalf, writeOutL2, writebackL2, evictL2};
+ghost use Rattle.tags.specs.Words.{recordIn};
+ghost use Rattle.tags.specs.Sizes.{Lent};
+use geometry::L1d;
+use geometry::L2;
+
+// The half at b of the L2 line in set t, way v: L2 takes it in if L1D holds it dirty, and it becomes invalid in L1D.
+pub fn take_half(
+    tags: &mut [u32],
+    sram: usize,
+    sets: usize,
+    t: usize,
+    v: usize,
+    b: u32,
+    l1d: &[u8],
+    l2: &mut [u8],
+)
+    requires { ⌜ (t < 512) × (v < 4) ⌝ }
+    requires { ⌜ Lent sram sets (now tags) ⌝ }
+    ensures { λ _. ⌜ ((e : List ℕ) → state (recordIn (now (tags .exit))) (now (l1d .entry)) (now (l2 .exit)) e
+        ≡ takeHalf t v b (state (recordIn (now (tags .entry))) (now (l1d .entry)) (now (l2 .entry)) e)) ⌝ }
+{
+    let i = L1d::set_of(b);
+    let w = tags::l1d_find(tags, i, L1d::line_of(b));
+    if L1d::WAYS <= w {
+        return;
+    }
+    let x = tags::l1d_line(tags, i, w);
+    if x.dirty {
+        memory::move64(
+            l2,
+            L2::data_at(sram, sets, t, v) + L2::offset_of(b),
+            l1d,
+            L1d::data_at(i, w),
+        );
+        let y = tags::l2_line(tags, t, v);
+        tags::l2_put(tags, t, v, geometry::line_at(y.address, true));
+        tags::l1d_put(tags, i, w, geometry::empty_line());
+        return;
+    }
+    tags::l1d_put(tags, i, w, geometry::empty_line());
+}
+
+// The L2 line in set t, way v goes out, if dirty, into the part of external memory that begins at its home.
+pub fn write_out_l2(
+    tags: &mut [u32],
+    sram: usize,
+    sets: usize,
+    t: usize,
+    v: usize,
+    l2: &[u8],
+    ext: &mut [u8],
+)
+    requires { ⌜ (t < 512) × (v < 4) ⌝ }
+    requires { ⌜ Lent sram sets (now tags) ⌝ }
+    ensures { λ _. ⌜ ((d : List ℕ) → state (recordIn (now (tags .exit))) d (now (l2 .entry)) (now (ext .exit))
+        ≡ writeOutL2 t v (state (recordIn (now (tags .entry))) d (now (l2 .entry)) (now (ext .entry)))) ⌝ }
+{
+    let x = tags::l2_line(tags, t, v);
+    if !x.valid {
+        return;
+    }
+    if !x.dirty {
+        return;
+    }
+    memory::move128(
+        ext,
+        geometry::external_place(x.address),
+        l2,
+        L2::data_at(sram, sets, t, v),
+    );
+    tags::l2_put(tags, t, v, geometry::line_at(x.address, false));
+}
+
+// A valid L2 line takes in its halves and goes out; it stays.
+pub fn writeback_l2(
+    tags: &mut [u32],
+    sram: usize,
+    sets: usize,
+    t: usize,
+    v: usize,
+    l1d: &[u8],
+    l2: &mut [u8],
+    ext: &mut [u8],
+)
+    requires { ⌜ (t < 512) × (v < 4) ⌝ }
+    requires { ⌜ Lent sram sets (now tags) ⌝ }
+    ensures { λ _. ⌜ state (recordIn (now (tags .exit))) (now (l1d .entry)) (now (l2 .exit)) (now (ext .exit))
+        ≡ writebackL2 t v (state (recordIn (now (tags .entry))) (now (l1d .entry)) (now (l2 .entry)) (now (ext .entry))) ⌝ }
+{
+    let x = tags::l2_line(tags, t, v);
+    if !x.valid {
+        return;
+    }
+    take_half(tags, sram, sets, t, v, x.address, l1d, l2);
+    take_half(tags, sram, sets, t, v, L2::upper_half(x.address), l1d, l2);
+    write_out_l2(tags, sram, sets, t, v, l2, ext);
+}
+
+// .. and the way emptied.
+pub fn evict_l2(
+    tags: &mut [u32],
+    sram: usize,
+    sets: usize,
+    t: usize,
+    v: usize,
+    l1d: &[u8],
+    l2: &mut [u8],
+    ext: &mut [u8],
+)
+    requires { ⌜ (t < 512) × (v < 4) ⌝ }
+    requires { ⌜ Lent sram sets (now tags) ⌝ }
+    ensures { λ _. ⌜ state (recordIn (now (tags .exit))) (now (l1d .entry)) (now (l2 .exit)) (now (ext .exit))
+        ≡ evictL2 t v (state (recordIn (now (tags .entry))) (now (l1d .entry)) (now (l2 .entry)) (now (ext .entry))) ⌝ }
+{
+    writeback_l2(tags, sram, sets, t, v, l1d, l2, ext);
+    tags::l2_put(tags, t, v, geometry::empty_line());
+}

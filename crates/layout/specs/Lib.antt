@@ -1,3 +1,0 @@
-pub mod Layout
-pub mod Loops
-pub mod Back

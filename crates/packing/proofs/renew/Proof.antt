@@ -1,0 +1,29 @@
+-- `packing::renew` meets its contract: the modes, then all sets fresh. Assumes nothing.
+use Rattle.tags.specs.Words.{recordIn}
+use Rattle.packing.specs.Packed.{made-new}
+use borrow.Author.Needs.{needs}
+use Rattle.packing.proofs.renew.Statement.{statement}
+use Rattle.packing.proofs.renew.Tie as tie
+
+put-modes-requires : tie.Need-put-modes-requires
+put-modes-requires c κs = search needs
+
+fresh-l1d-requires : tie.Need-fresh-l1d-requires
+fresh-l1d-requires c κs = search needs
+
+fresh-l2-requires : tie.Need-fresh-l2-requires
+fresh-l2-requires c κs = search needs
+
+same-length : tie.Need-same-length
+same-length c = search needs
+
+returns : tie.Need-returns
+returns c =
+    let a = (c .before .before .before .before .before .before .before .before .before .before .before .before .before) .args in
+    made-new (recordIn (a .tags .now)) (recordIn ((c .before .before .before .before .before .before .before .before .before .before .put-modes) .last .0)) (recordIn ((c .before .before .before .before .before .before .fresh-l1d) .last .0)) (recordIn ((c .before .before .fresh-l2) .last .0))
+    (a .mode) (a .mar128) (a .mar129) ((c .before .before .before .before .before .before .before .before .before .before .put-modes) .ensures) ((c .before .before .before .before .before .before .fresh-l1d) .ensures) ((c .before .before .fresh-l2) .ensures)
+
+pub renew-spec : {M : Type 1} → statement M
+renew-spec =
+    tie.close
+    (tie.spec put-modes-requires fresh-l1d-requires fresh-l2-requires same-length returns)

@@ -1,0 +1,209 @@
+-- What the loop makes of its commands: the run of paper 01 (`runFrom`), with the last answer beside it, over a source of commands that is a trace or
+-- one given command.
+use Prim.Native.Nat.{ℕ, zero, suc, _+_, _*_, _-_, _≤_, _<_}
+use mathlib.Core.Bool.{Bool, true, false, cond}
+use mathlib.Core.List.{List, _∷_}
+use mathlib.Core.Path.{_≡_, refl, sym, ap, _∙_}
+use mathlib.Core.Logic.{_⊎_, _≢_}
+use native.Mathlib.Omega.{arith}
+use native.Mathlib.Numerals.{add-one, add-two}
+use lib.ListN.{length, drop, set, length-set}
+use lib.Dec.{ltb, leb, eqb}
+use borrow.Author.Tests.{lt-ltb, le-ltb, le-leb, leb-true, eq-eqb, ne-eqb}
+use Rattle.model.specs.Records.{State}
+use Rattle.model.specs.Trace.{Decoded, decoded, decode}
+use Rattle.model.specs.Calls.{Reply, reply, step, Run, ran, putAnswer, commandAt, putReply, runFrom}
+use Rattle.model.specs.Bytes.{stored, littleBytes}
+use Rattle.model.specs.Laws.{bool, length-littleBytes}
+use Rattle.memory.specs.Values.{stored-sets}
+use Rattle.model.specs.declared.Command.{Command}
+use Rattle.decode.specs.Told.{told}
+use Rattle.decode.specs.Codes.{DecodedAt}
+use Rattle.decode.specs.declared.Decoded.{Decoded as Next}
+use Rattle.access.specs.declared.Answer.{Answer}
+
+-- ---- where commands come from
+abbrev pub sourceOf : Bool → Command → List ℕ → ℕ → Decoded
+sourceOf single c t i = cond single (decoded c 1) (decode (drop i t))
+
+unfoldable pub endOf : Bool → List ℕ → ℕ
+endOf single t = cond single 1 (length t)
+
+-- the command at a place; one that lies before the end takes a byte at least and ends before it
+pub record NextAt (single : Bool) (c : Command) (t : List ℕ) (at : ℕ) (r : Next) : Type 0 where
+  pub same : told r ≡ sourceOf single c t at
+  pub within : r .ok ≡ true → at < endOf single t → (1 ≤ r .used) × (at + r .used ≤ endOf single t)
+
+-- why a run stops before a command: 11, then 12
+unfoldable pub stopOf : Bool → ℕ → ℕ → ℕ
+stopOf ok len k = cond ok (cond (leb (k * 10 + 10) len) 0 12) 11
+
+-- ---- the run, with the last answer
+abbrev pub noAnswer : Answer
+noAnswer = record { number = 0; server = 0; value = 0 }
+
+abbrev pub answerOf : Reply → Answer
+answerOf x = record { number = x .number; server = x .server; value = x .value }
+
+pub record Executed : Type 0 where
+  pub run : Run
+  pub last : Answer
+
+abbrev pub executed : Run → Answer → Executed
+executed x a = record { run = x; last = a }
+
+unfoldable pub executes : (ℕ → Decoded) → ℕ → ℕ → ℕ → State → ℕ → List ℕ → Answer → Executed
+executes source end zero i z k o a = executed (ran z i k 0 o) a
+executes source end (suc turns) i z k o a =
+    cond (ltb i end)
+    (cond (eqb (stopOf (source i .ok) (length o) k) 0)
+    (executes source end turns (i + source i .used) (step (source i .found) z .next) (suc k) (putReply o k (step (source i .found) z))
+    (answerOf (step (source i .found) z)))
+    (executed (ran z i k (stopOf (source i .ok) (length o) k) o) a))
+    (executed (ran z i k 0 o) a)
+
+-- ---- it is the run of paper 01
+pub executes-run : (t : List ℕ) (turns i : ℕ) (z : State) (k : ℕ) (o : List ℕ) (a : Answer) →
+    executes (commandAt t) (length t) turns i z k o a .run ≡ runFrom t turns i z k o
+unfolding executes runFrom stopOf
+executes-run t zero i z k o a = refl
+executes-run t (suc turns) i z k o a =
+    let x = step (commandAt t i .found) z in
+    bool (ltb i (length t))
+    (λ b. bool (commandAt t i .ok)
+    (λ c. bool (leb (k * 10 + 10) (length o))
+    (λ d. rw (b, c, d) (executes-run t turns (i + commandAt t i .used) (x .next) (suc k) (putReply o k x) (answerOf x)))
+    (λ d. rw (b, c, d) refl))
+    (λ c. rw (b, c) refl))
+    (λ b. rw b refl)
+
+-- a single command is that step, where its answer has room
+pub executes-one : (c : Command) (t : List ℕ) (z : State) (o : List ℕ) (a : Answer) → 10 ≤ length o →
+    executes (sourceOf true c t) 1 1 0 z 0 o a
+    ≡ executed (ran (step c z .next) 1 1 0 (putReply o 0 (step c z))) (answerOf (step c z))
+unfolding executes stopOf
+executes-one c t z o a h = rw (le-leb 10 (length o) h) refl
+
+-- what the loop makes of one given command, and of a trace: the definitions' own step and run
+module _ (single : Bool) (c : Command) (t : List ℕ) (z : State) (o : List ℕ) (x : Run) (a : Answer)
+    (e : executed x a ≡ executes (sourceOf single c t) (endOf single t) (endOf single t) 0 z 0 o noAnswer) where
+  pub told-one : single ≡ true → 10 ≤ length o → reply (a .number) (a .server) (a .value) (x .next) ≡ step c z
+  unfolding endOf
+  told-one s h =
+      let f : executed x a ≡ executes (sourceOf true c t) 1 1 0 z 0 o noAnswer = rw s at e in
+      ap (λ (y : Executed). reply (y .last .number) (y .last .server) (y .last .value) (y .run .next)) (f ∙ executes-one c t z o noAnswer h)
+
+  pub told-all : single ≡ false → x ≡ runFrom t (length t) 0 z 0 o
+  unfolding endOf
+  told-all s =
+      let f : executed x a ≡ executes (commandAt t) (length t) (length t) 0 z 0 o noAnswer = rw s at e in
+      ap (λ (y : Executed). y .run) f ∙ executes-run t (length t) 0 z 0 o noAnswer
+
+-- ---- how the loop goes on, stops and ends: what is left to do gives the whole
+module _ (source : ℕ → Decoded) (end at k : ℕ) (z : State) (o : List ℕ) (a : Answer) (whole : Executed) where
+  pub turn : at < end → k ≤ at → (d : Next) → told d ≡ source at → stopOf (d .ok) (length o) k ≡ 0 → (x : Reply) → x ≡ step (d .command) z →
+      (o′ : List ℕ) → o′ ≡ putAnswer o k (x .number) (x .server) (x .value) → executes source end (end - k) at z k o a ≡ whole →
+      executes source end (end - (k + 1)) (at + d .used) (x .next) (k + 1) o′ (answerOf x) ≡ whole
+  unfolding executes
+  turn h le d ed es x ex o′ eo inv =
+      let n : end - k ≡ suc (end - (k + 1)) = omega arith in
+      let s : eqb (stopOf (source at .ok) (length o) k) 0 ≡ true
+      = eq-eqb (stopOf (source at .ok) (length o) k) 0 (sym (ap (λ (y : Decoded). stopOf (y .ok) (length o) k) ed) ∙ es) in
+      let inv′ = rw (n, lt-ltb at end h, s) at inv in
+      rw (eo, ex, add-one) (rw (← ed, add-one) at inv′)
+
+  pub stopped : at < end → k ≤ at → (d : Next) → told d ≡ source at → (s : ℕ) → s ≡ stopOf (d .ok) (length o) k → (s ≡ 0 → ⊥) →
+      executes source end (end - k) at z k o a ≡ whole → executed (ran z at k s o) a ≡ whole
+  unfolding executes
+  stopped h le d ed s es ns inv =
+      let n : end - k ≡ suc (end - (k + 1)) = omega arith in
+      let s′ : s ≡ stopOf (source at .ok) (length o) k = es ∙ ap (λ (y : Decoded). stopOf (y .ok) (length o) k) ed in
+      let t : eqb (stopOf (source at .ok) (length o) k) 0 ≡ false = ne-eqb (stopOf (source at .ok) (length o) k) 0 (λ e. ns (s′ ∙ e)) in
+      rw s′ (rw (n, lt-ltb at end h, t) at inv)
+
+  pub at-end : (n : ℕ) → end ≤ at → executes source end n at z k o a ≡ whole → executed (ran z at k 0 o) a ≡ whole
+  unfolding executes
+  at-end zero h inv = inv
+  at-end (suc n) h inv = rw (le-ltb at end h) at inv
+
+-- room for an answer, as the run tests it
+pub stop-none : (ok : Bool) (len k : ℕ) → stopOf ok len k ≡ 0 → k * 10 + 10 ≤ len
+unfolding stopOf
+stop-none ok len k e =
+    bool ok
+    (λ t. bool (leb (k * 10 + 10) len) (λ d. leb-true (k * 10 + 10) len d)
+    (λ d. let f : _≡_ {A = ℕ} 12 0 = rw (t, d) at e in absurd (omega arith)))
+    (λ t. let f : _≡_ {A = ℕ} 11 0 = rw t at e in absurd (omega arith))
+
+pub stop-ok : (ok : Bool) (len k : ℕ) → stopOf ok len k ≡ 0 → ok ≡ true
+unfolding stopOf
+stop-ok ok len k e = bool ok (λ t. t) (λ t. let f : _≡_ {A = ℕ} 11 0 = rw t at e in absurd (omega arith))
+
+-- ---- the two sources
+pub next-given : (single : Bool) (c : Command) (t : List ℕ) (at : ℕ) → single ≡ true → NextAt single c t at (record { ok = true; command = c; used = 1 })
+unfolding endOf
+next-given single c t at s =
+    record { same = rw s refl; within = λ _ h. let h′ : at < 1 = rw s at h in rw s (omega arith, omega arith) }
+
+pub next-trace : (single : Bool) (c : Command) (t : List ℕ) (at : ℕ) (r : Next) → single ≡ false → DecodedAt t at r → NextAt single c t at r
+unfolding endOf
+next-trace single c t at r s d = record { same = rw s (d .same); within = λ k _. rw s (d .within k) }
+
+-- the two ways to a place where arms meet
+abbrev pub First : {A B : Type 0} → A ⊎ B → Type 0
+First {A} {B} x = A
+
+abbrev pub Second : {A B : Type 0} → A ⊎ B → Type 0
+Second {A} {B} x = B
+
+-- what is known of a command that the run goes on with: it takes a byte at least, ends before the end, and its answer has room
+pub record Going (end at k : ℕ) (d : Next) (o : List ℕ) : Type 0 where
+  pub none : stopOf (d .ok) (length o) k ≡ 0
+  pub more : 1 ≤ d .used
+  pub to : at + d .used ≤ end
+  pub up : k + 1 ≤ at + d .used
+  pub room : k * 10 + 10 ≤ length o
+
+pub goes-on : (single : Bool) (c : Command) (t : List ℕ) (end at k : ℕ) (d : Next) (o : List ℕ) (s : ℕ) → end ≡ endOf single t →
+    NextAt single c t at d → at < end → k ≤ at →
+    s ≡ stopOf (d .ok) (length o) k → s ≡ 0 → Going end at k d o
+goes-on single c t end at k d o s ee n h le es z =
+    let none : stopOf (d .ok) (length o) k ≡ 0 = sym es ∙ z in
+    let w = n .within (stop-ok (d .ok) (length o) k none) (rw ee at h) in
+    let w0 = w .0 in let w1 = w .1 in
+    record { none = none; more = w0; to = omega arith; up = omega arith; room = stop-none (d .ok) (length o) k none }
+
+-- ---- the ten bytes of an answer
+pub answer-put : (o : List ℕ) (k n s v : ℕ) → k * 10 + 10 ≤ length o → (o′ : List ℕ) →
+    o′ ≡ stored (set (set o (k * 10) n) (k * 10 + 1) s) (k * 10 + 2) (littleBytes v 8) → o′ ≡ putAnswer o k n s v
+unfolding putAnswer
+answer-put o k n s v h o′ e =
+    let b = length-littleBytes v 8 in
+    let x : length (set (set o (k * 10) n) (k * 10 + 1) s) ≡ length o = simp length-set refl in
+    e ∙ stored-sets (set (set o (k * 10) n) (k * 10 + 1) s) (k * 10 + 2) (littleBytes v 8) (omega arith)
+    ∙ rw (add-one, add-two) (sym (stored-sets o (k * 10) (n ∷ s ∷ littleBytes v 8) (long o k n s v h b)))
+  where
+    long : (o : List ℕ) (k n s v : ℕ) → k * 10 + 10 ≤ length o → length (littleBytes v 8) ≡ 8 → k * 10 + length (n ∷ s ∷ littleBytes v 8) ≤ length o
+    long o k n s v h b = omega arith
+
+-- ---- a refused command leaves every word as it was: what the loop keeps of it. Before the first turn nothing was changed; a single command has one turn only.
+abbrev pub Firm : Bool → List ℕ → List ℕ → ℕ → Answer → Type 0
+Firm single ws₀ ws at last = (at ≡ 0 → ws ≡ ws₀) × (single ≡ true → at ≢ 0 → last .number ≢ 0 → ws ≡ ws₀)
+
+module _ (single : Bool) (t : List ℕ) (ws₀ ws vs : List ℕ) (end at used : ℕ) (a b : Answer) (f : Firm single ws₀ ws at a) (ee : end ≡ endOf single t) where
+  -- one turn more
+  pub firm-next : at < end → 1 ≤ used → (b .number ≢ 0 → vs ≡ ws) → Firm single ws₀ vs (at + used) b
+  unfolding endOf
+  firm-next h u r = (
+    λ z. absurd (omega arith),
+    λ s _ n. let one : end ≡ 1 = ee ∙ (rw s refl) in let first : at ≡ 0 = omega arith in r n ∙ f .0 first,
+  )
+
+  -- the loop stops before a command, or has come to its end
+  pub firm-stops : at < end → single ≡ true → a .number ≢ 0 → ws ≡ ws₀
+  unfolding endOf
+  firm-stops h s n = let one : end ≡ 1 = ee ∙ (rw s refl) in let first : at ≡ 0 = omega arith in f .0 first
+
+  pub firm-ends : end ≤ at → single ≡ true → a .number ≢ 0 → ws ≡ ws₀
+  unfolding endOf
+  firm-ends h s n = let one : end ≡ 1 = ee ∙ (rw s refl) in f .1 s (λ z. absurd (omega arith)) n

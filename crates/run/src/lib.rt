@@ -1,0 +1,146 @@
+// The run over a trace, or of one given command: a loop that takes a command, carries it out as a call of its own, and puts down its answer. One function for
+// both, so that the steps of an access have one caller and the compiler makes one loop of them.
+ghost use mathlib.Core.Bool.{true, false};
+ghost use mathlib.Core.Logic.{_≢_};
+ghost use mathlib.Core.Path.{_≡_};
+ghost use Prim.Native.Nat.{_+_, _*_, _≤_};
+ghost use lib.ListN.{length};
+ghost use Rattle.model.specs.Records.{state};
+ghost use Rattle.model.specs.Calls.{reply, step, ran, runFrom, putAnswer};
+ghost use Rattle.tags.specs.Words.{recordWords, recordIn};
+ghost use Rattle.run.specs.Executed.{NextAt, endOf, stopOf, noAnswer};
+use access::Answer;
+use decode::Decoded;
+use geometry::L2;
+use model::Command;
+
+// How far a run came, why it stopped, and the last answer.
+pub struct Ended {
+    pub consumed: usize,
+    pub count: usize,
+    pub stop: u8,
+    pub last: Answer,
+}
+
+fn no_answer() -> Answer
+    ensures { λ r. ⌜ r ≡ noAnswer ⌝ }
+{
+    Answer {
+        number: 0,
+        server: 0,
+        value: 0,
+    }
+}
+
+fn end_of(single: bool, trace: &[u8]) -> usize
+    ensures { λ r. ⌜ r ≡ endOf single (now (trace .entry)) ⌝ }
+{
+    if single {
+        return 1;
+    }
+    trace.len()
+}
+
+// The command at a place: the given one, or that of the trace.
+fn next(single: bool, given: Command, trace: &[u8], at: usize) -> Decoded
+    ensures { λ r. ⌜ NextAt single given (now (trace .entry)) at r ⌝ }
+{
+    if single {
+        return Decoded {
+            ok: true,
+            command: given,
+            used: 1,
+        };
+    }
+    decode::next_command(trace, at)
+}
+
+// 11 for a damaged trace, then 12 for fewer than ten answer bytes left, 0 to go on. The quotient keeps the test from wrapping.
+fn stop_of(ok: bool, len: usize, count: usize) -> u8
+    ensures { λ r. ⌜ r ≡ stopOf ok len count ⌝ }
+{
+    if !ok {
+        return 11;
+    }
+    if len / 10 <= count {
+        return 12;
+    }
+    0
+}
+
+fn put_answer(answers: &mut [u8], count: usize, a: Answer)
+    requires { ⌜ count * 10 + 10 ≤ length (now answers) ⌝ }
+    ensures { λ _. ⌜ now (answers .exit) ≡ putAnswer (now (answers .entry)) count (a .number) (a .server) (a .value) ⌝ }
+{
+    let at = count * 10;
+    answers[at] = a.number;
+    answers[at + 1] = a.server;
+    memory::store8(answers, at + 2, a.value);
+}
+
+// One given command (`single`), or all of a trace. Who gives one command has room for its answer; the trace is then not looked at.
+pub fn run(
+    tags: &mut [u32],
+    single: bool,
+    given: Command,
+    trace: &[u8],
+    l1d: &mut [u8],
+    l2: &mut [u8],
+    ext: &mut [u8],
+    answers: &mut [u8],
+) -> Ended
+    requires { ⌜ length (now tags) ≡ recordWords ⌝ }
+    ensures one { λ q. ⌜ (single ≡ true → 10 ≤ length (now (answers .entry)) →
+        reply (q .last .number) (q .last .server) (q .last .value) (state (recordIn (now (tags .exit))) (now (l1d .exit)) (now (l2 .exit)) (now (ext .exit)))
+        ≡ step given (state (recordIn (now (tags .entry))) (now (l1d .entry)) (now (l2 .entry)) (now (ext .entry)))) ⌝ }
+    ensures refused { λ q. ⌜ (single ≡ true → q .last .number ≢ 0 → now (tags .exit) ≡ now (tags .entry)) ⌝ }
+    ensures all { λ q. ⌜ (single ≡ false →
+        ran (state (recordIn (now (tags .exit))) (now (l1d .exit)) (now (l2 .exit)) (now (ext .exit))) (q .consumed) (q .count) (q .stop) (now (answers .exit))
+        ≡ runFrom (now (trace .entry)) (length (now (trace .entry))) 0
+        (state (recordIn (now (tags .entry))) (now (l1d .entry)) (now (l2 .entry)) (now (ext .entry))) 0 (now (answers .entry))) ⌝ }
+{
+    let mut at: usize = 0;
+    let mut count: usize = 0;
+    let mut last = no_answer();
+    let mut sets = L2::sets(tags::mode_of(tags));
+    let mut sram = L2::sram(tags::l2len_of(tags), tags::mode_of(tags));
+    let end = end_of(single, trace);
+    while at < end {
+        let d = next(single, given, trace, at);
+        let stop = stop_of(d.ok, answers.len(), count);
+        if stop != 0 {
+            return Ended {
+                consumed: at,
+                count: count,
+                stop: stop,
+                last: last,
+            };
+        }
+        let c = d.command;
+        if 2 <= c.code {
+            let n = commands::execute(tags, sram, sets, c, l1d, l2, ext);
+            last = Answer {
+                number: n,
+                server: 0,
+                value: 0,
+            };
+            put_answer(answers, count, last);
+            sets = L2::sets(tags::mode_of(tags));
+            sram = L2::sram(tags::l2len_of(tags), tags::mode_of(tags));
+            at += d.used;
+            count += 1;
+            continue;
+        }
+        let a = access::access(tags, sram, sets, c, l1d, l2, ext);
+        last = a;
+        put_answer(answers, count, last);
+        at += d.used;
+        count += 1;
+    }
+    Ended {
+        consumed: at,
+        count: count,
+        stop: 0,
+        last: last,
+    }
+}

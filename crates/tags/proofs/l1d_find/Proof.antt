@@ -1,0 +1,55 @@
+use Rattle.model.specs.Ways.{l1dFind, wayHolding}
+use Rattle.model.specs.Lines.{holds}
+use Rattle.model.specs.declared.Line.{Line}
+use mathlib.Core.Path.{refl, sym, ap, _∙_}
+use native.Mathlib.Omega.{arith}
+use borrow.Author.Needs.{needs}
+use Rattle.tags.proofs.l1d_find.Statement.{statement}
+use Rattle.tags.proofs.l1d_find.Tie as tie
+use Rattle.tags.proofs.l1d_find.Reads as reads
+use Rattle.tags.proofs.l1d_find.Lts as lts
+use Rattle.tags.proofs.l1d_line.Reads as l1d-line-reads
+use Rattle.geometry.proofs.line_holds.Reads as line-holds-reads
+
+-- src/lib.rt:82:19
+l1d-line-requires : tie.Need-l1d-line-requires
+l1d-line-requires c κs = search needs
+
+-- src/lib.rt:82:8
+line-holds-requires : tie.Need-line-holds-requires
+line-holds-requires c κs = search needs
+
+-- src/lib.rt:83:9
+returns : tie.Need-returns
+unfolding l1dFind wayHolding
+returns c = (rw ((ap (λ (x : Line). holds x (c .before .before .before .before .args .b)) (sym (c .before .before .l1d-line .ensures)) ∙ sym (c .before .line-holds .ensures) ∙ c .if1 .taken)) refl, omega arith)
+
+-- src/lib.rt:85:19
+l1d-line-requires-2 : tie.Need-l1d-line-requires-2
+l1d-line-requires-2 c κs = search needs
+
+-- src/lib.rt:85:8
+line-holds-requires-2 : tie.Need-line-holds-requires-2
+line-holds-requires-2 c κs = search needs
+
+-- src/lib.rt:86:9
+returns-2 : tie.Need-returns-2
+unfolding l1dFind wayHolding
+returns-2 c = (rw ((ap (λ (x : Line). holds x (c .before .before .before .before .before .before .before .args .b)) (sym (c .before .before .before .before .before .l1d-line .ensures)) ∙ sym (c .before .before .before .before .line-holds .ensures) ∙ c .before .before .before .if1 .left), (ap (λ (x : Line). holds x (c .before .before .before .before .before .before .before .args .b)) (sym (c .before .before .l1d-line2 .ensures)) ∙ sym (c .before .line-holds2 .ensures) ∙ c .if2 .taken)) refl, omega arith)
+
+-- src/lib.rt:78:1
+returns-3 : tie.Need-returns-3
+unfolding l1dFind wayHolding
+returns-3 c = (rw ((ap (λ (x : Line). holds x (c .before .before .before .before .before .before .before .args .b)) (sym (c .before .before .before .before .before .l1d-line .ensures)) ∙ sym (c .before .before .before .before .line-holds .ensures) ∙ c .before .before .before .if1 .left), (ap (λ (x : Line). holds x (c .before .before .before .before .before .before .before .args .b)) (sym (c .before .before .l1d-line2 .ensures)) ∙ sym (c .before .line-holds2 .ensures) ∙ c .if2 .left)) refl, omega arith)
+
+pub l1d-find-spec : {M : Type 1} → statement M
+l1d-find-spec =
+    tie.close
+    (tie.spec
+    l1d-line-requires
+    line-holds-requires
+    returns
+    l1d-line-requires-2
+    line-holds-requires-2
+    returns-2
+    returns-3)

@@ -1,0 +1,4 @@
+pub mod Words
+pub mod Sizes
+pub mod Few
+pub mod Home
