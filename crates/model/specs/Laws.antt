@@ -19,8 +19,10 @@ use Rattle.model.specs.Lines.{Permutation2, Permutation4, inFront, witho
 use Rattle.model.specs.Records.{State, l2SetsOf, mode0, covers, marBit}
 use Rattle.model.specs.Ways.{lowestInvalid, l1dVictim, l2Victim}
 use Rattle.model.specs.Modes.{smaller}
-use Rattle.model.specs.Refusals.{lowestDue, unless}
+use Rattle.model.specs.Refusals.{lowestDue, unless, lentDue}
 use Rattle.model.specs.Commands.{blockEnd, linesTouched, eachL2, unlessMode0}
+use Rattle.model.specs.Calls.{Reply, reply, refused, carriedOut, commandDue, readDone, writeDone, commandState, accepted, step, call}
+use Rattle.model.specs.declared.Command.{Command}
 use Rattle.model.specs.declared.L1dSet.{L1dSet}
 use Rattle.model.specs.declared.L2Set.{L2Set}
 use Rattle.model.specs.declared.Order2.{Order2}
@@ -313,3 +315,23 @@ module _ (n b c l : ℕ) (some : 0 < n) (low : b < 0x100000000) where
         (l - b / n, u, rw i refl))
         (block-end b c low),
   )
+
+-- ---- a command hands back no bytes: its reply is its number, server, value and state
+abbrev told : Reply → Reply
+told r = reply (r .number) (r .server) (r .value) (r .next)
+
+pub step-told : (c : Command) (z : State) → told (step c z) ≡ step c z
+unfolding step accepted readDone writeDone
+step-told c z =
+    let P : Reply → Type 0 = λ r. told r ≡ r in
+    cond-elim P (eqb (commandDue c z) 0) _ (refused (commandDue c z) z)
+    (λ _. cond-elim P (eqb (c .code) 0) (readDone (c .first) (c .second) z) _ (λ _. refl)
+    (λ _. cond-elim P (eqb (c .code) 1) (writeDone (c .first) (c .second) (c .value) z) (carriedOut (commandState c z))
+    (λ _. refl) (λ _. refl)))
+    (λ _. refl)
+
+pub call-told : (c : Command) (z : State) → told (call c z) ≡ call c z
+unfolding call
+call-told c z =
+    cond-elim (λ (r : Reply). told r ≡ r) (eqb (lentDue z) 0) (step c z) (refused (lentDue z) z)
+    (λ _. step-told c z) (λ _. refl)

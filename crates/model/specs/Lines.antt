@@ -14,7 +14,7 @@ use Rattle.model.specs.declared.L1dSet.{L1dSet}
 use Rattle.model.specs.declared.L2Set.{L2Set}
 
 -- ---- "Line length, ways and sets belong to each cache's kind as constants, those for L2 being per mode."
--- (in the code, `L1d` and `L2` of crate sets)
+-- (in the code, `L1d` and `L2` of crate geometry)
 pub record Kind : Type 0 where
   pub lineLength : ℕ
   pub ways : ℕ
