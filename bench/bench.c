@@ -1,6 +1,7 @@
-/* Sets the proved library (include/c64x.h) beside the plain C model of model.c, in one process: first that both do the same, then what each costs. Short
-   runs of the two alternate. The times are medians; of the ratios library / C the first is that of the medians, the second that of the shortest times,
-   which other work on the machine disturbs least. It prints a table; the exit status is 1 only where results differ. */
+/* Sets the proved library (include/c64x.h) beside the plain C model of model.c, in one process: first that both do the
+   same, then what each costs. Short runs of the two alternate, each on a record and memories of its own. What is shown
+   is the least time of each side, which other work on the machine disturbs least, and the ratio library / C of these.
+   It prints a table; the exit status is 1 only where results differ. */
 #define _POSIX_C_SOURCE 200809L
 #include <stdio.h>
 #include <stdlib.h>
@@ -12,8 +13,8 @@
 
 #define EXTERNAL 0x80000000u
 #define COMMANDS 32768 /* of the trace of a class */
-#define RUNS 25        /* of a class, on each side */
-#define CALLS 151      /* of a direct call, on each side */
+#define RUNS 101       /* of a class, on each side */
+#define CALLS 1001     /* of a direct call, on each side */
 
 /* A record as both sides name it. */
 union both {
@@ -57,33 +58,26 @@ static double now(void)
     return (double)t.tv_sec * 1e9 + (double)t.tv_nsec;
 }
 
-static int by_size(const void *a, const void *b)
-{
-    double x = *(const double *)a, y = *(const double *)b;
-    return (x > y) - (x < y);
-}
-
-/* The times of one side: in order, the shortest and the middle one. */
+/* The least time of one side, without what the clock itself takes. */
 struct times {
-    double ns[CALLS];
-    int n;
+    double ns;
 };
 
-static double least(struct times *t)
-{
-    qsort(t->ns, (size_t)t->n, sizeof t->ns[0], by_size);
-    return t->ns[0];
-}
+#define NO_TIME { 1e18 }
 
-static double median(struct times *t)
-{
-    qsort(t->ns, (size_t)t->n, sizeof t->ns[0], by_size);
-    return t->ns[t->n / 2];
-}
+static double clock_ns;
 
 static void took(struct times *t, double since)
 {
-    t->ns[t->n++] = now() - since;
+    double ns = now() - since - clock_ns;
+    if (ns < t->ns) t->ns = ns;
+}
+
+static void time_the_clock(void)
+{
+    struct times least = NO_TIME;
+    for (int i = 0; i < 100000; i++) took(&least, now());
+    clock_ns = least.ns;
 }
 
 static uint8_t *room(size_t n)
@@ -128,36 +122,38 @@ static void clear(struct trace *t)
 
 #define LENT(m) (m).l1d, (m).l1d_len, (m).l2, (m).l2_len, (m).ext, (m).ext_len
 
-static c64x_called library_call(const union both *r, const struct lent *m, const struct command *q)
+static c64x_answer library_call(union both *both, const struct lent *m, const struct command *q)
 {
+    c64x_record *r = &both->library;
     switch (q->code) {
-    case 0: return c64x_read(r->library, q->first, q->second, LENT(*m));
-    case 1: return c64x_write(r->library, q->first, q->second, q->value, LENT(*m));
-    case 2: return c64x_l2_writeback_all(r->library, LENT(*m));
-    case 3: return c64x_l2_writeback_invalidate_all(r->library, LENT(*m));
-    case 4: return c64x_l2_writeback_block(r->library, q->first, q->second, LENT(*m));
-    case 5: return c64x_l2_writeback_invalidate_block(r->library, q->first, q->second, LENT(*m));
-    case 6: return c64x_l2_invalidate_block(r->library, q->first, q->second, LENT(*m));
-    case 7: return c64x_l1d_writeback_invalidate_block(r->library, q->first, q->second, LENT(*m));
-    case 8: return c64x_l1d_invalidate_block(r->library, q->first, q->second, LENT(*m));
-    case 9: return c64x_l1d_invalidate_all(r->library, LENT(*m));
-    case 10: return c64x_change_mode(r->library, q->first, LENT(*m));
-    default: return c64x_change_mar(r->library, q->first, q->second, LENT(*m));
+    case 0: return c64x_read(r, q->first, q->second, LENT(*m));
+    case 1: return c64x_write(r, q->first, q->second, q->value, LENT(*m));
+    case 2: return c64x_l2_writeback_all(r, LENT(*m));
+    case 3: return c64x_l2_writeback_invalidate_all(r, LENT(*m));
+    case 4: return c64x_l2_writeback_block(r, q->first, q->second, LENT(*m));
+    case 5: return c64x_l2_writeback_invalidate_block(r, q->first, q->second, LENT(*m));
+    case 6: return c64x_l2_invalidate_block(r, q->first, q->second, LENT(*m));
+    case 7: return c64x_l1d_writeback_invalidate_block(r, q->first, q->second, LENT(*m));
+    case 8: return c64x_l1d_invalidate_block(r, q->first, q->second, LENT(*m));
+    case 9: return c64x_l1d_invalidate_all(r, LENT(*m));
+    case 10: return c64x_change_mode(r, q->first, LENT(*m));
+    default: return c64x_change_mar(r, q->first, q->second, LENT(*m));
     }
 }
 
-/* The C model's call with the record by value in both directions, as the library's interface has it: what the copies alone cost. */
-struct called {
-    struct answer answer;
-    struct record record;
-};
-
-static struct called __attribute__((noinline)) by_value(struct record r, const struct lent *m, const struct command *q)
+static uint8_t library_view(uint32_t address, uint8_t *seen, size_t seen_len)
 {
-    struct called x;
-    x.answer = model_call(&r, m, q);
-    x.record = r;
-    return x;
+    return c64x_view(&lib.r.library, address, lib.m.l2, lib.m.l2_len, lib.m.ext, lib.m.ext_len, seen, seen_len);
+}
+
+static uint8_t library_view_number(uint32_t address)
+{
+    return c64x_view_number(&lib.r.library, address, lib.m.l2, lib.m.l2_len, lib.m.ext, lib.m.ext_len);
+}
+
+static int same_answer(c64x_answer x, struct answer y)
+{
+    return x.number == y.number && x.server == y.server && x.value == y.value;
 }
 
 static int same_line(const struct line *x, const struct line *y)
@@ -167,7 +163,8 @@ static int same_line(const struct line *x, const struct line *y)
 
 static int same_record(const struct record *x, const struct record *y)
 {
-    if (x->l2len != y->l2len || x->extlen != y->extlen || x->mode != y->mode || x->mar128 != y->mar128 || x->mar129 != y->mar129) return 0;
+    if (x->l2len != y->l2len || x->extlen != y->extlen) return 0;
+    if (x->mode != y->mode || x->mar128 != y->mar128 || x->mar129 != y->mar129) return 0;
     for (int s = 0; s < 128; s++) {
         for (int w = 0; w < 2; w++)
             if (!same_line(&x->l1d[s].lines[w], &y->l1d[s].lines[w])) return 0;
@@ -209,8 +206,7 @@ static void fresh(const char *where, size_t l, size_t e)
     lend(&lib, l, e);
     lend(&c, l, e);
     for (size_t i = 0; i < e && i < 1u << 20; i++) lib.m.ext[i] = c.m.ext[i] = (uint8_t)below(256);
-    c64x_called x = c64x_fresh(LENT(lib.m));
-    lib.r.library = x.record;
+    c64x_answer x = c64x_fresh(&lib.r.library, LENT(lib.m));
     if (x.number != model_fresh(&c.r.model, &c.m)) differ(where, "number of a fresh start");
 }
 
@@ -236,21 +232,22 @@ static struct run_result run_c(const struct trace *t, struct times *c_ns)
 }
 
 /* Each side runs the trace, and its time is kept. */
-static void run(const char *where, const struct trace *t, struct times *library_ns, struct times *c_ns, int c_first)
+static void run(const char *where, const struct trace *t, struct times *library_ns, struct times *c_ns,
+                int c_first)
 {
     struct run_result y;
     if (c_first) y = run_c(t, c_ns);
     double at = now();
-    c64x_ran x = c64x_run(lib.r.library, t->bytes, t->len, LENT(lib.m), lib.answers, lib.answers_len);
+    c64x_ran x = c64x_run(&lib.r.library, t->bytes, t->len, LENT(lib.m), lib.answers, lib.answers_len);
     took(library_ns, at);
-    lib.r.library = x.record;
     if (!c_first) y = run_c(t, c_ns);
-    if (x.consumed != y.consumed || x.count != y.count || x.stop != y.stop) differ(where, "consumed, count or stop of a run");
+    if (x.consumed != y.consumed || x.count != y.count || x.stop != y.stop)
+        differ(where, "consumed, count or stop of a run");
 }
 
 static void play(const char *where, const struct trace *t)
 {
-    struct times a = { .n = 0 }, b = { .n = 0 };
+    struct times a = NO_TIME, b = NO_TIME;
     give_answers(10 * t->count);
     run(where, t, &a, &b, 0);
     compare(where);
@@ -269,6 +266,12 @@ static uint32_t some_address(void)
     }
 }
 
+static uint64_t some_value(uint32_t size)
+{
+    uint64_t upper = size == 8 ? (uint64_t)below(0xFFFFFFFFu) << 32 : 0;
+    return upper | below(1u << (size < 4 ? 8 * size : 31));
+}
+
 static void some_command(struct trace *t)
 {
     static const uint32_t modes[8] = { 0, 1, 2, 3, 7, 1, 2, 4 };
@@ -276,9 +279,11 @@ static void some_command(struct trace *t)
     if (below(200) == 0) size = below(10);
     if (below(50)) a -= a % (size ? size : 1);
     if (kind < 32) put(t, 0, size, a, 0);
-    else if (kind < 56) put(t, 1, size, a, below(50) ? (size == 8 ? (uint64_t)below(0xFFFFFFFFu) << 32 : 0) | below(1u << (size < 4 ? 8 * size : 31)) : UINT64_MAX >> below(64));
-    else if (kind < 61) put(t, (uint8_t)(4 + below(5)), below(20) ? a & ~3u : a, below(40) ? below(200) : below(70000), 0);
-    else if (kind < 62) put(t, (uint8_t)(below(8) ? 11 : 10), below(20) ? 128 + below(2) : below(200), below(20) ? 1 : below(3), 0);
+    else if (kind < 56) put(t, 1, size, a, below(50) ? some_value(size) : UINT64_MAX >> below(64));
+    else if (kind < 61)
+        put(t, (uint8_t)(4 + below(5)), below(20) ? a & ~3u : a, below(40) ? below(200) : below(70000), 0);
+    else if (kind < 62)
+        put(t, (uint8_t)(below(8) ? 11 : 10), below(20) ? 128 + below(2) : below(200), below(20) ? 1 : below(3), 0);
     else if (below(12) == 0) put(t, 10, modes[below(8)], 0, 0);
     else if (below(6) == 0) put(t, (uint8_t)(below(3) == 0 ? 9 : 2 + below(2)), 0, 0, 0);
     else put(t, 11, 128 + below(2), 1, 0);
@@ -305,17 +310,20 @@ static void damage(struct record *r)
     }
 }
 
-/* The checks of records that are damaged in one place: a read of three bytes is refused with 1, 2 or 3. */
+/* The checks of records that are damaged in one place: a read of three bytes is refused with 1, 2 or 3, and no byte of
+   the record changes. */
 static void same_checks(size_t *refused, size_t *passed)
 {
     struct command q = { 0, 3, EXTERNAL, 0 };
     for (int i = 0; i < 200; i++) {
-        union both bad = c.r;
+        static union both bad, passed_on;
+        bad = c.r;
         damage(&bad.model);
-        c64x_called x = library_call(&bad, &lib.m, &q);
+        memcpy(&passed_on, &bad, sizeof bad);
+        c64x_answer x = library_call(&passed_on, &lib.m, &q);
         struct answer y = model_call(&bad.model, &c.m, &q);
-        if (x.number != y.number || x.server != 0 || x.value != 0) differ("damaged record", "number, server or value");
-        if (!same_record((const struct record *)&x.record, &bad.model)) differ("damaged record", "record");
+        if (!same_answer(x, y)) differ("damaged record", "number, server or value");
+        if (memcmp(&passed_on, &bad, sizeof bad) != 0) differ("damaged record", "record");
         ++*(y.number == 3 ? passed : refused);
     }
 }
@@ -336,7 +344,7 @@ static void same_calls(struct trace *t)
             if (below(4) == 0) t->bytes[below((uint32_t)t->len)] = (uint8_t)below(256);
             if (below(6) == 0) t->len -= below(12);
             if (below(6) == 0) give_answers(below((uint32_t)lib.answers_len));
-            struct times a = { .n = 0 }, b = { .n = 0 };
+            struct times a = NO_TIME, b = NO_TIME;
             run("random trace", t, &a, &b, 0);
             compare("random trace");
         }
@@ -352,47 +360,46 @@ static void same_calls(struct trace *t)
             if (q.code == 10) q.first = below(9);
             if (q.code == 11) q.first = 127 + below(4), q.second = below(3);
             if (q.code == 1) q.value = below(256);
-            c64x_called x = library_call(&lib.r, &lib.m, &q);
+            c64x_answer x = library_call(&lib.r, &lib.m, &q);
             struct answer y = model_call(&c.r.model, &c.m, &q);
-            if (x.number != y.number || x.server != y.server || x.value != y.value) differ("direct call", "number, server or value");
-            lib.r.library = x.record;
+            if (!same_answer(x, y)) differ("direct call", "number, server or value");
             uint32_t seen_at = some_address() & ~(below(8) ? 63u : 0);
-            uint8_t number, seen[65] = { 0 };
-            const uint8_t *part = model_view(&c.r.model, &c.m, seen_at, &number);
-            if (c64x_view_number(lib.r.library, seen_at, lib.m.l2, lib.m.l2_len, lib.m.ext, lib.m.ext_len) != number) differ("view", "number");
-            if (c64x_view(lib.r.library, seen_at, lib.m.l2, lib.m.l2_len, lib.m.ext, lib.m.ext_len, seen, sizeof seen) != number) differ("view", "number with the bytes");
-            if (part && memcmp(part, seen, 64) != 0) differ("view", "bytes");
+            size_t length = 63 + below(3);
+            uint8_t seen[65] = { 0 }, seen_by_c[65] = { 0 };
+            if (library_view_number(seen_at) != model_view_number(&c.r.model, &c.m, seen_at))
+                differ("view", "number");
+            if (library_view(seen_at, seen, length) != model_view(&c.r.model, &c.m, seen_at, seen_by_c, length))
+                differ("view", "number with the bytes");
+            if (memcmp(seen, seen_by_c, sizeof seen) != 0) differ("view", "bytes");
             if (differences) return;
         }
         compare("direct calls");
         same_checks(&refused, &passed);
         if (differences) return;
     }
-    printf("random traces and calls, and %zu damaged records (%zu still well formed): the same on both sides\n", refused + passed, passed);
+    printf("random traces and calls, and %zu damaged records (%zu still well formed): the same on both sides\n",
+           refused + passed, passed);
 }
 
 /* ---- the classes of a trace run */
 
 static void head(const char *title)
 {
-    printf("\n%-66s %11s %11s %7s %7s\n", title, "library ns", "C ns", "ratio", "least");
+    printf("\n%-84s %11s %11s %7s\n", title, "library ns", "C ns", "ratio");
 }
 
-static void row(const char *name, double library_ns, double c_ns, double ratio_of_least)
+static void row(const char *name, const struct times *library_ns, const struct times *c_ns, size_t by)
 {
-    printf("%-66s %11.1f %11.1f %7.2f %7.2f\n", name, library_ns, c_ns, library_ns / c_ns, ratio_of_least);
+    printf("%-84s %11.1f %11.1f %7.2f\n", name, library_ns->ns / (double)by, c_ns->ns / (double)by,
+           library_ns->ns / c_ns->ns);
     fflush(stdout);
 }
 
-static void row_of(const char *name, struct times *library_ns, struct times *c_ns, size_t by)
-{
-    row(name, median(library_ns) / (double)by, median(c_ns) / (double)by, least(library_ns) / least(c_ns));
-}
-
-/* After set-up, the trace is run once so that it meets its own leavings; then it is measured, and the servers of its answers are told. */
+/* After set-up, the trace is run once so that it meets its own leavings; then it is measured, and the servers of its
+   answers are told. */
 static void class(const char *name, const struct trace *t)
 {
-    struct times library_ns = { .n = 0 }, c_ns = { .n = 0 };
+    struct times library_ns = NO_TIME, c_ns = NO_TIME;
     play(name, t);
     for (int i = 0; i < RUNS; i++) run(name, t, &library_ns, &c_ns, i % 2);
     compare(name);
@@ -401,9 +408,11 @@ static void class(const char *name, const struct trace *t)
     char text[100];
     int n = snprintf(text, sizeof text, "%s [", name);
     for (int k = 0; k < 5; k++)
-        if (by[k]) n += snprintf(text + n, sizeof text - (size_t)n, "%s%d: %d%%", text[n - 1] == '[' ? "" : ", ", k, (int)(100 * by[k] / t->count));
+        if (by[k])
+            n += snprintf(text + n, sizeof text - (size_t)n, "%s%d: %d%%", text[n - 1] == '[' ? "" : ", ", k,
+                          (int)(100 * by[k] / t->count));
     snprintf(text + n, sizeof text - (size_t)n, "]");
-    row_of(text, &library_ns, &c_ns, t->count);
+    row(text, &library_ns, &c_ns, t->count);
 }
 
 /* L = 65,536 and E = 1 MiB, with MAR 128 set and a mode. */
@@ -442,7 +451,8 @@ static void read_then_write(struct trace *t, uint32_t from, uint32_t length, uin
 static void at_random(struct trace *t, uint8_t code, uint32_t size)
 {
     clear(t);
-    while (t->count < COMMANDS) put(t, code, size, (below(2) ? EXTERNAL : 0) + below(8192 / size) * size, size == 1 ? 7 : t->count);
+    while (t->count < COMMANDS)
+        put(t, code, size, (below(2) ? EXTERNAL : 0) + below(8192 / size) * size, size == 1 ? 7 : t->count);
 }
 
 static void mixed(struct trace *t)
@@ -470,6 +480,27 @@ static void swept(struct trace *t, uint8_t code)
             put(t, 1, 4, EXTERNAL + a + 8, t->count);
         }
         put(t, code, EXTERNAL + b, 256, 0);
+    }
+}
+
+/* One command of the whole cache, or a mode or MAR change, over and over: they take longer. */
+static void repeated(const char *name, struct trace *t, uint8_t code, uint32_t first, uint32_t second)
+{
+    clear(t);
+    for (int i = 0; i < 512; i++) put(t, code, first, second, 0);
+    class(name, t);
+}
+
+/* Sixteen lines are read and written, then a mode change sends them home. */
+static void mode_after_writes(struct trace *t, uint32_t mode, uint32_t other)
+{
+    clear(t);
+    for (int i = 0; i < 128; i++) {
+        for (uint32_t a = 0; a < 1024; a += 64) {
+            put(t, 0, 4, EXTERNAL + a, 0);
+            put(t, 1, 4, EXTERNAL + a + 8, t->count);
+        }
+        put(t, 10, i % 2 ? other : mode, 0, 0);
     }
 }
 
@@ -537,8 +568,13 @@ static void classes(struct trace *t)
     clear(t);
     for (int i = 0; i < COMMANDS; i++) put(t, 0, 3, EXTERNAL, 0);
     class("refused by size", t);
-    static const char *const blocks[5] = { "4 L2 block writeback, 16 words", "5 L2 block writeback-invalidate, 16 words", "6 L2 block invalidate, 16 words",
-                                           "7 L1D block writeback-invalidate, 16 words", "8 L1D block invalidate, 16 words" };
+    static const char *const blocks[5] = {
+        "4 L2 block writeback, 16 words",
+        "5 L2 block writeback-invalidate, 16 words",
+        "6 L2 block invalidate, 16 words",
+        "7 L1D block writeback-invalidate, 16 words",
+        "8 L1D block invalidate, 16 words",
+    };
     for (uint8_t code = 4; code <= 8; code++) {
         clear(t);
         for (uint32_t i = 0; i < COMMANDS; i++) put(t, code, EXTERNAL + 64 * (i % 512), 16, 0);
@@ -550,9 +586,16 @@ static void classes(struct trace *t)
         swept(t, code);
         class(name, t);
     }
-    clear(t);
-    for (int i = 0; i < 512; i++) put(t, 11, 128, 1, 0);
-    class("11 MAR bit set", t);
+    repeated("2 L2 writeback all", t, 2, 0, 0);
+    repeated("3 L2 writeback-invalidate all", t, 3, 0, 0);
+    repeated("9 L1D invalidate all", t, 9, 0, 0);
+    repeated("10 mode change to the same mode", t, 10, 1, 0);
+    mode_after_writes(t, 1, 1);
+    class("16 lines read and written, then mode 1 again", t);
+    mode_after_writes(t, 0, 1);
+    class("16 lines read and written, then mode 0, then mode 1", t);
+    repeated("11 MAR bit set", t, 11, 128, 1);
+    repeated("11 MAR bit cleared (looked for in all lines)", t, 11, 129, 0);
     clear(t);
     put(t, 9, 0, 0, 0);
     class("a run of one command, L1D invalidate all", t);
@@ -569,92 +612,89 @@ static void fill(struct trace *t, size_t l, size_t e, uint32_t mode)
     put(t, 11, 128, 1, 0);
     put(t, 10, mode, 0, 0);
     for (uint32_t i = 0; i < lines[mode]; i++) put(t, 1, 4, EXTERNAL + 128 * i, i);
-    for (uint32_t i = 0; i < 256; i++) put(t, 0, 4, EXTERNAL + 64 * i, 0), put(t, 1, 4, EXTERNAL + 64 * i, i);
+    for (uint32_t i = 0; i < 256; i++) {
+        put(t, 0, 4, EXTERNAL + 64 * i, 0);
+        put(t, 1, 4, EXTERNAL + 64 * i, i);
+    }
     play("full record", t);
 }
 
-/* A call from the state as it stands, again and again: the record is put back each time, outside the time taken. `copied`: a row more, against the C model
-   with the record by value. */
-static void direct(const char *name, uint8_t code, uint32_t first, uint32_t second, uint64_t value, int copied)
+/* A call from the state as it stands, again and again: the record is put back each time, outside the time taken. */
+static void direct(const char *name, uint8_t code, uint32_t first, uint32_t second, uint64_t value)
 {
     static union both kept;
-    struct times library_ns = { .n = 0 }, c_ns = { .n = 0 }, by_value_ns = { .n = 0 };
+    struct times library_ns = NO_TIME, c_ns = NO_TIME;
     struct command q = { code, first, second, value };
     kept = c.r;
     for (int i = 0; i < CALLS; i++) {
         lib.r = kept;
         double at = now();
-        c64x_called x = library_call(&lib.r, &lib.m, &q);
+        c64x_answer x = library_call(&lib.r, &lib.m, &q);
         took(&library_ns, at);
-        lib.r.library = x.record;
         c.r = kept;
         at = now();
         struct answer y = model_call(&c.r.model, &c.m, &q);
         took(&c_ns, at);
-        if (x.number != y.number || x.server != y.server || x.value != y.value) differ(name, "number, server or value");
+        if (!same_answer(x, y)) differ(name, "number, server or value");
         if (i == 0 || i == CALLS - 1) compare(name);
-        if (copied) {
-            c.r = kept;
-            at = now();
-            struct called z = by_value(c.r.model, &c.m, &q);
-            took(&by_value_ns, at);
-            c.r.model = z.record;
-        }
     }
     lib.r = kept;
     c.r = kept;
-    row_of(name, &library_ns, &c_ns, 1);
-    if (copied) row_of("   .. against C with the record by value", &library_ns, &by_value_ns, 1);
+    row(name, &library_ns, &c_ns, 1);
 }
 
-static void each_command(uint32_t count)
+/* The technician's call. */
+static void view(const char *name, uint32_t address, uint8_t expected)
+{
+    struct times library_ns = NO_TIME, c_ns = NO_TIME;
+    static union both kept;
+    uint8_t seen[64] = { 0 }, seen_by_c[64] = { 0 };
+    kept = c.r;
+    for (int i = 0; i < CALLS; i++) {
+        lib.r = kept;
+        double at = now();
+        uint8_t x = library_view(address, seen, sizeof seen);
+        took(&library_ns, at);
+        c.r = kept;
+        at = now();
+        uint8_t y = model_view(&c.r.model, &c.m, address, seen_by_c, sizeof seen_by_c);
+        took(&c_ns, at);
+        if (x != expected || y != expected || memcmp(seen, seen_by_c, sizeof seen) != 0) differ(name, "view");
+    }
+    row(name, &library_ns, &c_ns, 1);
+}
+
+static void each_call(uint32_t count)
 {
     lib.answers_len = c.answers_len = 0;
-    direct("read, L1D hit", 0, 4, EXTERNAL + 64, 0, 1);
-    direct("read, miss", 0, 4, EXTERNAL + 0x50000, 0, 0);
-    direct("write, L1D hit", 1, 4, EXTERNAL + 64, 5, 0);
-    direct("write, miss", 1, 4, EXTERNAL + 0x50000, 5, 0);
-    direct("2 L2 writeback all", 2, 0, 0, 0, 1);
-    direct("3 L2 writeback-invalidate all", 3, 0, 0, 0, 0);
-    direct("4 L2 block writeback", 4, EXTERNAL, count, 0, 0);
-    direct("5 L2 block writeback-invalidate", 5, EXTERNAL, count, 0, 0);
-    direct("6 L2 block invalidate", 6, EXTERNAL, count, 0, 0);
-    direct("7 L1D block writeback-invalidate", 7, EXTERNAL, count, 0, 0);
-    direct("8 L1D block invalidate", 8, EXTERNAL, count, 0, 0);
-    direct("9 L1D invalidate all", 9, 0, 0, 0, 0);
-    direct("10 mode change to the same mode", 10, c.r.model.mode, 0, 0, 1);
-    direct("11 MAR bit set", 11, 129, 1, 0, 0);
-    direct("11 MAR bit cleared (looked for in all lines)", 11, 129, 0, 0, 0);
+    direct("read, L1D hit", 0, 4, EXTERNAL + 64, 0);
+    direct("read, miss", 0, 4, EXTERNAL + 0x50000, 0);
+    direct("read refused with 3 (the check and little more)", 0, 3, EXTERNAL, 0);
+    direct("write, L1D hit", 1, 4, EXTERNAL + 64, 5);
+    direct("write, miss", 1, 4, EXTERNAL + 0x50000, 5);
+    direct("2 L2 writeback all", 2, 0, 0, 0);
+    direct("3 L2 writeback-invalidate all", 3, 0, 0, 0);
+    direct("4 L2 block writeback", 4, EXTERNAL, count, 0);
+    direct("5 L2 block writeback-invalidate", 5, EXTERNAL, count, 0);
+    direct("6 L2 block invalidate", 6, EXTERNAL, count, 0);
+    direct("7 L1D block writeback-invalidate", 7, EXTERNAL, count, 0);
+    direct("8 L1D block invalidate", 8, EXTERNAL, count, 0);
+    direct("9 L1D invalidate all", 9, 0, 0, 0);
+    direct("10 mode change to the same mode", 10, c.r.model.mode, 0, 0);
+    direct("11 MAR bit set", 11, 129, 1, 0);
+    direct("11 MAR bit cleared (looked for in all lines)", 11, 129, 0, 0);
+    view("view", EXTERNAL + 64, 0);
 }
 
-/* The technician's number for an address that is none: with all checks, and with a lent length that stops them at 1. */
-static void checks(const char *name)
+/* A read and a view that are refused by the first number after the check of the whole record. */
+static void check_alone(const char *record)
 {
-    struct times library_ns = { .n = 0 }, c_ns = { .n = 0 }, library_1 = { .n = 0 }, c_1 = { .n = 0 };
-    uint8_t n;
-    for (int i = 0; i < CALLS; i++) {
-        struct lent less = c.m;
-        less.ext_len -= 1;
-        double at = now();
-        uint8_t x = c64x_view_number(lib.r.library, 4, lib.m.l2, lib.m.l2_len, lib.m.ext, lib.m.ext_len);
-        took(&library_ns, at);
-        at = now();
-        model_view(&c.r.model, &c.m, 4, &n);
-        took(&c_ns, at);
-        if (x != 4 || n != 4) differ(name, "number");
-        at = now();
-        x = c64x_view_number(lib.r.library, 4, lib.m.l2, lib.m.l2_len, lib.m.ext, lib.m.ext_len - 1);
-        took(&library_1, at);
-        at = now();
-        model_view(&c.r.model, &less, 4, &n);
-        took(&c_1, at);
-        if (x != 1 || n != 1) differ(name, "number");
-    }
     char text[100];
-    snprintf(text, sizeof text, "%s: view refused with 4", name);
-    row_of(text, &library_ns, &c_ns, 1);
-    snprintf(text, sizeof text, "%s: .. less one refused with 1 (the check alone)", name);
-    row(text, median(&library_ns) - median(&library_1), median(&c_ns) - median(&c_1), (least(&library_ns) - least(&library_1)) / (least(&c_ns) - least(&c_1)));
+    lib.answers_len = c.answers_len = 0;
+    snprintf(text, sizeof text, "%s: read refused with 3", record);
+    direct(text, 0, 3, EXTERNAL, 0);
+    snprintf(text, sizeof text, "%s: view refused with 4", record);
+    view(text, 4, 4);
 }
 
 static void directs(struct trace *t)
@@ -663,26 +703,21 @@ static void directs(struct trace *t)
     start(t, 1, 1);
     for (uint32_t i = 0; i < 4; i++) put(t, 0, 4, EXTERNAL + 64 * i, 0);
     play("few lines", t);
-    each_command(16);
+    each_call(16);
 
     head("direct call, all lines dirty (L = 262,144, mode 7)");
     fill(t, 262144, 1 << 20, 7);
-    each_command(65535);
+    each_call(65535);
 
-    head("the whole-record check");
+    head("the check of the whole record, and little more");
     static const uint32_t modes[5] = { 0, 1, 2, 3, 7 };
     fresh("fresh record", 262144, 1 << 20);
-    lib.answers_len = c.answers_len = 0;
-    direct("fresh record: read refused with 3", 0, 3, EXTERNAL, 0, 0);
-    checks("fresh record");
+    check_alone("fresh record");
     for (int i = 0; i < 5; i++) {
         char text[100];
         fill(t, 262144, 1 << 20, modes[i]);
-        lib.answers_len = c.answers_len = 0;
-        snprintf(text, sizeof text, "full, mode %u: read refused with 3", modes[i]);
-        direct(text, 0, 3, EXTERNAL, 0, 0);
         snprintf(text, sizeof text, "full, mode %u", modes[i]);
-        checks(text);
+        check_alone(text);
     }
 }
 
@@ -690,18 +725,18 @@ static void directs(struct trace *t)
 
 static void fresh_start(const char *name)
 {
-    struct times library_ns = { .n = 0 }, c_ns = { .n = 0 };
+    struct times library_ns = NO_TIME, c_ns = NO_TIME;
     for (int i = 0; i < CALLS / 3; i++) {
         double at = now();
-        c64x_called x = c64x_fresh(LENT(lib.m));
+        c64x_answer x = c64x_fresh(&lib.r.library, LENT(lib.m));
         took(&library_ns, at);
-        lib.r.library = x.record;
+        if (x.number != 0) differ(name, "number");
         at = now();
         model_fresh(&c.r.model, &c.m);
         took(&c_ns, at);
     }
     compare(name);
-    row_of(name, &library_ns, &c_ns, 1);
+    row(name, &library_ns, &c_ns, 1);
 }
 
 static void growth(struct trace *t)
@@ -715,13 +750,13 @@ static void growth(struct trace *t)
         fill(t, l, e, 1);
         lib.answers_len = c.answers_len = 0;
         snprintf(text, sizeof text, "L = %zu, E = %zu: read, L1D hit", l, e);
-        direct(text, 0, 4, EXTERNAL + 64, 0, 0);
+        direct(text, 0, 4, EXTERNAL + 64, 0);
         snprintf(text, sizeof text, "L = %zu, E = %zu: L2 writeback all", l, e);
-        direct(text, 2, 0, 0, 0, 0);
+        direct(text, 2, 0, 0, 0);
         snprintf(text, sizeof text, "L = %zu, E = %zu: mode 1 to mode 1", l, e);
-        direct(text, 10, 1, 0, 0, 0);
+        direct(text, 10, 1, 0, 0);
         snprintf(text, sizeof text, "L = %zu, E = %zu: mode 1 to mode 0", l, e);
-        direct(text, 10, 0, 0, 0, 0);
+        direct(text, 10, 0, 0, 0);
         snprintf(text, sizeof text, "L = %zu, E = %zu: fresh start", l, e);
         fresh_start(text);
     }
@@ -732,6 +767,7 @@ int main(void)
     struct trace t = { room(COMMANDS * 24), 0, 0 };
     same_calls(&t);
     if (differences) return 1;
+    time_the_clock();
     classes(&t);
     directs(&t);
     growth(&t);

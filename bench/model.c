@@ -66,16 +66,12 @@ static inline int holds(const struct line *x, uint32_t address)
 
 static inline void empty(struct line *x)
 {
-    x->valid = 0;
-    x->dirty = 0;
-    x->address = 0;
+    *x = (struct line){ 0, 0, 0 };
 }
 
 static inline void fill(struct line *x, uint32_t address)
 {
-    x->valid = 1;
-    x->dirty = 0;
-    x->address = address;
+    *x = (struct line){ 1, 0, address };
 }
 
 static inline int l1d_find(const struct l1d_set *s, uint32_t address)
@@ -207,8 +203,10 @@ int model_well_formed(const struct record *r)
     }
     for (uint32_t t = 0; t < sets; t++) {
         const struct l2_set *v = &r->l2[t];
-        uint64_t a = word_of(&v->lines[0]), b = word_of(&v->lines[1]), c = word_of(&v->lines[2]), d = word_of(&v->lines[3]);
-        if (!(l2_line_ok(r, a, t, sets) & l2_line_ok(r, b, t, sets) & l2_line_ok(r, c, t, sets) & l2_line_ok(r, d, t, sets))) return 0;
+        uint64_t a = word_of(&v->lines[0]), b = word_of(&v->lines[1]);
+        uint64_t c = word_of(&v->lines[2]), d = word_of(&v->lines[3]);
+        if (!(l2_line_ok(r, a, t, sets) & l2_line_ok(r, b, t, sets) & l2_line_ok(r, c, t, sets)
+              & l2_line_ok(r, d, t, sets))) return 0;
         /* a valid line has an address other than 0, so two are the same only where both are valid */
         a >>= 32, b >>= 32, c >>= 32, d >>= 32;
         if ((a != 0) & ((a == b) | (a == c) | (a == d))) return 0;
@@ -217,7 +215,8 @@ int model_well_formed(const struct record *r)
     }
     for (uint32_t t = sets; t < L2_SETS; t++) {
         const struct l2_set *v = &r->l2[t];
-        if ((word_of(&v->lines[0]) | word_of(&v->lines[1]) | word_of(&v->lines[2]) | word_of(&v->lines[3])) != 0) return 0;
+        uint64_t a = word_of(&v->lines[0]), b = word_of(&v->lines[1]);
+        if ((a | b | word_of(&v->lines[2]) | word_of(&v->lines[3])) != 0) return 0;
         if (memcmp(v->order, fresh4, 4) != 0) return 0;
     }
     return 1;
@@ -225,10 +224,17 @@ int model_well_formed(const struct record *r)
 
 /* ---- checks */
 
+/* Of L2 and external memory, which are all that a view is lent. */
+static uint8_t view_lent_due(const struct record *r, const struct lent *m)
+{
+    if (!legal_l2(m->l2_len) || m->l2_len != r->l2len) return 1;
+    if (!legal_ext(m->ext_len) || m->ext_len != r->extlen) return 1;
+    return model_well_formed(r) ? 0 : 2;
+}
+
 static uint8_t lent_due(const struct record *r, const struct lent *m)
 {
-    if (m->l1d_len != L1D_BYTES || !legal_l2(m->l2_len) || m->l2_len != r->l2len || !legal_ext(m->ext_len) || m->ext_len != r->extlen) return 1;
-    return model_well_formed(r) ? 0 : 2;
+    return m->l1d_len != L1D_BYTES ? 1 : view_lent_due(r, m);
 }
 
 static inline int place_ok(uint32_t sram, uint32_t extlen, uint32_t size, uint32_t address)
@@ -320,7 +326,8 @@ static inline void send_home(struct machine *k, const struct l1d_set *s, int w)
     }
 }
 
-/* The half at address a leaves L1D; a dirty one is taken into the L2 line x, whose bytes stand at data (NULL: it is dropped). */
+/* The half at address a leaves L1D; a dirty one is taken into the L2 line x, whose bytes stand at data (NULL: it is
+   dropped). */
 static inline void take_half(struct machine *k, uint32_t a, struct line *x, uint8_t *data)
 {
     struct l1d_set *s = l1d_set_of(k, a);
@@ -476,10 +483,7 @@ static void l1d_block(struct machine *k, int code, uint32_t base, uint32_t count
 
 static void l1d_all(struct machine *k)
 {
-    for (int s = 0; s < L1D_SETS; s++) {
-        empty(&k->r->l1d[s].lines[0]);
-        empty(&k->r->l1d[s].lines[1]);
-    }
+    for (int s = 0; s < L1D_SETS; s++) memset(k->r->l1d[s].lines, 0, sizeof k->r->l1d[s].lines);
 }
 
 /* ---- modes */
@@ -610,7 +614,8 @@ static inline const uint8_t *decode(const uint8_t *p, const uint8_t *end, struct
     return number(p, end, 64, &c->value);
 }
 
-struct run_result model_run(struct record *r, const struct lent *m, const uint8_t *trace, size_t trace_len, uint8_t *answers, size_t answers_len)
+struct run_result model_run(struct record *r, const struct lent *m, const uint8_t *trace, size_t trace_len,
+                            uint8_t *answers, size_t answers_len)
 {
     struct run_result x = { 0, 0, lent_due(r, m) };
     if (x.stop) return x;
@@ -644,19 +649,17 @@ struct run_result model_run(struct record *r, const struct lent *m, const uint8_
 
 /* ---- looking behind L1D */
 
-const uint8_t *model_view(const struct record *r, const struct lent *m, uint32_t address, uint8_t *number)
+uint8_t model_view_number(const struct record *r, const struct lent *m, uint32_t address)
 {
-    struct lent all = *m;
-    all.l1d_len = L1D_BYTES;
-    *number = lent_due(r, &all);
-    if (*number) return NULL;
-    if (address % 64 != 0) {
-        *number = 4;
-        return NULL;
-    }
-    if (!place_ok(r->l2len - cache_size(r->mode), r->extlen, 64, address)) {
-        *number = 5;
-        return NULL;
-    }
-    return address < EXTERNAL ? m->l2 + address : m->ext + (address - EXTERNAL);
+    uint8_t number = view_lent_due(r, m);
+    if (number) return number;
+    if (address % 64 != 0) return 4;
+    return place_ok(r->l2len - cache_size(r->mode), r->extlen, 64, address) ? 0 : 5;
+}
+
+uint8_t model_view(const struct record *r, const struct lent *m, uint32_t address, uint8_t *seen, size_t seen_len)
+{
+    uint8_t number = seen_len < 64 ? 1 : model_view_number(r, m, address);
+    if (number == 0) memcpy(seen, address < EXTERNAL ? m->l2 + address : m->ext + (address - EXTERNAL), 64);
+    return number;
 }

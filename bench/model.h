@@ -1,5 +1,6 @@
-/* A plain C model of paper 01, "The C64x data memory in two levels", to measure the proved library against. The record is changed in place. Its layout
-   is that of include/c64x.h, so that both sides can be held against each other field by field. Little-endian hosts only. */
+/* A plain C model of paper 01, "The C64x data memory in two levels", to measure the proved library against. Like the
+   library it is lent the record in place and copies it nowhere. The record's layout is that of include/c64x.h, so that
+   both sides can be held against each other field by field. Little-endian hosts only. */
 #ifndef MODEL_H
 #define MODEL_H
 
@@ -71,9 +72,11 @@ uint8_t model_fresh(struct record *r, const struct lent *m);
 /* Any command as a direct call, with all its checks. */
 struct answer model_call(struct record *r, const struct lent *m, const struct command *c);
 
-struct run_result model_run(struct record *r, const struct lent *m, const uint8_t *trace, size_t trace_len, uint8_t *answers, size_t answers_len);
+struct run_result model_run(struct record *r, const struct lent *m, const uint8_t *trace, size_t trace_len,
+                            uint8_t *answers, size_t answers_len);
 
-/* The 64 bytes behind L1D, a part of the lent L2 or external memory; NULL on refusal. */
-const uint8_t *model_view(const struct record *r, const struct lent *m, uint32_t address, uint8_t *number);
+/* The 64 bytes behind L1D into `seen`; the number. And the number alone. */
+uint8_t model_view(const struct record *r, const struct lent *m, uint32_t address, uint8_t *seen, size_t seen_len);
+uint8_t model_view_number(const struct record *r, const struct lent *m, uint32_t address);
 
 #endif

@@ -4,14 +4,14 @@
  *
  *   panel [TRACE]     TRACE is a file; without it a small trace of its own is run
  *
- * L = E = 65,536; external memory is zero. Exit status: 0 the trace was run,
+ * L2 and external memory have 65,536 bytes each, all zero. Exit status: 0 the trace was run,
  * also where commands of it were refused; 1 it was stopped; 2 bad usage.
  */
 #include <stdio.h>
 #include <stdlib.h>
 #include <string.h>
 
-#include "c64x.h"
+#include "c64x_chip.h"
 
 #define L2_BYTES 65536
 #define EXTERNAL_BYTES 65536
@@ -20,6 +20,7 @@
 static uint8_t l1d[C64X_L1D_BYTES];
 static uint8_t l2[L2_BYTES];
 static uint8_t ext[EXTERNAL_BYTES];
+static c64x_chip chip;
 static uint8_t trace[TRACE_BYTES + 1];
 /* A command has a byte at least, so these are enough. */
 static uint8_t answers[TRACE_BYTES * C64X_ANSWER_BYTES];
@@ -47,32 +48,6 @@ static const char *const commands[] = {
     "MAR",
 };
 
-static const char *const refusals[] = {
-    "done",
-    "refused: a lent length is illegal or unlike the record's",
-    "refused: the record is not well formed",
-    "refused: the size is not 1, 2, 4 or 8",
-    "refused: the address is not aligned",
-    "refused: neither SRAM nor external memory",
-    "refused: the value needs more bytes than the size",
-    "refused: the count is above 65535",
-    "refused: no such mode, or its cache is larger than L2",
-    "refused: no such MAR or bit",
-    "refused: a cache holds a line of that range",
-    "stopped: the trace is damaged",
-    "stopped: no answer bytes are left",
-};
-
-static const char *const servers[] = {"", "L1D", "SRAM", "L2 cache", "external memory"};
-
-/* A text of a table, or a stand-in for a number that the table lacks. */
-static const char *word(const char *const *table, size_t count, uint8_t number)
-{
-    return number < count ? table[number] : "unknown";
-}
-
-#define WORD(table, number) word(table, sizeof(table) / sizeof((table)[0]), number)
-
 /* How many bytes the whole command at `at` has: a code and numbers that end with a byte below 128. */
 static size_t command_length(size_t at)
 {
@@ -84,19 +59,16 @@ static size_t command_length(size_t at)
     return end - at;
 }
 
-static void show_answers(const c64x_ran *run)
+static void show_answers(size_t count)
 {
     size_t at = 0;
-    for (size_t i = 0; i < run->count; i++) {
-        const uint8_t *answer = answers + i * C64X_ANSWER_BYTES;
-        uint64_t value = 0;
-        for (int byte = 9; byte >= 2; byte--)
-            value = value << 8 | answer[byte];
-        printf("%3zu  %-30s  %s", i + 1, WORD(commands, trace[at]), WORD(refusals, answer[0]));
-        if (answer[1] != 0)
-            printf(", by %s", WORD(servers, answer[1]));
-        if (trace[at] == 0 && answer[0] == 0)
-            printf(", value %llu", (unsigned long long)value);
+    for (size_t i = 0; i < count; i++) {
+        c64x_answer answer = c64x_answer_at(answers, i);
+        printf("%3zu  %-30s  %s", i + 1, commands[trace[at]], c64x_number_text(answer.number));
+        if (answer.server != C64X_SERVER_NONE)
+            printf(", by %s", c64x_server_text(answer.server));
+        if (trace[at] == 0 && answer.number == C64X_ACCEPTED)
+            printf(", value %llu", (unsigned long long)answer.value);
         printf("\n");
         at += command_length(at);
     }
@@ -130,13 +102,12 @@ static void show_caches(const c64x_record *record)
 }
 
 /* The word that external memory itself holds at its first address. */
-static void show_behind(const c64x_record *record)
+static void show_behind(void)
 {
     uint8_t seen[C64X_VIEW_BYTES];
-    uint8_t number = c64x_view(*record, C64X_EXTERNAL_BASE, l2, sizeof l2, ext, sizeof ext, seen,
-                               sizeof seen);
-    if (number != 0) {
-        printf("behind L1D at 80000000: %s\n", WORD(refusals, number));
+    uint8_t number = c64x_chip_view(&chip, C64X_EXTERNAL_BASE, seen, sizeof seen);
+    if (number != C64X_ACCEPTED) {
+        printf("behind L1D at 80000000: %s\n", c64x_number_text(number));
         return;
     }
     printf("behind L1D at 80000000: %02X %02X %02X %02X\n", seen[0], seen[1], seen[2], seen[3]);
@@ -177,19 +148,15 @@ int main(int argc, char **argv)
         length = sizeof own_trace;
         memcpy(trace, own_trace, length);
     }
-    static c64x_called started;
-    started = c64x_fresh(l1d, sizeof l1d, l2, sizeof l2, ext, sizeof ext);
-    if (started.number != 0) {
-        fprintf(stderr, "panel: %s\n", WORD(refusals, started.number));
+    c64x_answer started = c64x_chip_start(&chip, l1d, sizeof l1d, l2, sizeof l2, ext, sizeof ext);
+    if (started.number != C64X_ACCEPTED) {
+        fprintf(stderr, "panel: %s\n", c64x_number_text(started.number));
         return 1;
     }
-    static c64x_ran run;
-    run = c64x_run(started.record, trace, length, l1d, sizeof l1d, l2, sizeof l2, ext, sizeof ext,
-                   answers, sizeof answers);
-    show_answers(&run);
-    printf("%s after %zu of %zu bytes\n", run.stop == 0 ? "end" : WORD(refusals, run.stop),
-           run.consumed, length);
-    show_caches(&run.record);
-    show_behind(&run.record);
+    c64x_ran run = c64x_chip_run(&chip, trace, length, answers, sizeof answers);
+    show_answers(run.count);
+    printf("%s after %zu of %zu bytes\n", run.stop == 0 ? "end" : c64x_number_text(run.stop), run.consumed, length);
+    show_caches(&chip.record);
+    show_behind();
     return run.stop == 0 ? 0 : 1;
 }

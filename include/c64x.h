@@ -1,45 +1,65 @@
 /*
- * The two-level data memory of the C64x, for C: L1D, L2 with its SRAM and its
- * cache, and external memory, as paper 01 describes them. The functions stand
- * in target/staticlib/libboundary.a (x86-64), which `rt staticlib boundary`
- * writes; they need memcpy and memset and nothing else, keep nothing between
- * calls and lent memory no longer than the call.
+ * c64x.h: the data memory of TI's C64x processor, for programs in C and C++. An h behind a number: hexadecimal.
  *
- * What a caller keeps between calls is the record and three memories:
+ * A load or a store of the C64x meets up to three levels of memory:
  *
- *   l1d   exactly 16,384 bytes
- *   l2    L bytes, a multiple of 32,768 from 32,768 to 262,144; the first
- *         L - C of them are SRAM, at address 0
- *   ext   E bytes, a multiple of 128 from 128 to 33,554,432, at 80000000h
+ *   L1D       a cache of 16 Kbytes, in 128 sets of 2 lines. A line is 64 bytes.
+ *   L2        32 to 256 Kbytes. The mode says how much of it is a cache of external memory, in sets of 4 lines of
+ *             128 bytes. The rest is plain memory, called SRAM, at address 0.
+ *   external  up to 32 Mbytes at address 80000000h. For each 16 Mbytes of it one bit, named MAR, says whether the
+ *             caches may hold lines of it. With bit 0 every access goes past the caches.
  *
- * Each memory is lent as a pointer and a length in bytes. The pointer is not
- * null, also where the length is 0; memories that are lent to one call do not
- * overlap. Nothing else is asked of a caller: any record, any length and any
- * number may be passed, and what does not pass is refused by a number of the
- * table below, with all as it was.
+ * A line that the CPU has written in a cache is dirty: the memory behind it still has the old bytes, until the line
+ * is written back. The calls below do what the processor does, and say which level served each access.
+ *
+ * ONE CHIP is one record and three memories. All four are yours, and they are the whole state: a copy of all four is
+ * a copy of the chip.
+ *
+ *   record    a c64x_record: the mode, the MAR bits, and which lines the caches hold. c64x_fresh writes it. You may
+ *             read it at any time; there is no need ever to write to it.
+ *   l1d       the bytes of L1D: exactly 16,384
+ *   l2        the bytes of L2: a multiple of 32,768, from 32,768 to 262,144
+ *   ext       the bytes of external memory: a multiple of 128, from 128 to 33,554,432
+ *
+ * Each memory is lent to a call as a pointer and a length in bytes. Lend the same memories to every call on a chip.
+ * The header c64x_chip.h keeps all four together, so that a call has one argument for them.
+ *
+ * WHAT A CALL ASKS OF YOU: no pointer is null (not even where the length is 0), what is lent to one call does not
+ * overlap, and the record stands at an address that is a multiple of 4, as every c64x_record variable does.
+ *
+ * EVERYTHING ELSE IS CHECKED. Any record, any length and any number may be passed. What is wrong is refused by a
+ * number:
  *
  *    0  accepted
- *    1  a lent length is illegal, or unlike the record's
- *    2  the record is not well formed
+ *    1  a length is not one of those above, or not the one that the record was made for
+ *    2  the record is not well formed: a mark other than 0 or 1, a line in a set that is not its own or held twice, a
+ *       line of memory that may not be cached, an order that names a line twice, and the like
  *    3  the size is not 1, 2, 4 or 8
- *    4  the address is no multiple of the size; a block's base none of 4; a
- *       viewed address none of 64
- *    5  the access, or the viewed line, does not lie wholly in SRAM or in
- *       external memory
+ *    4  the address is not a multiple of the size; a block's base is not one of 4; a viewed address is not one of 64
+ *    5  not all of the access, or of the viewed line, lies in SRAM or in external memory
  *    6  the value needs more bytes than the size
  *    7  a block's count is above 65,535
- *    8  the mode is not 0 to 3 or 7, or its cache is larger than L
+ *    8  the mode is not 0, 1, 2, 3 or 7, or its cache is larger than L2
  *    9  the MAR is not 128 or 129, or the bit is above 1
- *   10  bit 0 while a cache holds a line of that range
+ *   10  a MAR bit is to become 0 while a cache holds a line of that range
  *   11  the trace is damaged
  *   12  fewer than 10 answer bytes are left
  *
- * The lowest number that is due wins. With it server and value are 0, the
- * record comes back as given and no lent byte changes.
+ * Where several are due, the lowest counts (only in a trace 11, then 12, come before 3 to 10). A refused call changes
+ * nothing: no byte of the record and no byte of a memory. (The one exception is c64x_fresh; see there. A run that is
+ * stopped by 11 or 12 keeps what it did before.)
  *
- * Records go by value, so a call needs stack: up to 310,000 bytes (measured;
- * 272,000 for a run, 176,000 for a fresh start or a view). A thread with a
- * smaller stack has to be given one.
+ * PADDING. The record has bytes between its fields that mean nothing. No call looks at them. An accepted call may
+ * change them, so compare two records field by field and not with memcmp.
+ *
+ * THREADS. The library keeps no state, neither between calls nor during one. Calls on different chips may run at the
+ * same time on different threads. Calls on one chip may not: give each chip to one thread, or guard it by a lock.
+ *
+ * STACK. A call needs at most C64X_STACK_BYTES of stack. That leaves room to grow: no call was measured to take more
+ * than 912 bytes. `sh bench/stack` measures each of them, and fails where one takes more than is said here.
+ *
+ * LINKING. The functions stand in target/staticlib/libboundary.a (64-bit x86), which `rt staticlib boundary` writes.
+ * They call nothing but memcpy and memset of the C library: no allocation, no files, no signals.
  */
 #ifndef C64X_H
 #define C64X_H
@@ -54,17 +74,33 @@ extern "C" {
 #define C64X_ASSERT _Static_assert
 #endif
 
+/*
+ * The version of this interface. MAJOR goes up when a program that was written for the version before would have to
+ * be changed or compiled again: another layout of a struct, other arguments, another meaning of a number. MINOR goes
+ * up when calls are added and all the others stay as they are. Version 1 passed the record by value.
+ */
+#define C64X_VERSION_MAJOR 2
+#define C64X_VERSION_MINOR 0
+
+/* The stack that a call needs at most, in bytes. */
+#define C64X_STACK_BYTES 4096
+
 #define C64X_L1D_BYTES 16384
 #define C64X_L1D_SETS 128
+#define C64X_L1D_WAYS 2
+#define C64X_L1D_LINE_BYTES 64
 #define C64X_L2_SETS 512
+#define C64X_L2_WAYS 4
+#define C64X_L2_LINE_BYTES 128
 #define C64X_EXTERNAL_BASE UINT32_C(0x80000000)
+/* One answer of a run. */
 #define C64X_ANSWER_BYTES 10
+/* What c64x_view shows. */
 #define C64X_VIEW_BYTES 64
 
 /*
- * One way of a set. `valid`, `dirty` and the MAR bytes of the record are 0 or
- * 1. A record with another byte there is not well formed: it is refused with 2
- * (unless 1 is due) and comes back as given.
+ * One line of a cache. `valid`: it holds something; `dirty`: what it holds is not yet in the memory behind; `address`
+ * is that of its first byte. Where `valid` is 0 the other two are 0. A mark other than 0 or 1 is refused with 2.
  */
 typedef struct {
     uint8_t valid;
@@ -72,7 +108,7 @@ typedef struct {
     uint32_t address;
 } c64x_line;
 
-/* The ways in the order of their use, most recent first. */
+/* The lines of a set, numbered from 0, in the order of their use: the one used last comes first. */
 typedef struct {
     uint8_t first;
     uint8_t second;
@@ -86,16 +122,19 @@ typedef struct {
 } c64x_order4;
 
 typedef struct {
-    c64x_line lines[2];
+    c64x_line lines[C64X_L1D_WAYS];
     c64x_order2 order;
 } c64x_l1d_set;
 
 typedef struct {
-    c64x_line lines[4];
+    c64x_line lines[C64X_L2_WAYS];
     c64x_order4 order;
 } c64x_l2_set;
 
-/* L, E, the L2 mode, the MAR bits 128 and 129, and the sets of both caches. */
+/*
+ * The lengths of L2 and of external memory, the L2 mode, the MAR bits (0 or 1), and the sets of both caches. How many
+ * sets of L2 are in use goes by the mode: none in mode 0, 64 in mode 1, 128 in 2, 256 in 3, 512 in 7.
+ */
 typedef struct {
     uint32_t l2len;
     uint32_t extlen;
@@ -107,120 +146,143 @@ typedef struct {
 } c64x_record;
 
 /*
- * What a call returns. The server of a read or a write is 1 for L1D, 2 SRAM,
- * 3 L2 cache, 4 external memory; 0 for every other call. The value is that of
- * an accepted read, else 0.
+ * What a call returns.
+ *   value    what an accepted read has read; 0 for every other call
+ *   number   0, or why the call was refused: the table above
+ *   server   who served an accepted read or write: 1 L1D, 2 SRAM, 3 the L2 cache, 4 external memory (also where the
+ *            L2 cache had to fetch the line first); 0 for every other call
  */
 typedef struct {
     uint64_t value;
     uint8_t number;
     uint8_t server;
-    c64x_record record;
-} c64x_called;
+} c64x_answer;
 
 /*
- * What a run returns: the bytes of the trace that were consumed, how many
- * answers were written, why it stopped (0 at the end of the trace, else 1, 2,
- * 11 or 12), and the record.
+ * What a run returns: how many bytes of the trace it has carried out, how many answers it has written, and why it
+ * stopped: 0 at the end of the trace, else 1, 2, 11 or 12.
  */
 typedef struct {
     size_t consumed;
     size_t count;
     uint8_t stop;
-    c64x_record record;
 } c64x_ran;
 
 C64X_ASSERT(sizeof(size_t) == 8, "the library is for 64 bits");
 C64X_ASSERT(sizeof(c64x_line) == 8, "c64x_line");
+C64X_ASSERT(offsetof(c64x_line, valid) == 0, "c64x_line");
 C64X_ASSERT(offsetof(c64x_line, dirty) == 1, "c64x_line");
 C64X_ASSERT(offsetof(c64x_line, address) == 4, "c64x_line");
 C64X_ASSERT(sizeof(c64x_order2) == 2, "c64x_order2");
+C64X_ASSERT(offsetof(c64x_order2, second) == 1, "c64x_order2");
 C64X_ASSERT(sizeof(c64x_order4) == 4, "c64x_order4");
+C64X_ASSERT(offsetof(c64x_order4, second) == 1, "c64x_order4");
+C64X_ASSERT(offsetof(c64x_order4, third) == 2, "c64x_order4");
+C64X_ASSERT(offsetof(c64x_order4, fourth) == 3, "c64x_order4");
 C64X_ASSERT(sizeof(c64x_l1d_set) == 20, "c64x_l1d_set");
 C64X_ASSERT(offsetof(c64x_l1d_set, order) == 16, "c64x_l1d_set");
 C64X_ASSERT(sizeof(c64x_l2_set) == 36, "c64x_l2_set");
 C64X_ASSERT(offsetof(c64x_l2_set, order) == 32, "c64x_l2_set");
 C64X_ASSERT(sizeof(c64x_record) == 21004, "c64x_record");
+C64X_ASSERT(offsetof(c64x_record, l2len) == 0, "c64x_record");
 C64X_ASSERT(offsetof(c64x_record, extlen) == 4, "c64x_record");
 C64X_ASSERT(offsetof(c64x_record, mode) == 8, "c64x_record");
 C64X_ASSERT(offsetof(c64x_record, mar128) == 9, "c64x_record");
 C64X_ASSERT(offsetof(c64x_record, mar129) == 10, "c64x_record");
 C64X_ASSERT(offsetof(c64x_record, l1d) == 12, "c64x_record");
 C64X_ASSERT(offsetof(c64x_record, l2) == 2572, "c64x_record");
-C64X_ASSERT(sizeof(c64x_called) == 21016, "c64x_called");
-C64X_ASSERT(offsetof(c64x_called, number) == 8, "c64x_called");
-C64X_ASSERT(offsetof(c64x_called, server) == 9, "c64x_called");
-C64X_ASSERT(offsetof(c64x_called, record) == 12, "c64x_called");
-C64X_ASSERT(sizeof(c64x_ran) == 21024, "c64x_ran");
+C64X_ASSERT(sizeof(c64x_answer) == 16, "c64x_answer");
+C64X_ASSERT(offsetof(c64x_answer, value) == 0, "c64x_answer");
+C64X_ASSERT(offsetof(c64x_answer, number) == 8, "c64x_answer");
+C64X_ASSERT(offsetof(c64x_answer, server) == 9, "c64x_answer");
+C64X_ASSERT(sizeof(c64x_ran) == 24, "c64x_ran");
+C64X_ASSERT(offsetof(c64x_ran, consumed) == 0, "c64x_ran");
 C64X_ASSERT(offsetof(c64x_ran, count) == 8, "c64x_ran");
 C64X_ASSERT(offsetof(c64x_ran, stop) == 16, "c64x_ran");
-C64X_ASSERT(offsetof(c64x_ran, record) == 20, "c64x_ran");
 
 /* The three memories, as every call but the view is lent them. */
 #define C64X_LENT \
     uint8_t *l1d, size_t l1d_len, uint8_t *l2, size_t l2_len, uint8_t *ext, size_t ext_len
 
 /*
- * A fresh start: mode 0, MAR bits 0, nothing in the caches; L and E are the
- * lengths that are lent. L1D and L2 bytes become 0, external memory is kept.
- * It can be refused with 1 only, and then returns the record of L = 32,768 and
- * E = 128.
+ * The chip after reset: mode 0, both MAR bits 0, nothing in the caches. What stood in the record before does not
+ * matter. The bytes of L1D and L2 become 0, external memory is kept. Refused: 1 only. The record then becomes that of
+ * a fresh chip with 32,768 bytes of L2 and 128 of external memory; no memory changes.
  */
-c64x_called c64x_fresh(C64X_LENT);
-
-/* A read or a write by the CPU: 1, 2, 4 or 8 bytes, little-endian. Refused: 1 to 6. */
-c64x_called c64x_read(c64x_record record, uint32_t size, uint32_t address, C64X_LENT);
-c64x_called c64x_write(c64x_record record, uint32_t size, uint32_t address, uint64_t value,
-                       C64X_LENT);
+c64x_answer c64x_fresh(c64x_record *record, C64X_LENT);
 
 /*
- * The cache commands. A block is a base address and a count of 4-byte words;
- * it touches every line that has a byte in it. L2 commands do nothing in mode
- * 0. Refused: 1 and 2, and blocks 4 and 7.
+ * A load or a store by the CPU, of 1, 2, 4 or 8 bytes, the lowest byte first in memory. SRAM begins at address 0 and
+ * external memory at 80000000h. Refused: 1 to 5, a write also 6.
  */
-c64x_called c64x_l2_writeback_all(c64x_record record, C64X_LENT);
-c64x_called c64x_l2_writeback_invalidate_all(c64x_record record, C64X_LENT);
-c64x_called c64x_l2_writeback_block(c64x_record record, uint32_t base, uint32_t count, C64X_LENT);
-c64x_called c64x_l2_writeback_invalidate_block(c64x_record record, uint32_t base, uint32_t count,
-                                               C64X_LENT);
-c64x_called c64x_l2_invalidate_block(c64x_record record, uint32_t base, uint32_t count, C64X_LENT);
-c64x_called c64x_l1d_writeback_invalidate_block(c64x_record record, uint32_t base, uint32_t count,
-                                                C64X_LENT);
-c64x_called c64x_l1d_invalidate_block(c64x_record record, uint32_t base, uint32_t count, C64X_LENT);
-c64x_called c64x_l1d_invalidate_all(c64x_record record, C64X_LENT);
+c64x_answer c64x_read(c64x_record *record, uint32_t size, uint32_t address, C64X_LENT);
+c64x_answer c64x_write(c64x_record *record, uint32_t size, uint32_t address, uint64_t value, C64X_LENT);
 
 /*
- * Another L2 mode: all dirty lines are written back, all lines leave, and the
- * L2 bytes from the smaller of the old and the new SRAM on become 0. Refused:
- * 1, 2, 8.
+ * The cache commands, on all lines or on those of a block. A block is the address of its first byte (`base`) and a
+ * `count` of 4-byte words; a line belongs to it if a byte of it does. It may lie anywhere.
+ *
+ *   writeback             dirty lines go to the memory behind; they stay in the cache, clean
+ *   writeback-invalidate  the same, then the lines leave the cache
+ *   invalidate            the lines leave the cache; what was written to them is lost
+ *
+ * An L2 command first takes the L1D lines that lie inside its L2 lines: dirty ones go into the L2 line (invalidate
+ * drops them), and all of them leave L1D. It never touches L1D lines of SRAM. In mode 0 L2 commands do nothing.
+ * Refused: 1 and 2, and blocks 4 and 7.
  */
-c64x_called c64x_change_mode(c64x_record record, uint32_t mode, C64X_LENT);
-
-/* MAR 128 or 129, the 16 MiB from 80000000h or 81000000h: may they be cached? Refused: 1, 2, 9, 10. */
-c64x_called c64x_change_mar(c64x_record record, uint32_t mar, uint32_t bit, C64X_LENT);
+c64x_answer c64x_l2_writeback_all(c64x_record *record, C64X_LENT);
+c64x_answer c64x_l2_writeback_invalidate_all(c64x_record *record, C64X_LENT);
+c64x_answer c64x_l2_writeback_block(c64x_record *record, uint32_t base, uint32_t count, C64X_LENT);
+c64x_answer c64x_l2_writeback_invalidate_block(c64x_record *record, uint32_t base, uint32_t count, C64X_LENT);
+c64x_answer c64x_l2_invalidate_block(c64x_record *record, uint32_t base, uint32_t count, C64X_LENT);
+c64x_answer c64x_l1d_writeback_invalidate_block(c64x_record *record, uint32_t base, uint32_t count, C64X_LENT);
+c64x_answer c64x_l1d_invalidate_block(c64x_record *record, uint32_t base, uint32_t count, C64X_LENT);
+c64x_answer c64x_l1d_invalidate_all(c64x_record *record, C64X_LENT);
 
 /*
- * A run over a trace. A command of it is a code byte, 0 to 11 in the order of
- * the calls above from c64x_read on, and its numbers in groups of seven bits.
- * Each answer is 10 bytes: number, server, value (8 bytes, little-endian).
- * Answer bytes after the last answer are unchanged. Refusals 3 to 10 are
- * answered; 11 and 12 stop the run before their command.
+ * Another L2 mode, or the same again. The L2 cache has no bytes in mode 0, 32,768 in mode 1, 65,536 in 2, 131,072 in
+ * 3 and 262,144 in 7; SRAM is what is left of L2. All dirty lines are written back and all lines leave. SRAM that
+ * both the old and the new mode have is kept; every later byte of L2 becomes 0. Refused: 1, 2, 8.
  */
-c64x_ran c64x_run(c64x_record record, const uint8_t *trace, size_t trace_len, C64X_LENT,
-                  uint8_t *answers, size_t answers_len);
+c64x_answer c64x_change_mode(c64x_record *record, uint32_t mode, C64X_LENT);
 
 /*
- * Looking behind L1D: the 64 bytes of SRAM or of external memory at a line
- * address, never the L2 cache's copy. They go into the first 64 bytes of
- * `seen`, whose later bytes are unchanged; a `seen` of fewer bytes is a lent
- * length that is illegal. Returns the number (0, 1, 2, 4 or 5); nothing is
- * written unless it is 0.
+ * May the caches hold lines of external memory? MAR 128 says it of the 16 Mbytes from 80000000h on, MAR 129 of those
+ * from 81000000h on: bit 1 yes, bit 0 no. Refused: 1, 2, 9, and 10 where a cache still holds a line of the range.
  */
-uint8_t c64x_view(c64x_record record, uint32_t address, const uint8_t *l2, size_t l2_len,
-                  const uint8_t *ext, size_t ext_len, uint8_t *seen, size_t seen_len);
+c64x_answer c64x_change_mar(c64x_record *record, uint32_t mar, uint32_t bit, C64X_LENT);
 
-/* The number of that view, by itself. */
-uint8_t c64x_view_number(c64x_record record, uint32_t address, const uint8_t *l2, size_t l2_len,
+/*
+ * Many calls at once: a trace is a list of commands in bytes. A command is one byte, its code, and its numbers:
+ *
+ *    0  read (size, address)                            6  L2 block invalidate (base, count)
+ *    1  write (size, address, value)                    7  L1D block writeback-invalidate (base, count)
+ *    2  L2 writeback all                                8  L1D block invalidate (base, count)
+ *    3  L2 writeback-invalidate all                     9  L1D invalidate all
+ *    4  L2 block writeback (base, count)               10  mode (mode)
+ *    5  L2 block writeback-invalidate (base, count)    11  MAR (mar, bit)
+ *
+ * A number is written in groups of seven bits, the lowest first, in one byte each; every byte but the last has its
+ * top bit set. 5 is 05, 300 is AC 02, 80000000h is 80 80 80 80 08. Longer forms of the same number are damage.
+ *
+ * Each command gives one answer of 10 bytes: its number, its server, and its value in 8 bytes, the lowest first. A
+ * command that is refused by 3 to 10 is answered so, and the run goes on. 11 and 12 stop it in front of their command;
+ * what ran before stands, and answer bytes behind the last answer stay as they were. 1 and 2 stop it at once.
+ */
+c64x_ran c64x_run(c64x_record *record, const uint8_t *trace, size_t trace_len, C64X_LENT, uint8_t *answers,
+                  size_t answers_len);
+
+/*
+ * Looking behind the caches: the 64 bytes that SRAM or external memory itself has at a multiple of 64, whatever the
+ * caches hold of them. They go into the first 64 bytes of `seen`; its later bytes stay as they are. Returns the number:
+ * 0, or 1 (also for a `seen` of fewer than 64 bytes), 2, 4 or 5, and then nothing is written. The record and the
+ * memories are only read.
+ */
+uint8_t c64x_view(const c64x_record *record, uint32_t address, const uint8_t *l2, size_t l2_len, const uint8_t *ext,
+                  size_t ext_len, uint8_t *seen, size_t seen_len);
+
+/* The number of that view by itself. */
+uint8_t c64x_view_number(const c64x_record *record, uint32_t address, const uint8_t *l2, size_t l2_len,
                          const uint8_t *ext, size_t ext_len);
 
 #undef C64X_LENT

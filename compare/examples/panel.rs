@@ -36,7 +36,7 @@ const REFUSALS: [&str; 13] = [
     "refused: no such MAR or bit",
     "refused: a cache holds a line of that range",
     "stopped: the trace is damaged",
-    "stopped: no answer bytes are left",
+    "stopped: fewer than 10 answer bytes are left",
 ];
 
 const SERVERS: [&str; 5] = ["", "L1D", "SRAM", "L2 cache", "external memory"];

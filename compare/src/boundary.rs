@@ -1,24 +1,31 @@
 //! The calls of include/c64x.h: the structs in C's layout, the declarations,
 //! and a safe function for each call.
 
-use std::mem::{offset_of, size_of};
+use std::mem::{align_of, offset_of, size_of};
+use std::ops::{Deref, DerefMut};
 
+use oracle::gen::Rng;
+use oracle::geometry::EXTERNAL_BASE;
 use oracle::record::{L1dSet, L2Set, Line, Record};
 use oracle::Command;
 
+/// The structs name their padding, so that it can be filled and compared.
+/// Equality is that of the fields: an accepted call may change padding.
 #[repr(C)]
-#[derive(Clone, Copy, PartialEq, Eq, Debug)]
+#[derive(Clone, Copy, Debug)]
 pub struct CLine {
     pub valid: u8,
     pub dirty: u8,
+    padding: [u8; 2],
     pub address: u32,
 }
 
 #[repr(C)]
-#[derive(Clone, Copy, PartialEq, Eq, Debug)]
+#[derive(Clone, Copy, Debug)]
 pub struct CL1dSet {
     pub lines: [CLine; 2],
     pub order: [u8; 2],
+    padding: [u8; 2],
 }
 
 #[repr(C)]
@@ -29,24 +36,24 @@ pub struct CL2Set {
 }
 
 #[repr(C)]
-#[derive(Clone, Copy, PartialEq, Eq, Debug)]
+#[derive(Clone, Copy, Debug)]
 pub struct CRecord {
     pub l2len: u32,
     pub extlen: u32,
     pub mode: u8,
     pub mar128: u8,
     pub mar129: u8,
+    padding: u8,
     pub l1d: [CL1dSet; 128],
     pub l2: [CL2Set; 512],
 }
 
 #[repr(C)]
 #[derive(Clone, Copy)]
-pub struct CCalled {
+pub struct CAnswer {
     pub value: u64,
     pub number: u8,
     pub server: u8,
-    pub record: CRecord,
 }
 
 #[repr(C)]
@@ -55,32 +62,139 @@ pub struct CRun {
     pub consumed: usize,
     pub count: usize,
     pub stop: u8,
-    pub record: CRecord,
 }
 
 const _: () = {
     assert!(size_of::<CLine>() == 8 && offset_of!(CLine, dirty) == 1);
-    assert!(offset_of!(CLine, address) == 4);
+    assert!(offset_of!(CLine, padding) == 2 && offset_of!(CLine, address) == 4);
     assert!(size_of::<CL1dSet>() == 20 && offset_of!(CL1dSet, order) == 16);
+    assert!(offset_of!(CL1dSet, padding) == 18);
     assert!(size_of::<CL2Set>() == 36 && offset_of!(CL2Set, order) == 32);
-    assert!(size_of::<CRecord>() == 21_004);
+    assert!(size_of::<CRecord>() == RECORD_BYTES && align_of::<CRecord>() == 4);
     assert!(offset_of!(CRecord, extlen) == 4 && offset_of!(CRecord, mode) == 8);
     assert!(offset_of!(CRecord, mar128) == 9 && offset_of!(CRecord, mar129) == 10);
+    assert!(offset_of!(CRecord, padding) == 11);
     assert!(offset_of!(CRecord, l1d) == 12 && offset_of!(CRecord, l2) == 2_572);
-    assert!(size_of::<CCalled>() == 21_016);
-    assert!(offset_of!(CCalled, number) == 8 && offset_of!(CCalled, server) == 9);
-    assert!(offset_of!(CCalled, record) == 12);
-    assert!(size_of::<CRun>() == 21_024);
+    assert!(size_of::<CAnswer>() == 16);
+    assert!(offset_of!(CAnswer, number) == 8 && offset_of!(CAnswer, server) == 9);
+    assert!(size_of::<CRun>() == 24);
     assert!(offset_of!(CRun, count) == 8 && offset_of!(CRun, stop) == 16);
-    assert!(offset_of!(CRun, record) == 20);
 };
+
+pub const RECORD_BYTES: usize = 21_004;
+
+impl PartialEq for CLine {
+    fn eq(&self, other: &CLine) -> bool {
+        (self.valid, self.dirty, self.address) == (other.valid, other.dirty, other.address)
+    }
+}
+
+impl Eq for CLine {}
+
+impl PartialEq for CL1dSet {
+    fn eq(&self, other: &CL1dSet) -> bool {
+        self.lines == other.lines && self.order == other.order
+    }
+}
+
+impl Eq for CL1dSet {}
+
+impl PartialEq for CRecord {
+    fn eq(&self, other: &CRecord) -> bool {
+        (self.l2len, self.extlen) == (other.l2len, other.extlen)
+            && (self.mode, self.mar128, self.mar129) == (other.mode, other.mar128, other.mar129)
+            && self.l1d == other.l1d
+            && self.l2 == other.l2
+    }
+}
+
+impl Eq for CRecord {}
+
+impl CRecord {
+    /// Every byte, padding included.
+    pub fn bytes(&self) -> &[u8; RECORD_BYTES] {
+        // The structs have no bytes but those of their fields, all of which are
+        // whole numbers.
+        unsafe { &*(self as *const CRecord).cast() }
+    }
+
+    /// Gives this record the padding of another one.
+    pub fn pad_like(&mut self, other: &CRecord) {
+        self.padding = other.padding;
+        for (ours, theirs) in self.l1d.iter_mut().zip(&other.l1d) {
+            ours.padding = theirs.padding;
+            pad_lines_like(&mut ours.lines, &theirs.lines);
+        }
+        for (ours, theirs) in self.l2.iter_mut().zip(&other.l2) {
+            pad_lines_like(&mut ours.lines, &theirs.lines);
+        }
+    }
+
+    /// A padding byte inside a line, for differences that are planted.
+    pub fn some_padding(&mut self) -> &mut u8 {
+        &mut self.l2[511].lines[3].padding[1]
+    }
+}
+
+fn pad_lines_like(ours: &mut [CLine], theirs: &[CLine]) {
+    for (ours, theirs) in ours.iter_mut().zip(theirs) {
+        ours.padding = theirs.padding;
+    }
+}
+
+/// A record whose padding is random; 0 stands for padding that is 0.
+pub fn padding_of(seed: u64) -> Box<CRecord> {
+    let mut record = record_of(&Record::fresh(0, 0));
+    if seed == 0 {
+        return record;
+    }
+    let mut rng = Rng::new(seed);
+    record.padding = rng.next_u32() as u8;
+    for set in &mut record.l1d {
+        rng.fill(&mut set.padding);
+        set.lines.iter_mut().for_each(|line| rng.fill(&mut line.padding));
+    }
+    for line in record.l2.iter_mut().flat_map(|set| &mut set.lines) {
+        rng.fill(&mut line.padding);
+    }
+    record
+}
+
+/// A record at an address that is a multiple of 4 and of no larger power of 2:
+/// nothing more is promised to the calls.
+#[repr(C, align(16))]
+#[derive(Clone)]
+pub struct Held {
+    before: u32,
+    record: CRecord,
+}
+
+impl Held {
+    pub fn new(record: &CRecord) -> Box<Held> {
+        Box::new(Held { before: 0, record: *record })
+    }
+}
+
+impl Deref for Held {
+    type Target = CRecord;
+
+    fn deref(&self) -> &CRecord {
+        &self.record
+    }
+}
+
+impl DerefMut for Held {
+    fn deref_mut(&mut self) -> &mut CRecord {
+        &mut self.record
+    }
+}
 
 /// Declares the calls that take a record, some numbers and three memories.
 macro_rules! calls {
     ($($name:ident($($number:ident: $kind:ty),*);)*) => {
         extern "C" {
             $(fn $name(
-                record: CRecord,
+                record: *mut CRecord,
                 $($number: $kind,)*
                 l1d: *mut u8,
                 l1d_len: usize,
@@ -88,12 +202,13 @@ macro_rules! calls {
                 l2_len: usize,
                 ext: *mut u8,
                 ext_len: usize,
-            ) -> CCalled;)*
+            ) -> CAnswer;)*
         }
     };
 }
 
 calls! {
+    c64x_fresh();
     c64x_read(size: u32, address: u32);
     c64x_write(size: u32, address: u32, value: u64);
     c64x_l2_writeback_all();
@@ -109,17 +224,8 @@ calls! {
 }
 
 extern "C" {
-    fn c64x_fresh(
-        l1d: *mut u8,
-        l1d_len: usize,
-        l2: *mut u8,
-        l2_len: usize,
-        ext: *mut u8,
-        ext_len: usize,
-    ) -> CCalled;
-
     fn c64x_run(
-        record: CRecord,
+        record: *mut CRecord,
         trace: *const u8,
         trace_len: usize,
         l1d: *mut u8,
@@ -133,7 +239,7 @@ extern "C" {
     ) -> CRun;
 
     fn c64x_view(
-        record: CRecord,
+        record: *const CRecord,
         address: u32,
         l2: *const u8,
         l2_len: usize,
@@ -144,7 +250,7 @@ extern "C" {
     ) -> u8;
 
     fn c64x_view_number(
-        record: CRecord,
+        record: *const CRecord,
         address: u32,
         l2: *const u8,
         l2_len: usize,
@@ -160,24 +266,29 @@ pub struct Lent<'a> {
     pub ext: &'a mut [u8],
 }
 
-/// The direct call of a command. Each lent memory is a slice of its own, so no
-/// two overlap, and the call keeps none of them.
-pub fn direct(record: &CRecord, command: &Command, lent: Lent) -> CCalled {
+/// A call that is lent the record and the three memories. Each is a place of its
+/// own, so no two overlap, and the call keeps none of them.
+macro_rules! call_lent {
+    ($name:ident, $record:expr, $lent:expr $(, $number:expr)*) => {
+        unsafe {
+            $name(
+                $record,
+                $($number,)*
+                $lent.l1d.as_mut_ptr(),
+                $lent.l1d.len(),
+                $lent.l2.as_mut_ptr(),
+                $lent.l2.len(),
+                $lent.ext.as_mut_ptr(),
+                $lent.ext.len(),
+            )
+        }
+    };
+}
+
+/// The direct call of a command.
+pub fn direct(record: &mut CRecord, command: &Command, lent: Lent) -> CAnswer {
     macro_rules! call {
-        ($name:ident($($number:expr),*)) => {
-            unsafe {
-                $name(
-                    *record,
-                    $($number,)*
-                    lent.l1d.as_mut_ptr(),
-                    lent.l1d.len(),
-                    lent.l2.as_mut_ptr(),
-                    lent.l2.len(),
-                    lent.ext.as_mut_ptr(),
-                    lent.ext.len(),
-                )
-            }
-        };
+        ($name:ident($($number:expr),*)) => { call_lent!($name, record, lent $(, $number)*) };
     }
     match *command {
         Command::Read { size, address } => call!(c64x_read(size, address)),
@@ -202,24 +313,15 @@ pub fn direct(record: &CRecord, command: &Command, lent: Lent) -> CCalled {
 }
 
 /// A fresh start.
-pub fn fresh(lent: Lent) -> CCalled {
-    unsafe {
-        c64x_fresh(
-            lent.l1d.as_mut_ptr(),
-            lent.l1d.len(),
-            lent.l2.as_mut_ptr(),
-            lent.l2.len(),
-            lent.ext.as_mut_ptr(),
-            lent.ext.len(),
-        )
-    }
+pub fn fresh(record: &mut CRecord, lent: Lent) -> CAnswer {
+    call_lent!(c64x_fresh, record, lent)
 }
 
 /// A run over a trace.
-pub fn run(record: &CRecord, trace: &[u8], lent: Lent, answers: &mut [u8]) -> CRun {
+pub fn run(record: &mut CRecord, trace: &[u8], lent: Lent, answers: &mut [u8]) -> CRun {
     unsafe {
         c64x_run(
-            *record,
+            record,
             trace.as_ptr(),
             trace.len(),
             lent.l1d.as_mut_ptr(),
@@ -238,7 +340,7 @@ pub fn run(record: &CRecord, trace: &[u8], lent: Lent, answers: &mut [u8]) -> CR
 pub fn view(record: &CRecord, address: u32, l2: &[u8], ext: &[u8], seen: &mut [u8]) -> u8 {
     unsafe {
         c64x_view(
-            *record,
+            record,
             address,
             l2.as_ptr(),
             l2.len(),
@@ -252,17 +354,22 @@ pub fn view(record: &CRecord, address: u32, l2: &[u8], ext: &[u8], seen: &mut [u
 
 /// The number of the technician's call.
 pub fn view_number(record: &CRecord, address: u32, l2: &[u8], ext: &[u8]) -> u8 {
-    unsafe { c64x_view_number(*record, address, l2.as_ptr(), l2.len(), ext.as_ptr(), ext.len()) }
+    unsafe { c64x_view_number(record, address, l2.as_ptr(), l2.len(), ext.as_ptr(), ext.len()) }
 }
 
 // ------------------------------------------------------------- conversion
 
 fn line(line: &Line) -> CLine {
-    CLine { valid: line.valid.into(), dirty: line.dirty.into(), address: line.address }
+    CLine {
+        valid: line.valid.into(),
+        dirty: line.dirty.into(),
+        padding: [0; 2],
+        address: line.address,
+    }
 }
 
 fn l1d_set(set: &L1dSet) -> CL1dSet {
-    CL1dSet { lines: [line(&set.lines[0]), line(&set.lines[1])], order: set.order }
+    CL1dSet { lines: [line(&set.lines[0]), line(&set.lines[1])], order: set.order, padding: [0; 2] }
 }
 
 fn l2_set(set: &L2Set) -> CL2Set {
@@ -272,8 +379,8 @@ fn l2_set(set: &L2Set) -> CL2Set {
     }
 }
 
-/// The record in C's layout. C has a byte for the mode and for each MAR bit:
-/// the reference model's record must hold no larger numbers there.
+/// The record in C's layout, its padding 0. C has a byte for the mode and for
+/// each MAR bit: the reference model's record must hold no larger numbers there.
 pub fn record_of(record: &Record) -> Box<CRecord> {
     let byte = |number: u32| u8::try_from(number).expect("C's record has a byte for it");
     Box::new(CRecord {
@@ -282,6 +389,7 @@ pub fn record_of(record: &Record) -> Box<CRecord> {
         mode: byte(record.mode),
         mar128: byte(record.mar128),
         mar129: byte(record.mar129),
+        padding: 0,
         l1d: std::array::from_fn(|set| l1d_set(&record.l1d[set])),
         l2: std::array::from_fn(|set| l2_set(&record.l2[set])),
     })
@@ -305,6 +413,27 @@ fn set_words(lines: &[CLine], order: &[u8]) -> String {
         .map(|line| format!("{} {} {:#x}", line.valid, line.dirty, line.address))
         .collect();
     format!("[{}] order {order:?}", ways.join(", "))
+}
+
+/// Where the bytes of two records differ whose fields may be the same.
+pub fn byte_difference(ours: &CRecord, theirs: &CRecord) -> String {
+    if ours != theirs {
+        return record_difference(ours, theirs);
+    }
+    let places = ours.bytes().iter().zip(theirs.bytes()).enumerate();
+    let differ: Vec<_> = places.filter(|(_, (ours, theirs))| ours != theirs).collect();
+    let Some((place, (ours, theirs))) = differ.first() else { return "no difference".into() };
+    let more = differ.len();
+    format!("padding byte {place} is {ours:#04x}, expected {theirs:#04x}; {more} bytes differ")
+}
+
+/// A dirty line of external memory in either cache.
+pub fn dirty_external_line(record: &CRecord) -> Option<String> {
+    let l1d = record.l1d.iter().flat_map(|set| &set.lines).map(|line| ("L1D", line));
+    let l2 = record.l2.iter().flat_map(|set| &set.lines).map(|line| ("L2", line));
+    let is_external = |line: &CLine| line.address >= EXTERNAL_BASE;
+    let (cache, line) = l1d.chain(l2).find(|(_, line)| line.dirty != 0 && is_external(line))?;
+    Some(format!("{cache} line {:#x}", line.address))
 }
 
 /// Where two records of C's differ.
@@ -341,4 +470,59 @@ pub fn record_difference(ours: &CRecord, theirs: &CRecord) -> String {
         text.push_str(&format!("; and {more} more"));
     }
     text
+}
+
+#[cfg(test)]
+mod tests {
+    use super::{byte_difference, dirty_external_line, padding_of, record_of, Held};
+    use oracle::{Line, Record};
+
+    /// The record's own byte, 2 for each of 128 sets of L1D, 2 for each line.
+    const PADDING_BYTES: usize = 1 + 128 * 2 + (128 * 2 + 512 * 4) * 2;
+
+    #[test]
+    fn padding_is_no_field() {
+        let (clean, random) = (padding_of(0), padding_of(7));
+        assert!(*clean == *random);
+        let other = clean.bytes().iter().zip(random.bytes()).filter(|(a, b)| a != b).count();
+        // Of random bytes one in 256 is 0.
+        assert!(other <= PADDING_BYTES && other > PADDING_BYTES * 9 / 10, "{other}");
+        assert!(byte_difference(&random, &clean).starts_with("padding byte 11 is"));
+    }
+
+    #[test]
+    fn all_of_the_padding_is_filled() {
+        let (mut record, random) = (padding_of(9), padding_of(7));
+        record.pad_like(&random);
+        assert!(record.bytes() == random.bytes());
+    }
+
+    #[test]
+    fn a_field_is_told_before_padding() {
+        let (mut record, clean) = (padding_of(7), padding_of(0));
+        record.mar129 = 1;
+        assert_eq!(byte_difference(&record, &clean), "mar129 is 1, expected 0");
+    }
+
+    #[test]
+    fn records_stand_at_a_multiple_of_four_alone() {
+        let record = Held::new(&padding_of(0));
+        assert_eq!((&**record as *const super::CRecord).addr() % 16, 4);
+    }
+
+    #[test]
+    fn dirty_lines_of_external_memory_are_found() {
+        let mut record = Record::fresh(65_536, 65_536);
+        assert_eq!(dirty_external_line(&record_of(&record)), None);
+        // SRAM stays dirty through a global writeback.
+        record.l1d[1].lines[1] = Line { valid: true, dirty: true, address: 64 };
+        record.l2[0].lines[0] = Line { valid: true, dirty: false, address: 0x8000_0000 };
+        assert_eq!(dirty_external_line(&record_of(&record)), None);
+        record.l2[511].lines[3] = Line { valid: true, dirty: true, address: 0x8000_FF80 };
+        let found = dirty_external_line(&record_of(&record));
+        assert_eq!(found.as_deref(), Some("L2 line 0x8000ff80"));
+        record.l1d[127].lines[1] = Line { valid: true, dirty: true, address: 0x8000_1FC0 };
+        let found = dirty_external_line(&record_of(&record));
+        assert_eq!(found.as_deref(), Some("L1D line 0x80001fc0"));
+    }
 }

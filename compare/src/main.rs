@@ -166,6 +166,11 @@ fn run(arguments: &Arguments) -> Result<bool, String> {
     }
     println!("refusals met, 0 to 12: {:?}", met.numbers);
     println!("servers met, 0 to 4: {:?}; modes: {:?}", met.servers, met.modes);
+    println!(
+        "refused calls and views with every byte of the record kept: {}; global writebacks with \
+         nothing left dirty: {}; memories set against flat memory: {} after calls, {} after runs",
+        met.untouched, met.written_back, met.flat_memories, met.flat_runs
+    );
     let faults = met.possible_faults();
     println!(
         "ill-formed records made: {}; of each fault in each mode: {} at least",
@@ -281,6 +286,9 @@ fn met_everything(met: &Met) -> bool {
         && met.ranges.iter().flatten().all(|&count| count > 50)
         && [met.odd, met.views, met.runs, met.flat_reads].iter().all(|&count| count > 1_000)
         && met.flat_memories > 50
+        && met.flat_runs > 50
+        && met.untouched > 10_000
+        && met.written_back > 500
         && met.long_runs > 0
         && met.externals.iter().all(|&count| count > 0)
         && met.possible_faults().iter().all(|&(_, _, count)| count > 0)

@@ -12,7 +12,10 @@ use oracle::trace::{decode, ANSWER_BYTES};
 use oracle::wellformed::is_well_formed;
 use oracle::{Answer, Command, Record, RunResult};
 
-use crate::boundary::{self, record_difference, record_of, same_record, CRecord, Lent};
+use crate::boundary::{
+    self, byte_difference, dirty_external_line, padding_of, record_difference, record_of,
+    same_record, CAnswer, CRecord, Held, Lent,
+};
 use crate::now;
 use crate::plant;
 
@@ -33,12 +36,14 @@ pub enum OddPlace {
     L2Dirty { set: usize, way: usize },
 }
 
-/// Where a list of calls begins: a record with its memories, and bytes of C's
-/// record that are no bool, if there are any.
+/// Where a list of calls begins: a record with its memories, bytes of C's
+/// record that are no bool, if there are any, and what stands in its padding.
 #[derive(Clone, Debug)]
 pub struct Start {
     pub setup: Setup,
     pub odd: Vec<OddByte>,
+    /// The padding of the record before each call; see `padding_of`.
+    pub padding: u64,
     /// From fresh, with nothing dropped unwritten: flat memory has to agree.
     pub flat: bool,
 }
@@ -70,6 +75,12 @@ pub struct Met {
     pub runs: u64,
     pub flat_reads: u64,
     pub flat_memories: u64,
+    /// Runs that ended in a global writeback, with external memory compared.
+    pub flat_runs: u64,
+    /// Calls that may change no byte of the record, padding included.
+    pub untouched: u64,
+    /// Global writebacks after which dirty lines were looked for.
+    pub written_back: u64,
     /// Runs that took in more than 5,000 bytes.
     pub long_runs: u64,
     /// Lists by the length of external memory, see `count_external`.
@@ -127,6 +138,8 @@ pub enum Kind {
     /// What a run took in, and how many answers it gave.
     Counts,
     Record,
+    /// A dirty line of external memory after a global writeback.
+    Dirty,
     Bytes,
     Panic,
 }
@@ -156,7 +169,10 @@ const WHOLE_EVERY: usize = 256;
 
 /// Both sides.
 struct Pair<'a> {
-    record: Box<CRecord>,
+    record: Box<Held>,
+    /// The record as it was passed to the present call.
+    passed: Box<CRecord>,
+    padding: Box<CRecord>,
     l1d: Vec<u8>,
     l2: Vec<u8>,
     ext: Vec<u8>,
@@ -186,7 +202,9 @@ fn make(start: &Start, ops: &[Op], met: &mut Met, reached: &mut usize) -> Result
         *odd_byte(&mut record, odd.place) = odd.value;
     }
     let mut pair = Pair {
-        record,
+        record: Held::new(&record),
+        passed: record,
+        padding: padding_of(start.padding),
         l1d: start.setup.l1d.clone(),
         l2: start.setup.l2.clone(),
         ext: start.setup.ext.clone(),
@@ -277,13 +295,68 @@ fn expect_answers(ours: &[u8], theirs: &[u8], count: usize) -> Result<(), Wrong>
     })
 }
 
+/// No byte of the record is another than it was, padding included.
+fn expect_untouched(name: &str, ours: &CRecord, passed: &CRecord) -> Result<(), Wrong> {
+    if ours.bytes() == passed.bytes() {
+        return Ok(());
+    }
+    let what = format!("{name}: {}", byte_difference(ours, passed));
+    Err(Wrong { kind: Kind::Record, what })
+}
+
+/// After a global writeback in a mode other than 0 everything that was written to
+/// external memory is there. This asks the record alone, and not the reference
+/// model.
+fn expect_nothing_dirty(name: &str, ours: &CRecord) -> Result<(), Wrong> {
+    match dirty_external_line(ours) {
+        Some(line) => {
+            let what = format!("{name}: after a global writeback {line} is dirty");
+            Err(Wrong { kind: Kind::Dirty, what })
+        }
+        None => Ok(()),
+    }
+}
+
+/// Whether this was an accepted global L2 writeback in a mode other than 0.
+fn is_global(command: &Command, answer: &Answer, record: &CRecord) -> bool {
+    let global = matches!(command, Command::L2WritebackAll | Command::L2WritebackInvalidateAll);
+    global && answer.number == 0 && record.mode != 0
+}
+
+fn answer_of(called: &CAnswer) -> Answer {
+    Answer { number: called.number, server: called.server, value: called.value }
+}
+
+/// The answer that stands in these ten bytes.
+fn answer_in(bytes: &[u8]) -> Answer {
+    let value = u64::from_le_bytes(bytes[2..].try_into().expect("eight bytes"));
+    Answer { number: bytes[0], server: bytes[1], value }
+}
+
+/// The commands of a run that were answered, with their answers.
+fn carried_out(trace: &[u8], answers: &[u8], count: usize) -> Vec<(Command, Answer)> {
+    let mut place = 0;
+    let answers = answers.chunks(ANSWER_BYTES).take(count);
+    answers
+        .map(|answer| {
+            let (command, length) = decode(&trace[place..]).expect("a whole command");
+            place += length;
+            (command, answer_in(answer))
+        })
+        .collect()
+}
+
 fn first_difference(ours: &[u8], theirs: &[u8]) -> Option<usize> {
     ours.iter().zip(theirs).position(|(ours, theirs)| ours != theirs)
 }
 
 impl Pair<'_> {
-    fn lent(&mut self) -> (&CRecord, Lent<'_>) {
-        (&self.record, Lent { l1d: &mut self.l1d, l2: &mut self.l2, ext: &mut self.ext })
+    /// What is lent to a call. Calls leave in the padding what they like, so it
+    /// is filled again before each of them.
+    fn lent(&mut self) -> (&mut CRecord, Lent<'_>) {
+        self.record.pad_like(&self.padding);
+        *self.passed = **self.record;
+        (&mut self.record, Lent { l1d: &mut self.l1d, l2: &mut self.l2, ext: &mut self.ext })
     }
 
     /// The number that a record with a byte that is no bool gets: 1 if a lent
@@ -306,7 +379,7 @@ impl Pair<'_> {
         match op {
             Op::Fresh => self.fresh(),
             Op::Record(record) => {
-                self.record = record_of(record);
+                **self.record = *record_of(record);
                 self.theirs.record = record.clone();
                 self.odd = false;
                 Ok(())
@@ -323,25 +396,22 @@ impl Pair<'_> {
     fn fresh(&mut self) -> Result<(), Wrong> {
         let (record, number) =
             fresh_start(&mut self.theirs.l1d, &mut self.theirs.l2, &mut self.theirs.ext);
-        let (_, lent) = self.lent();
-        let mut called = boundary::fresh(lent);
-        plant::fresh(&mut called);
+        let (ours, lent) = self.lent();
+        let mut called = boundary::fresh(ours, lent);
+        plant::fresh(&mut called, &mut self.record, &self.passed);
         self.met.calls += 1;
         self.met.numbers[number as usize] += 1;
-        let ours = Answer { number: called.number, server: called.server, value: called.value };
-        expect_answer("answer of a fresh start", ours, Answer::refused(number))?;
-        if !same_record(&called.record, &record) {
-            let difference = record_difference(&called.record, &record_of(&record));
+        expect_answer("answer of a fresh start", answer_of(&called), Answer::refused(number))?;
+        if !same_record(&self.record, &record) {
+            let difference = record_difference(&self.record, &record_of(&record));
             let what = format!("record of a fresh start: {difference}");
             return Err(Wrong { kind: Kind::Record, what });
         }
-        if number == 0 {
-            *self.record = called.record;
-            self.theirs.record = record;
-            self.odd = false;
-            if self.flat.is_some() {
-                self.flat = Some(Flat::fresh(self.theirs.record.l, &self.theirs.ext));
-            }
+        // A refused one too leaves the record that the paper names.
+        self.theirs.record = record;
+        self.odd = false;
+        if self.flat.is_some() {
+            self.flat = Some(Flat::fresh(self.theirs.record.l, &self.theirs.ext));
         }
         Ok(())
     }
@@ -354,11 +424,16 @@ impl Pair<'_> {
         };
         let (record, lent) = self.lent();
         let mut called = boundary::direct(record, command, lent);
-        plant::direct(command, &mut called, self.lent().1);
+        let lent = Lent { l1d: &mut self.l1d, l2: &mut self.l2, ext: &mut self.ext };
+        plant::direct(command, &mut called, &mut self.record, &self.passed, lent);
         self.count(command, &theirs);
-        let ours = Answer { number: called.number, server: called.server, value: called.value };
+        let ours = answer_of(&called);
         expect_answer("answer", ours, theirs)?;
-        self.take_record(called.record)?;
+        if is_global(command, &ours, &self.record) {
+            expect_nothing_dirty("record", &self.record)?;
+            self.met.written_back += 1;
+        }
+        self.expect_record(theirs.number == 0)?;
         self.flat(command, &ours)
     }
 
@@ -381,18 +456,18 @@ impl Pair<'_> {
         }
     }
 
-    /// The record that came back is the expected one, and takes the place of
-    /// the one that went in.
-    fn take_record(&mut self, ours: CRecord) -> Result<(), Wrong> {
-        let same =
-            if self.odd { ours == *self.record } else { same_record(&ours, &self.theirs.record) };
-        if !same {
-            let expected =
-                if self.odd { self.record.clone() } else { record_of(&self.theirs.record) };
-            let what = format!("record: {}", record_difference(&ours, &expected));
+    /// The record is the expected one; where nothing was accepted, no byte of it
+    /// has changed.
+    fn expect_record(&mut self, accepted: bool) -> Result<(), Wrong> {
+        if !accepted {
+            self.met.untouched += 1;
+            return expect_untouched("record", &self.record, &self.passed);
+        }
+        if !same_record(&self.record, &self.theirs.record) {
+            let expected = record_of(&self.theirs.record);
+            let what = format!("record: {}", record_difference(&self.record, &expected));
             return Err(Wrong { kind: Kind::Record, what });
         }
-        *self.record = ours;
         Ok(())
     }
 
@@ -411,8 +486,7 @@ impl Pair<'_> {
     fn flat(&mut self, command: &Command, ours: &Answer) -> Result<(), Wrong> {
         self.flat_answer(command, ours)?;
         let Some(flat) = &mut self.flat else { return Ok(()) };
-        let global = matches!(command, Command::L2WritebackAll | Command::L2WritebackInvalidateAll);
-        if global && ours.number == 0 && self.record.mode != 0 {
+        if is_global(command, ours, &self.record) {
             plant::flat_writeback(flat);
             expect_bytes("external memory, by flat memory,", &self.ext, &flat.ext)?;
             self.met.flat_memories += 1;
@@ -420,7 +494,6 @@ impl Pair<'_> {
         Ok(())
     }
 
-    /// A run; the answer bytes that came back.
     fn run(&mut self, trace: &[u8], answer_bytes: usize) -> Result<Vec<u8>, Wrong> {
         let mut expected = vec![0xB7; answer_bytes];
         let mut answers = expected.clone();
@@ -431,7 +504,7 @@ impl Pair<'_> {
         };
         let (record, lent) = self.lent();
         let mut run = boundary::run(record, trace, lent, &mut answers);
-        plant::run(&mut run, &mut answers);
+        plant::run(&mut run, &mut answers, &mut self.record, trace);
         self.met.calls += 1;
         self.met.runs += 1;
         self.met.odd += u64::from(self.odd);
@@ -440,17 +513,23 @@ impl Pair<'_> {
         expect_run(ours, theirs)?;
         expect_answers(&answers, &expected, run.count)?;
         self.met.long_runs += u64::from(run.consumed > 5_000);
-        self.take_record(run.record)?;
-        if self.flat.is_some() {
-            let mut place = 0;
-            for answer in answers.chunks(ANSWER_BYTES).take(run.count) {
-                let (command, length) = decode(&trace[place..]).expect("a whole command");
-                place += length;
-                let value = u64::from_le_bytes(answer[2..].try_into().expect("eight bytes"));
-                let ours = Answer { number: answer[0], server: answer[1], value };
-                // The memories stand as they are after the whole run.
-                self.flat_answer(&command, &ours)?;
-            }
+        let carried_out = carried_out(trace, &answers, run.count);
+        // The record stands as it is after the whole run.
+        let global = carried_out
+            .last()
+            .is_some_and(|(command, answer)| is_global(command, answer, &self.record));
+        if global {
+            expect_nothing_dirty("record after a run", &self.record)?;
+            self.met.written_back += 1;
+        }
+        self.expect_record(carried_out.iter().any(|(_, answer)| answer.number == 0))?;
+        for (command, answer) in &carried_out {
+            self.flat_answer(command, answer)?;
+        }
+        if let (true, Some(flat)) = (global, &mut self.flat) {
+            plant::flat_run(flat);
+            expect_bytes("external memory after a run, by flat memory,", &self.ext, &flat.ext)?;
+            self.met.flat_runs += 1;
         }
         Ok(answers)
     }
@@ -461,6 +540,7 @@ impl Pair<'_> {
         let before = (self.record.clone(), self.l1d.clone(), self.l2.clone(), self.ext.clone());
         let answers = self.run(trace, answer_bytes)?;
         let (mut record, mut l1d, mut l2, mut ext) = before;
+        let mut passed = self.passed.clone();
         let refused = self.odd || {
             let fits = self.odd_number(true) == 2;
             !fits || !is_well_formed(&self.theirs.record)
@@ -469,24 +549,30 @@ impl Pair<'_> {
         let mut count = 0;
         while !refused && place < trace.len() && (count + 1) * ANSWER_BYTES <= answer_bytes {
             let Some((command, length)) = decode(&trace[place..]) else { break };
+            record.pad_like(&self.padding);
+            *passed = **record;
             let lent = Lent { l1d: &mut l1d, l2: &mut l2, ext: &mut ext };
-            let mut called = boundary::direct(&record, &command, lent);
+            let mut called = boundary::direct(&mut record, &command, lent);
             let lent = Lent { l1d: &mut l1d, l2: &mut l2, ext: &mut ext };
-            plant::direct(&command, &mut called, lent);
+            plant::direct(&command, &mut called, &mut record, &passed, lent);
             self.met.calls += 1;
             self.met.numbers[called.number as usize] += 1;
             self.met.servers[called.server as usize] += 1;
-            *record = called.record;
             let answer = &answers[count * ANSWER_BYTES..(count + 1) * ANSWER_BYTES];
-            let value = u64::from_le_bytes(answer[2..].try_into().expect("eight bytes"));
-            let single =
-                Answer { number: called.number, server: called.server, value: called.value };
-            let run = Answer { number: answer[0], server: answer[1], value };
-            expect_answer("single call's answer", single, run)?;
+            let single = answer_of(&called);
+            expect_answer("single call's answer", single, answer_in(answer))?;
+            if single.number != 0 {
+                expect_untouched("record after a single call", &record, &passed)?;
+                self.met.untouched += 1;
+            }
+            if is_global(&command, &single, &record) {
+                expect_nothing_dirty("record after a single call", &record)?;
+                self.met.written_back += 1;
+            }
             place += length;
             count += 1;
         }
-        if *record != *self.record {
+        if **record != **self.record {
             let difference = record_difference(&record, &self.record);
             let what = format!("record after single calls: {difference}");
             return Err(Wrong { kind: Kind::Record, what });
@@ -515,13 +601,16 @@ impl Pair<'_> {
         self.met.calls += 2;
         self.met.views += 1;
         self.met.numbers[number as usize] += 1;
+        self.lent();
         let mut ours = boundary::view(&self.record, address, &self.l2, &self.ext, &mut seen);
-        plant::view(&mut ours, &mut seen);
+        plant::view(&mut ours, &mut seen, &mut self.record);
         expect(Kind::Number, "number of the view", ours, expected_number)?;
         expect_bytes("viewed bytes", &seen, &expected)?;
         let mut ours = boundary::view_number(&self.record, address, &self.l2, &self.ext);
         plant::view_number(&mut ours);
-        expect(Kind::Number, "view's number", ours, number)
+        expect(Kind::Number, "view's number", ours, number)?;
+        self.met.untouched += 1;
+        expect_untouched("record after a view", &self.record, &self.passed)
     }
 
     /// Every lent byte is the expected one.

@@ -12,7 +12,7 @@ use oracle::machine::{SERVER_L1D, SERVER_L2};
 use oracle::trace::ANSWER_BYTES;
 use oracle::Command;
 
-use crate::boundary::{CCalled, CRun, Lent};
+use crate::boundary::{CAnswer, CRecord, CRun, Lent};
 use crate::pair::SMALL;
 
 /// The planted differences; `PLANTS` says what each does.
@@ -41,6 +41,14 @@ enum Plant {
     FlatWriteback,
     FlatEnd,
     FlatSram,
+    RefusedPadding,
+    PaddingSeen,
+    RunPadding,
+    ViewPadding,
+    FreshKept,
+    WritebackDirty,
+    RunDirty,
+    FlatRun,
     BenchOutput,
     BenchStatus,
 }
@@ -56,7 +64,7 @@ const fn planted(plant: Plant, name: &'static str, about: &'static str) -> Plant
     Planted { plant, name, about }
 }
 
-pub const PLANTS: [Planted; 25] = [
+pub const PLANTS: [Planted; 33] = [
     planted(Plant::ReadValue, "read-value", "a 4-byte read from L2 cache gets 1 more"),
     planted(Plant::ReadOrder, "read-order", "a read hit in L1D turns its set's order around"),
     planted(Plant::WriteNumber, "write-number", "a write refused with 6 gets 5"),
@@ -80,6 +88,14 @@ pub const PLANTS: [Planted; 25] = [
     planted(Plant::FlatWriteback, "flat-writeback", "a global writeback changes flat memory"),
     planted(Plant::FlatEnd, "flat-end", "the end of a list changes flat external memory"),
     planted(Plant::FlatSram, "flat-sram", "the end of a list changes flat SRAM"),
+    planted(Plant::RefusedPadding, "refused-padding", "a call refused with 4 changes padding"),
+    planted(Plant::PaddingSeen, "padding-seen", "a call with padding other than 0 gets 2"),
+    planted(Plant::RunPadding, "run-padding", "a run refused with 2 changes padding"),
+    planted(Plant::ViewPadding, "view-padding", "a view changes padding"),
+    planted(Plant::FreshKept, "fresh-kept", "a refused fresh start keeps the record"),
+    planted(Plant::WritebackDirty, "writeback-dirty", "a global writeback leaves a line dirty"),
+    planted(Plant::RunDirty, "run-dirty", "a run that ends in one leaves a line dirty"),
+    planted(Plant::FlatRun, "flat-run", "a run that ends in one changes flat memory"),
     planted(Plant::BenchOutput, "bench-output", "bench-trace prints a line more after an 8"),
     planted(Plant::BenchStatus, "bench-status", "bench-trace fails after a 7"),
 ];
@@ -104,8 +120,27 @@ fn change(byte: Option<&mut u8>) {
     }
 }
 
-/// What a direct call gave back, and the memories after it.
-pub fn direct(command: &Command, called: &mut CCalled, lent: Lent) {
+/// Whether this is a global L2 writeback.
+fn is_global(command: &Command) -> bool {
+    matches!(command, Command::L2WritebackAll | Command::L2WritebackInvalidateAll)
+}
+
+/// Makes the first line that L2 holds dirty.
+fn make_dirty(record: &mut CRecord) {
+    let mut lines = record.l2.iter_mut().flat_map(|set| &mut set.lines);
+    if let Some(line) = lines.find(|line| line.valid == 1) {
+        line.dirty = 1;
+    }
+}
+
+/// What a direct call gave back, and the record and the memories after it.
+pub fn direct(
+    command: &Command,
+    called: &mut CAnswer,
+    record: &mut CRecord,
+    passed: &CRecord,
+    lent: Lent,
+) {
     let Some(plant) = CHOSEN.get() else { return };
     let accepted = called.number == 0;
     match (plant, *command) {
@@ -113,11 +148,11 @@ pub fn direct(command: &Command, called: &mut CCalled, lent: Lent) {
             called.value += 1;
         }
         (Plant::ReadOrder, Command::Read { address, .. }) if called.server == SERVER_L1D => {
-            called.record.l1d[L1d::set_of(address)].order.swap(0, 1);
+            record.l1d[L1d::set_of(address)].order.swap(0, 1);
         }
         (Plant::WriteNumber, Command::Write { .. }) if called.number == 6 => called.number = 5,
         (Plant::NoBool, _) => {
-            for line in called.record.l1d.iter_mut().flat_map(|set| &mut set.lines) {
+            for line in record.l1d.iter_mut().flat_map(|set| &mut set.lines) {
                 line.valid = line.valid.min(1);
             }
         }
@@ -131,34 +166,45 @@ pub fn direct(command: &Command, called: &mut CCalled, lent: Lent) {
             change(lent.ext.get_mut(SMALL));
         }
         (Plant::Panic, Command::Mode { mode: 2 }) if accepted => panic!("planted"),
+        (Plant::RefusedPadding, _) if called.number == 4 => change(Some(record.some_padding())),
+        (Plant::PaddingSeen, _) if accepted && *passed.clone().some_padding() != 0 => {
+            *record = *passed;
+            *called = CAnswer { value: 0, number: 2, server: 0 };
+        }
+        (Plant::WritebackDirty, _) if accepted && is_global(command) => make_dirty(record),
         _ => {}
     }
 }
 
-/// What a fresh start gave back.
-pub fn fresh(called: &mut CCalled) {
+/// What a fresh start gave back, and the record after it.
+pub fn fresh(called: &mut CAnswer, record: &mut CRecord, passed: &CRecord) {
     match CHOSEN.get() {
         Some(Plant::FreshNumber) if called.number == 1 => called.number = 2,
-        Some(Plant::FreshRecord) if called.number == 0 => called.record.mar129 = 1,
+        Some(Plant::FreshRecord) if called.number == 0 => record.mar129 = 1,
+        Some(Plant::FreshKept) if called.number == 1 => *record = *passed,
         _ => {}
     }
 }
 
-/// What a run gave back, and its answer bytes.
-pub fn run(run: &mut CRun, answers: &mut [u8]) {
+/// What a run gave back, its answer bytes, and the record after it.
+pub fn run(run: &mut CRun, answers: &mut [u8], record: &mut CRecord, trace: &[u8]) {
     let behind = run.count * ANSWER_BYTES;
     match CHOSEN.get() {
         Some(Plant::RunCounts) if run.stop == 12 => run.consumed += 1,
         Some(Plant::RunAnswer) if run.count >= 3 => change(answers.get_mut(2 * ANSWER_BYTES + 1)),
         Some(Plant::RunLater) if run.stop == 11 => change(answers.get_mut(behind)),
-        Some(Plant::RunRecord) if run.count >= 2 => run.record.mar129 ^= 1,
+        Some(Plant::RunRecord) if run.count >= 2 => record.mar129 ^= 1,
+        Some(Plant::RunPadding) if run.stop == 2 => change(Some(record.some_padding())),
+        // A code that is a whole command.
+        Some(Plant::RunDirty) if run.stop == 0 && trace.last() == Some(&2) => make_dirty(record),
         _ => {}
     }
 }
 
-/// The number of a view, and the bytes that it wrote.
-pub fn view(number: &mut u8, seen: &mut [u8]) {
+/// The number of a view, the bytes that it wrote, and the record after it.
+pub fn view(number: &mut u8, seen: &mut [u8], record: &mut CRecord) {
     match CHOSEN.get() {
+        Some(Plant::ViewPadding) => change(Some(record.some_padding())),
         Some(Plant::ViewNumber) if *number == 5 => *number = 4,
         Some(Plant::ViewBytes) if *number == 0 => change(seen.get_mut(63)),
         _ => {}
@@ -184,6 +230,13 @@ pub fn flat_answer(command: &Command, number: &mut u8, value: &mut u64) {
 /// Flat memory after a global writeback.
 pub fn flat_writeback(flat: &mut Flat) {
     if CHOSEN.get() == Some(&Plant::FlatWriteback) {
+        change(flat.ext.last_mut());
+    }
+}
+
+/// Flat memory after a run that ends in a global writeback.
+pub fn flat_run(flat: &mut Flat) {
+    if CHOSEN.get() == Some(&Plant::FlatRun) {
         change(flat.ext.last_mut());
     }
 }

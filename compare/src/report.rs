@@ -40,6 +40,9 @@ pub fn report(case: &Case) {
         }
     }
     report_record(&setup.record);
+    if case.start.padding != 0 {
+        println!("  padding: random");
+    }
     for odd in &case.start.odd {
         println!("  no bool: {odd:?}");
     }

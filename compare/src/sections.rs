@@ -57,8 +57,9 @@ fn check(start: Start, ops: Vec<Op>, met: &mut Met) -> Option<Case> {
     compare(&start, &ops, met).map(|difference| Case { start, ops, difference })
 }
 
-fn plain(setup: Setup) -> Start {
-    Start { setup, odd: Vec::new(), flat: false }
+/// A list that begins with a record and memories, and with padding of any kind.
+fn plain(rng: &mut Rng, setup: Setup) -> Start {
+    Start { setup, odd: Vec::new(), padding: rng.next_u64(), flat: false }
 }
 
 /// C's record has a byte for the mode and for each MAR bit. A larger number of
@@ -175,7 +176,7 @@ fn records(rng: &mut Rng, group: u64, met: &mut Met) -> Option<Case> {
             ops.push(op_of(call, rng));
         }
     }
-    check(plain(setup), ops, met)
+    check(plain(rng, setup), ops, met)
 }
 
 // ------------------------------------------------------------------ lists
@@ -234,15 +235,24 @@ fn lists(rng: &mut Rng, group: u64, met: &mut Met) -> Option<Case> {
         if rng.chance(1, 200) {
             let count = rng.below(30) as usize;
             let kind = rng.pick(&[TraceKind::Valid, TraceKind::CutOff, TraceKind::UnknownCode]);
-            let made = gen::trace(rng, &lines, &mix, count, kind);
-            let answer_bytes = 10 * count + rng.below(12) as usize;
-            ops.push(Op::Run { trace: made.bytes, answer_bytes });
+            let mut trace = gen::trace(rng, &lines, &mix, count, kind).bytes;
+            let mut answer_bytes = 10 * count + rng.below(12) as usize;
+            // After a run that ends in a global writeback external memory is known.
+            if kind == TraceKind::Valid && rng.chance(2, 3) {
+                encode(&global_writeback(rng), &mut trace);
+                answer_bytes += 10;
+            }
+            ops.push(Op::Run { trace, answer_bytes });
         } else {
             ops.push(Op::Direct(command(rng, &lines, &mix)));
         }
     }
     let flat = mix.l1d_invalidate_all == 0;
-    check(Start { setup, odd: Vec::new(), flat }, ops, met)
+    check(Start { flat, ..plain(rng, setup) }, ops, met)
+}
+
+fn global_writeback(rng: &mut Rng) -> Command {
+    rng.pick(&[Command::L2WritebackAll, Command::L2WritebackInvalidateAll])
 }
 
 // ----------------------------------------------------------------- traces
@@ -256,7 +266,10 @@ fn traces(rng: &mut Rng, group: u64, met: &mut Met) -> Option<Case> {
     if group % 160 == 80 {
         let setup = setup_in_mode(rng, mode, l, e);
         let ops = long_traces(rng, &setup);
-        return check(plain(setup), ops, met);
+        return check(plain(rng, setup), ops, met);
+    }
+    if group % 8 == 4 {
+        return flat_traces(rng, l, e, met);
     }
     let setup = if group % 4 == 0 {
         let mut ext = vec![0; e as usize];
@@ -297,7 +310,33 @@ fn traces(rng: &mut Rng, group: u64, met: &mut Met) -> Option<Case> {
         ops.push(Op::Run { trace: vec![0, 0x80], answer_bytes });
         ops.push(Op::Run { trace: vec![], answer_bytes });
     }
-    check(plain(setup), ops, met)
+    check(plain(rng, setup), ops, met)
+}
+
+/// Runs from a fresh start that end in a global writeback, set against flat memory
+/// too.
+fn flat_traces(rng: &mut Rng, l: u32, e: u32, met: &mut Met) -> Option<Case> {
+    let mut ext = vec![0; e as usize];
+    rng.fill(&mut ext);
+    let setup = Setup::fresh_over(l, ext);
+    let lines = hot(rng, l, e);
+    let mut modes = LEGAL_MODES.to_vec();
+    modes.retain(|&mode| mode != 0 && mode_is_legal(l, mode));
+    let mut ops = Vec::new();
+    for turn in 0..8 {
+        let mut trace = Vec::new();
+        if turn == 0 {
+            encode(&Command::Mar { number: 128, bit: 1 }, &mut trace);
+        }
+        if turn == 0 || rng.chance(1, 3) {
+            encode(&Command::Mode { mode: rng.pick(&modes) }, &mut trace);
+        }
+        let count = rng.below(40) as usize;
+        trace.extend(gen::trace(rng, &lines, &Mix::NO_DROPS, count, TraceKind::Valid).bytes);
+        encode(&global_writeback(rng), &mut trace);
+        ops.push(Op::RunAndSingleCalls { trace, answer_bytes: 10 * (count + 3) });
+    }
+    check(Start { flat: true, ..plain(rng, setup) }, ops, met)
 }
 
 /// A trace of 20,000 bytes, with answer bytes for all of it and for a part.
@@ -408,7 +447,7 @@ fn ill_formed(rng: &mut Rng, turn: u64, met: &mut Met) -> Option<Case> {
     }
     ops.push(Op::Fresh);
     ops.push(Op::Direct(Command::Read { size: 8, address: 0 }));
-    check(plain(setup), ops, met)
+    check(plain(rng, setup), ops, met)
 }
 
 /// A byte that stands for a bool and is neither 0 nor 1.
@@ -417,7 +456,7 @@ fn odd_bytes(rng: &mut Rng, turn: u64, met: &mut Met) -> Option<Case> {
     let mut setup = Setup::random(rng, l, e);
     for _ in 0..if e >= RANGE_BYTES { 1 } else { 6 } {
         setup.redraw_record_in_mode(rng, mode);
-        let mut start = plain(setup.clone());
+        let mut start = plain(rng, setup.clone());
         for _ in 0..rng.pick(&[1, 1, 1, 2, 40]) {
             let (l1d, l2) = (rng.below(128) as usize, rng.below(512) as usize);
             let place = match rng.below(8) {
@@ -468,7 +507,7 @@ fn wrong_lengths(rng: &mut Rng, turn: u64, met: &mut Met) -> Option<Case> {
     }
     let lines = hot(rng, l, e);
     let ops = some_calls(rng, &lines, true);
-    check(plain(setup), ops, met)
+    check(plain(rng, setup), ops, met)
 }
 
 /// A record of no sense at all, over memories of any length.
@@ -489,7 +528,7 @@ fn senseless(rng: &mut Rng, turn: u64, met: &mut Met) -> Option<Case> {
     let lines = hot(rng, l, e);
     let fresh_too = rng.chance(1, 2);
     let ops = some_calls(rng, &lines, fresh_too);
-    check(plain(setup), ops, met)
+    check(plain(rng, setup), ops, met)
 }
 
 /// Well-formed records with a field or two changed, whatever comes of it: both
@@ -512,7 +551,7 @@ fn changed(rng: &mut Rng, turn: u64, met: &mut Met) -> Option<Case> {
         }
         ops.push(Op::View { address: look_address(rng, &lines), buffer: 64 });
     }
-    check(plain(setup), ops, met)
+    check(plain(rng, setup), ops, met)
 }
 
 /// Changes one field of a record: more often one that says something.
@@ -612,7 +651,7 @@ fn edges(rng: &mut Rng, turn: u64, met: &mut Met) -> Option<Case> {
             ops.push(Op::View { address, buffer: view_buffer(rng) });
         }
     }
-    check(plain(setup), ops, met)
+    check(plain(rng, setup), ops, met)
 }
 
 /// Numbers 9 and 10 at their edges: with and without a line of the range.
@@ -638,7 +677,7 @@ fn mar_edges(rng: &mut Rng, met: &mut Met) -> Option<Case> {
             }
         }
     }
-    check(plain(setup), ops, met)
+    check(plain(rng, setup), ops, met)
 }
 
 // ------------------------------------------------------------------ views
@@ -661,5 +700,5 @@ fn views(rng: &mut Rng, group: u64, met: &mut Met) -> Option<Case> {
         ops.push(Op::View { address: EXTERNAL_BASE, buffer });
         ops.push(Op::View { address: 1, buffer });
     }
-    check(plain(setup), ops, met)
+    check(plain(rng, setup), ops, met)
 }

@@ -73,6 +73,7 @@ pub fn shrink(case: Case) -> Case {
         shrinker.shorten_traces();
         shrinker.shorten_answers();
         shrinker.drop_odd_bytes();
+        shrinker.clear_padding();
         shrinker.empty_sets();
         shrinker.empty_ways();
         if shrinker.case.size() == before || shrinker.is_over() {
@@ -123,11 +124,8 @@ impl Shrinker {
         for op in &ops[..difference.op] {
             match op {
                 Op::Fresh => {
-                    let (record, number) =
-                        fresh_start(&mut setup.l1d, &mut setup.l2, &mut setup.ext);
-                    if number == 0 {
-                        setup.record = record;
-                    }
+                    let (record, _) = fresh_start(&mut setup.l1d, &mut setup.l2, &mut setup.ext);
+                    setup.record = record;
                 }
                 Op::Record(record) => setup.record = record.clone(),
                 Op::Direct(command) => {
@@ -140,7 +138,8 @@ impl Shrinker {
             }
         }
         let last = ops[difference.op..].to_vec();
-        self.try_case(Start { setup, odd: Vec::new(), flat: false }, last);
+        let padding = start.padding;
+        self.try_case(Start { setup, odd: Vec::new(), padding, flat: false }, last);
     }
 
     /// Tries shorter external memories, which make all further tries quicker too,
@@ -267,6 +266,14 @@ impl Shrinker {
         for place in (0..self.case.start.odd.len()).rev() {
             let mut start = self.case.start.clone();
             start.odd.remove(place);
+            self.try_start(start);
+        }
+    }
+
+    /// Makes the padding of the record 0.
+    fn clear_padding(&mut self) {
+        if self.case.start.padding != 0 {
+            let start = Start { padding: 0, ..self.case.start.clone() };
             self.try_start(start);
         }
     }

@@ -1,9 +1,12 @@
-//! "Flat memory": what a program sees that knows nothing of caches.
+//! "Flat memory": what a program sees that knows nothing of caches. It shares
+//! no function with the machine that it is set against, so that a mistake in a
+//! size, a place or a check of that one is seen. Only the commands' names are
+//! those of the trace.
 
-use crate::access::{load, store};
-use crate::calls::check_access;
-use crate::geometry::{external_offset, mode_is_legal, sram_size, EXTERNAL_BASE};
 use crate::trace::Command;
+
+/// "External: E bytes, ... at address 80000000h."
+const EXTERNAL_AT: u64 = 0x8000_0000;
 
 /// "State: L, E, S, S bytes of SRAM, E of external memory."
 #[derive(Clone, PartialEq, Eq, Debug)]
@@ -21,47 +24,79 @@ impl Flat {
         Flat { l, e: ext.len() as u32, s: l, sram: vec![0; l as usize], ext: ext.to_vec() }
     }
 
+    /// The byte at an address, if there is one: SRAM is "at address 0", "the
+    /// first S" bytes, external memory "at address 80000000h", E bytes.
+    fn byte(&mut self, address: u64) -> Option<&mut u8> {
+        if address < u64::from(self.s) {
+            return Some(&mut self.sram[address as usize]);
+        }
+        if (EXTERNAL_AT..EXTERNAL_AT + u64::from(self.e)).contains(&address) {
+            return Some(&mut self.ext[(address - EXTERNAL_AT) as usize]);
+        }
+        None
+    }
+
     /// "A read or write gets the lowest number due among checks 3 to 6, by
-    /// this S. If none is due, a read's value is the bytes at its address,
+    /// this S." 0 when none is due. A read has no value to check.
+    fn due(&mut self, size: u32, address: u32, value: Option<u64>) -> u8 {
+        // "3: size not 1, 2, 4, 8". No check below it is asked of such a size.
+        if !matches!(size, 1 | 2 | 4 | 8) {
+            return 3;
+        }
+        // "4: address not a multiple of the size"
+        let unaligned = address & (size - 1) != 0;
+        // "5: access ... not wholly in SRAM or external memory". The two do not
+        // adjoin, so bytes that all exist lie in one of them.
+        let first = u64::from(address);
+        let outside = (first..first + u64::from(size)).any(|at| self.byte(at).is_none());
+        // "6: value needs more bytes than the size"
+        let needed = value.map_or(0, |value| (64 - value.leading_zeros()).div_ceil(8));
+        let too_wide = needed > size;
+        let checks = [(4, unaligned), (5, outside), (6, too_wide)];
+        checks.into_iter().filter(|check| check.1).map(|check| check.0).min().unwrap_or(0)
+    }
+
+    /// "If none is due, a read's value is the bytes at its address,
     /// little-endian". The number, and the value, which is 0 with a refusal.
-    pub fn read(&self, size: u32, address: u32) -> (u8, u64) {
-        let number = check_access(self.s, self.e, size, address, 0);
-        if number != 0 {
-            return (number, 0);
+    pub fn read(&mut self, size: u32, address: u32) -> (u8, u64) {
+        let number = self.due(size, address, None);
+        let mut value = 0;
+        if number == 0 {
+            for place in 0..size {
+                let byte = *self.byte(u64::from(address) + u64::from(place)).expect("check 5");
+                value += u64::from(byte) << (8 * place);
+            }
         }
-        if address < EXTERNAL_BASE {
-            (0, load(&self.sram, address as usize, size))
-        } else {
-            (0, load(&self.ext, external_offset(address), size))
-        }
+        (number, value)
     }
 
     /// "and a write puts its value there likewise."
     pub fn write(&mut self, size: u32, address: u32, value: u64) -> u8 {
-        let number = check_access(self.s, self.e, size, address, value);
-        if number != 0 {
-            return number;
+        let number = self.due(size, address, Some(value));
+        if number == 0 {
+            for place in 0..size {
+                let at = u64::from(address) + u64::from(place);
+                *self.byte(at).expect("check 5") = (value >> (8 * place) & 0xFF) as u8;
+            }
         }
-        if address < EXTERNAL_BASE {
-            store(&mut self.sram, address as usize, size, value);
-        } else {
-            store(&mut self.ext, external_offset(address), size, value);
-        }
-        0
+        number
     }
 
     /// "A mode change gets 8 if that is due. If not, S becomes L − C for the
     /// new mode; SRAM bytes below the smaller of old and new S are kept, the
     /// other SRAM bytes are zero."
     pub fn change_mode(&mut self, mode: u32) -> u8 {
-        if !mode_is_legal(self.l, mode) {
-            return 8;
-        }
-        let new_s = sram_size(self.l, mode);
-        let kept = self.s.min(new_s);
-        self.sram.truncate(kept as usize);
-        self.sram.resize(new_s as usize, 0);
-        self.s = new_s;
+        // "The cache size C goes by mode: 0 is 0; 1 is 32,768; 2 is 65,536; 3 is
+        // 131,072; 7 is 262,144."
+        let sizes = [(0, 0), (1, 32_768), (2, 65_536), (3, 131_072), (7, 262_144)];
+        let size = sizes.into_iter().find(|&(named, _)| named == mode).map(|(_, c)| c);
+        // "8: mode not 0 to 3 or 7, or C above L"
+        let Some(s) = size.and_then(|c| self.l.checked_sub(c)) else { return 8 };
+        let kept = self.s.min(s) as usize;
+        let mut sram = vec![0; s as usize];
+        sram[..kept].copy_from_slice(&self.sram[..kept]);
+        self.sram = sram;
+        self.s = s;
         0
     }
 

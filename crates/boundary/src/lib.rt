@@ -229,11 +229,11 @@ pub extern "C" fn c64x_run(
 }
 
 #[no_mangle]
-pub extern "C" fn c64x_view<'a>(
+pub extern "C" fn c64x_view(
     words: &[u32; WORDS],
     address: u32,
-    l2: &'a [u8],
-    ext: &'a [u8],
+    l2: &[u8],
+    ext: &[u8],
     seen: &mut [u8],
 ) -> u8
     ensures { λ n. ⌜ seenAs n (now (seen .exit))

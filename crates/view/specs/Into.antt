@@ -1,18 +1,18 @@
 -- A view that goes into a buffer of the caller's, as C asks for it: a part of a slice cannot be returned there. What it leaves, and each way through the code.
-use Prim.Native.Nat.{ℕ, _≤_, _<_}
-use mathlib.Core.Bool.{cond}
-use mathlib.Core.List.{List, []}
-use mathlib.Core.Path.{_≡_, refl, ap, _∙_}
-use native.Mathlib.Omega.{arith}
+use Prim.Native.Nat.{ℕ, _-_, _≤_, _<_}
+use mathlib.Core.Bool.{true, false, cond}
+use mathlib.Core.List.{List}
+use mathlib.Core.Path.{_≡_, refl, sym, _∙_}
+use mathlib.Core.Logic.{_≢_}
 use lib.ListN.{length}
 use lib.Dec.{ltb, eqb}
-use borrow.Author.Tests.{lt-ltb, le-ltb, eqb-true}
+use borrow.Author.Tests.{lt-ltb, le-ltb, eq-eqb, ne-eqb}
 use Rattle.model.specs.Bytes.{part, stored}
 use Rattle.model.specs.Refusals.{viewDue}
+use Rattle.model.specs.Memories.{externalBase}
+use Rattle.model.specs.Homes.{memoryPart}
 use Rattle.model.specs.Calls.{viewCall}
-use Rattle.model.specs.Laws.{bool}
 use Rattle.model.specs.declared.Record.{Record}
-use Rattle.view.specs.Seen.{view-long, whole-part}
 
 -- the number, and the bytes of the buffer
 pub record Into : Type 0 where
@@ -33,19 +33,17 @@ module _ (r : Record) (a : ℕ) (m e o : List ℕ) where
   unfolding viewInto
   into-short h = rw (lt-ltb (length o) 64 h) refl
 
-  module _ (h : 64 ≤ length o) (p : List ℕ) (ep : p ≡ viewCall r m e a) where
-    -- an empty part is that of a refused view
-    pub into-refused : length p < 64 → (n : ℕ) → n ≡ viewDue r m e a → seenAs n o ≡ viewInto r a m e o
+  module _ (h : 64 ≤ length o) (n : ℕ) (en : n ≡ viewDue r m e a) where
+    pub into-refused : n ≢ 0 → seenAs n o ≡ viewInto r a m e o
     unfolding viewInto
-    into-refused k n en =
-        bool (eqb (viewDue r m e a) 0)
-        (λ z. let l = ap length ep ∙ view-long r m e a (eqb-true (viewDue r m e a) 0 z) in absurd (omega arith))
-        (λ z. rw (le-ltb (length o) 64 h, z, en) refl)
+    into-refused k = rw (le-ltb (length o) 64 h, ne-eqb (viewDue r m e a) 0 (λ z. k (en ∙ z)), en) refl
 
-    pub into-done : 64 ≤ length p → (o′ : List ℕ) → o′ ≡ stored o 0 (part p 0 64) → seenAs 0 o′ ≡ viewInto r a m e o
-    unfolding viewInto viewCall
-    into-done k o′ eo =
-        bool (eqb (viewDue r m e a) 0)
-        (λ z. let l = ap length ep ∙ view-long r m e a (eqb-true (viewDue r m e a) 0 z) in
-        rw (le-ltb (length o) 64 h, z, eo, whole-part p l, ep) (rw z refl))
-        (λ z. let n : viewCall r m e a ≡ [] = rw z refl in let l : length p ≡ 0 = ap length (ep ∙ n) in absurd (omega arith))
+    -- accepted: the bytes come from the place of the address, of external memory or of SRAM
+    module _ (z : n ≡ 0) (o′ : List ℕ) (p : ℕ) where
+      pub into-external : ltb a externalBase ≡ false → p ≡ a - externalBase → o′ ≡ stored o 0 (part e p 64) → seenAs 0 o′ ≡ viewInto r a m e o
+      unfolding viewInto viewCall memoryPart
+      into-external x ep eo = rw (le-ltb (length o) 64 h, eq-eqb (viewDue r m e a) 0 (sym en ∙ z), x, eo, ep) refl
+
+      pub into-sram : ltb a externalBase ≡ true → p ≡ a → o′ ≡ stored o 0 (part m p 64) → seenAs 0 o′ ≡ viewInto r a m e o
+      unfolding viewInto viewCall memoryPart
+      into-sram x ep eo = rw (le-ltb (length o) 64 h, eq-eqb (viewDue r m e a) 0 (sym en ∙ z), x, eo, ep) refl

@@ -2,7 +2,7 @@
 use Prim.Native.Nat.{ℕ, zero, suc, _+_, _-_, _%_, _≤_, _<_}
 use mathlib.Core.Bool.{true, false, _&&_}
 use mathlib.Core.List.{List, []}
-use mathlib.Core.Path.{_≡_, refl, _∙_}
+use mathlib.Core.Path.{_≡_, refl}
 use native.Mathlib.Omega.{arith}
 use native.Mathlib.Nat.{add-sub-cancel-left}
 use lib.ListN.{length, take, drop}
@@ -13,9 +13,7 @@ use Rattle.model.specs.Records.{sramOf, wellFormed}
 use Rattle.model.specs.Homes.{memoryPart}
 use Rattle.model.specs.Refusals.{viewDue, viewLentDue, lentL2, lentExternal, placeOk, lowestDue, unless}
 use Rattle.model.specs.Calls.{viewCall}
-use Rattle.model.specs.Bytes.{part}
-use Rattle.model.specs.Laws.{bool, both-true, part-inside, length-part}
-use lib.Seq.{take-all}
+use Rattle.model.specs.Laws.{both-true, part-inside}
 use Rattle.model.specs.declared.Record.{Record}
 use Rattle.model.specs.Laws.{lowestDue-none, unless-none}
 
@@ -71,16 +69,3 @@ is-low a e = ltb-true a externalBase e
 
 pub is-high : (a : ℕ) → ltb a externalBase ≡ false → externalBase ≤ a
 is-high a e = ltb-false a externalBase e
-
--- an accepted view is 64 bytes long
-pub view-long : (r : Record) (m e : List ℕ) (a : ℕ) → viewDue r m e a ≡ 0 → length (viewCall r m e a) ≡ 64
-unfolding viewCall memoryPart
-view-long r m e a h =
-    let s = view-tells r m e a h in
-    bool (ltb a externalBase)
-    (λ t. rw (eq-eqb (viewDue r m e a) 0 h, t) (length-part m a 64 (s .low (ltb-true a externalBase t))))
-    (λ t. rw (eq-eqb (viewDue r m e a) 0 h, t) (length-part e (a - externalBase) 64 (s .high (ltb-false a externalBase t))))
-
--- of 64 bytes the first 64 are all
-pub whole-part : (p : List ℕ) → length p ≡ 64 → part p 0 64 ≡ p
-whole-part p l = part-inside p 0 64 (omega arith) ∙ take-all 64 p (omega arith)

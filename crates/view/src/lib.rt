@@ -59,7 +59,7 @@ pub fn view<'a>(tags: &[u32], l2: &'a [u8], ext: &'a [u8], address: u32) -> &'a 
 }
 
 // The 64 bytes go into the front of a lent buffer; one of fewer bytes is a lent length that is illegal. Returns the number, 0 when accepted.
-pub fn view_into<'a>(tags: &[u32], address: u32, l2: &'a [u8], ext: &'a [u8], seen: &mut [u8]) -> u8
+pub fn view_into(tags: &[u32], address: u32, l2: &[u8], ext: &[u8], seen: &mut [u8]) -> u8
     requires { ⌜ length (now tags) ≡ recordWords ⌝ }
     ensures { λ n. ⌜ seenAs n (now (seen .exit))
         ≡ viewInto (recordIn (now (tags .entry))) address (now (l2 .entry)) (now (ext .entry)) (now (seen .entry)) ⌝ }
@@ -67,11 +67,14 @@ pub fn view_into<'a>(tags: &[u32], address: u32, l2: &'a [u8], ext: &'a [u8], se
     if seen.len() < L1d::LINE {
         return 1;
     }
-    // a refused view is empty: its number is asked for only then, so that the record of an accepted one is tested once
-    let part = view(tags, l2, ext, address);
-    if part.len() < L1d::LINE {
-        return view_due(tags, l2, ext, address);
+    let due = view_due(tags, l2, ext, address);
+    if due != 0 {
+        return due;
     }
-    memory::move64(seen, 0, part, 0);
+    if geometry::is_external(address) {
+        memory::move64(seen, 0, ext, geometry::external_place(address));
+        return 0;
+    }
+    memory::move64(seen, 0, l2, geometry::place_of(address));
     0
 }

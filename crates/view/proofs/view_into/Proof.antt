@@ -1,6 +1,8 @@
--- `view::view_into` meets its contract: a short buffer and an empty part leave the buffer as it is, each with its number; else its front gets the 64 bytes.
-use Rattle.view.specs.Into.{into-short, into-refused, into-done}
+-- `view::view_into` meets its contract: a short buffer and a number that is due leave the buffer as it is; else its front gets the 64 bytes.
+use Rattle.view.specs.Into.{into-short, into-refused, into-external, into-sram}
 use Rattle.tags.specs.Words.{recordIn}
+use mathlib.Core.Path.{ap, _∙_}
+use mathlib.Core.Bool.{not}
 use borrow.Author.Needs.{needs}
 use Rattle.view.proofs.view_into.Statement.{statement}
 use Rattle.view.proofs.view_into.Tie as tie
@@ -9,16 +11,18 @@ returns : tie.Need-returns
 returns c =
     let a = (c .before .before .before .before .before) .args in into-short (recordIn (a .tags .now)) (a .address) (a .l2 .now) (a .ext .now) (a .seen .now) ((c .if1) .taken)
 
-view-requires : tie.Need-view-requires
-view-requires c κs = search needs
-
 view-due-requires : tie.Need-view-due-requires
 view-due-requires c κs = search needs
 
 returns-2 : tie.Need-returns-2
 returns-2 c =
-    let a = (c .before .before .before .before .before .before .before .before) .args in into-refused (recordIn (a .tags .now)) (a .address) (a .l2 .now) (a .ext .now) (a .seen .now) ((c .before .before .before .if1) .left) ((c .before .before .view) .result .now) ((c .before .before .view) .ensures)
-    ((c .before .if2) .taken) ((c .view-due) .result) ((c .view-due) .ensures)
+    let a = (c .before .before .before .before .before .before .before) .args in into-refused (recordIn (a .tags .now)) (a .address) (a .l2 .now) (a .ext .now) (a .seen .now) ((c .before .before .if1) .left) ((c .before .view-due) .result) ((c .before .view-due) .ensures) ((c .if2) .taken)
+
+is-external-requires : tie.Need-is-external-requires
+is-external-requires c κs = search needs
+
+external-place-requires : tie.Need-external-place-requires
+external-place-requires c κs = search needs
 
 move64-requires : tie.Need-move64-requires
 move64-requires c κs = search needs
@@ -28,17 +32,36 @@ same-length c = search needs
 
 returns-3 : tie.Need-returns-3
 returns-3 c =
-    let a = (c .before .before .before .before .before .before .before .before .before .before .before) .args in into-done (recordIn (a .tags .now)) (a .address) (a .l2 .now) (a .ext .now) (a .seen .now) ((c .before .before .before .before .before .before .if1) .left) ((c .before .before .before .before .before .view) .result .now) ((c .before .before .before .before .before .view) .ensures)
-    ((c .before .before .before .before .if2) .left) ((c .before .before .move64) .last .0) ((c .before .before .move64) .ensures)
+    let a = (c .before .before .before .before .before .before .before .before .before .before .before .before .before .before) .args in into-external (recordIn (a .tags .now)) (a .address) (a .l2 .now) (a .ext .now) (a .seen .now) ((c .before .before .before .before .before .before .before .before .before .if1) .left) ((c .before .before .before .before .before .before .before .before .view-due) .result) ((c .before .before .before .before .before .before .before .before .view-due) .ensures) ((c .before .before .before .before .before .before .before .if2) .left)
+    ((c .before .before .move64) .last .0) ((c .before .before .before .external-place) .result) ((c .before .before .before .before .before .before .is-external) .ensures ∙ ap not ((c .before .before .before .before .before .if3) .taken)) ((c .before .before .before .external-place) .ensures .0) ((c .before .before .move64) .ensures)
+
+place-of-requires : tie.Need-place-of-requires
+place-of-requires c κs = search needs
+
+move64-requires-2 : tie.Need-move64-requires-2
+move64-requires-2 c κs = search needs
+
+same-length-2 : tie.Need-same-length-2
+same-length-2 c = search needs
+
+returns-4 : tie.Need-returns-4
+returns-4 c =
+    let a = (c .before .before .before .before .before .before .before .before .before .before .before .before .before .before) .args in into-sram (recordIn (a .tags .now)) (a .address) (a .l2 .now) (a .ext .now) (a .seen .now) ((c .before .before .before .before .before .before .before .before .before .if1) .left) ((c .before .before .before .before .before .before .before .before .view-due) .result) ((c .before .before .before .before .before .before .before .before .view-due) .ensures) ((c .before .before .before .before .before .before .before .if2) .left)
+    ((c .before .before .move642) .last .0) ((c .before .before .before .place-of) .result) ((c .before .before .before .before .before .before .is-external) .ensures ∙ ap not ((c .before .before .before .before .before .if3) .left)) ((c .before .before .before .place-of) .ensures .0) ((c .before .before .move642) .ensures)
 
 pub view-into-spec : {M : Type 1} → statement M
 view-into-spec =
     tie.close
     (tie.spec
     returns
-    view-requires
     view-due-requires
     returns-2
+    is-external-requires
+    external-place-requires
     move64-requires
     same-length
-    returns-3)
+    returns-3
+    place-of-requires
+    move64-requires-2
+    same-length-2
+    returns-4)

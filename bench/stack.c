@@ -1,0 +1,250 @@
+/* How much stack each call of include/c64x.h takes. A call is made on a stack of its own that is filled with a known
+   byte before; the lowest byte that has changed afterwards shows how deep it went. Each call is made in several states
+   of a chip, many more are made at random, and the most is shown. The exit status is 1 where a call takes more than
+   the header says. */
+#define _XOPEN_SOURCE 700
+#include <stdio.h>
+#include <stdlib.h>
+#include <string.h>
+#include <ucontext.h>
+
+#include "c64x.h"
+
+#define EXTERNAL C64X_EXTERNAL_BASE
+#define STACK_BYTES (1u << 20)
+#define EXT_BYTES (1u << 20)
+
+/* The calls, in the order of the codes of a trace; then the others. */
+enum { FRESH = 12, RUN, VIEW, VIEW_NUMBER, KINDS };
+
+static const char *const names[KINDS] = {
+    "c64x_read",
+    "c64x_write",
+    "c64x_l2_writeback_all",
+    "c64x_l2_writeback_invalidate_all",
+    "c64x_l2_writeback_block",
+    "c64x_l2_writeback_invalidate_block",
+    "c64x_l2_invalidate_block",
+    "c64x_l1d_writeback_invalidate_block",
+    "c64x_l1d_invalidate_block",
+    "c64x_l1d_invalidate_all",
+    "c64x_change_mode",
+    "c64x_change_mar",
+    "c64x_fresh",
+    "c64x_run",
+    "c64x_view",
+    "c64x_view_number",
+};
+
+/* One call with its numbers. */
+struct call {
+    int kind;
+    uint32_t first;
+    uint32_t second;
+    uint64_t value;
+};
+
+static c64x_record record, kept;
+static uint8_t l1d[C64X_L1D_BYTES], l2[262144], ext[EXT_BYTES], seen[C64X_VIEW_BYTES];
+static uint8_t trace[65536], answers[10 * 65536];
+static size_t l2_len, trace_len;
+static uint8_t *stack;
+static ucontext_t caller, callee;
+static struct call now;
+static const uint8_t *entered;
+static size_t most[KINDS];
+
+static uint64_t seed = 88172645463325252u;
+
+static uint32_t below(uint32_t bound)
+{
+    seed ^= seed << 13;
+    seed ^= seed >> 7;
+    seed ^= seed << 17;
+    return (uint32_t)((seed >> 32) * bound >> 32);
+}
+
+#define LENT l1d, sizeof l1d, l2, l2_len, ext, sizeof ext
+
+static void call(void)
+{
+    c64x_record *r = &record;
+    uint32_t first = now.first, second = now.second;
+    switch (now.kind) {
+    case 0: c64x_read(r, first, second, LENT); break;
+    case 1: c64x_write(r, first, second, now.value, LENT); break;
+    case 2: c64x_l2_writeback_all(r, LENT); break;
+    case 3: c64x_l2_writeback_invalidate_all(r, LENT); break;
+    case 4: c64x_l2_writeback_block(r, first, second, LENT); break;
+    case 5: c64x_l2_writeback_invalidate_block(r, first, second, LENT); break;
+    case 6: c64x_l2_invalidate_block(r, first, second, LENT); break;
+    case 7: c64x_l1d_writeback_invalidate_block(r, first, second, LENT); break;
+    case 8: c64x_l1d_invalidate_block(r, first, second, LENT); break;
+    case 9: c64x_l1d_invalidate_all(r, LENT); break;
+    case 10: c64x_change_mode(r, first, LENT); break;
+    case 11: c64x_change_mar(r, first, second, LENT); break;
+    case FRESH: c64x_fresh(r, LENT); break;
+    case RUN: c64x_run(r, trace, trace_len, LENT, answers, sizeof answers); break;
+    case VIEW: c64x_view(r, first, l2, l2_len, ext, sizeof ext, seen, sizeof seen); break;
+    default: c64x_view_number(r, first, l2, l2_len, ext, sizeof ext); break;
+    }
+}
+
+/* What a caller needs counts from the frame that makes the call: arguments that go by the stack are in it. */
+static void on_the_other_stack(void)
+{
+    entered = __builtin_frame_address(0);
+    call();
+}
+
+static size_t taken(uint8_t paint)
+{
+    memset(stack, paint, STACK_BYTES);
+    getcontext(&callee);
+    callee.uc_stack.ss_sp = stack;
+    callee.uc_stack.ss_size = STACK_BYTES;
+    callee.uc_link = &caller;
+    makecontext(&callee, on_the_other_stack, 0);
+    swapcontext(&caller, &callee);
+    const uint8_t *lowest = stack;
+    while (lowest < entered && *lowest == paint) lowest++;
+    return (size_t)(entered - lowest);
+}
+
+/* A byte that is written may be the one that stood there, so that there are two of them. The second call is made from
+   the same record. */
+static void measure(int kind, uint32_t first, uint32_t second, uint64_t value)
+{
+    now = (struct call){ kind, first, second, value };
+    memcpy(&kept, &record, sizeof kept);
+    size_t once = taken(0xA5);
+    memcpy(&record, &kept, sizeof kept);
+    size_t again = taken(0x5A);
+    size_t n = once > again ? once : again;
+    if (n > most[kind]) most[kind] = n;
+}
+
+static void put_number(uint64_t v)
+{
+    while (v >= 128) {
+        trace[trace_len++] = (uint8_t)(v | 128);
+        v >>= 7;
+    }
+    trace[trace_len++] = (uint8_t)v;
+}
+
+static void put(const struct call *q)
+{
+    static const uint8_t numbers[12] = { 2, 3, 0, 0, 2, 2, 2, 2, 2, 0, 1, 2 };
+    trace[trace_len++] = (uint8_t)q->kind;
+    if (numbers[q->kind] > 0) put_number(q->first);
+    if (numbers[q->kind] > 1) put_number(q->second);
+    if (numbers[q->kind] > 2) put_number(q->value);
+}
+
+/* A command of any kind; most of them pass the checks. */
+static struct call some_command(void)
+{
+    static const uint32_t modes[6] = { 0, 1, 2, 3, 7, 4 };
+    uint32_t size = below(40) ? 1u << below(4) : below(10);
+    uint32_t a = (below(3) ? EXTERNAL : 0) + (below(4) ? below(40) * 4096 + below(256) : below(300000));
+    if (size && below(40)) a -= a % size;
+    switch (below(24)) {
+    case 0: return (struct call){ 2, 0, 0, 0 };
+    case 1: return (struct call){ 3, 0, 0, 0 };
+    case 2: return (struct call){ 9, 0, 0, 0 };
+    case 3: return (struct call){ 10, modes[below(6)], 0, 0 };
+    case 4: return (struct call){ 11, 127 + below(4), below(3), 0 };
+    case 5: case 6: case 7: return (struct call){ 4 + (int)below(5), a & ~3u, below(70000), 0 };
+    case 8: case 9: case 10: case 11: case 12: case 13: return (struct call){ 1, size, a, below(256) };
+    default: return (struct call){ 0, size, a, 0 };
+    }
+}
+
+/* Every call in the state as it stands; the record is put back after each. */
+static void every_call(void)
+{
+    static c64x_record state;
+    memcpy(&state, &record, sizeof state);
+    static const struct call calls[] = {
+        { 0, 4, EXTERNAL + 64, 0 }, { 0, 4, EXTERNAL + 0x50000, 0 }, { 0, 4, 64, 0 }, { 0, 3, 0, 0 },
+        { 1, 8, EXTERNAL + 64, 5 }, { 1, 8, EXTERNAL + 0x50000, 5 }, { 1, 8, 64, 5 }, { 1, 1, 0, 256 },
+        { 2, 0, 0, 0 }, { 3, 0, 0, 0 },
+        { 4, EXTERNAL, 65535, 0 }, { 5, EXTERNAL, 65535, 0 }, { 6, EXTERNAL, 65535, 0 },
+        { 7, EXTERNAL, 65535, 0 }, { 7, 0, 65535, 0 }, { 8, EXTERNAL, 65535, 0 }, { 9, 0, 0, 0 },
+        { 10, 0, 0, 0 }, { 10, 1, 0, 0 }, { 10, 2, 0, 0 }, { 10, 3, 0, 0 }, { 10, 7, 0, 0 }, { 10, 4, 0, 0 },
+        { 11, 128, 1, 0 }, { 11, 128, 0, 0 }, { 11, 129, 0, 0 }, { 11, 7, 0, 0 },
+        { FRESH, 0, 0, 0 }, { VIEW, EXTERNAL + 64, 0, 0 }, { VIEW, 64, 0, 0 }, { VIEW, 4, 0, 0 },
+        { VIEW_NUMBER, EXTERNAL + 64, 0, 0 }, { VIEW_NUMBER, 4, 0, 0 },
+    };
+    for (size_t i = 0; i < sizeof calls / sizeof calls[0]; i++) {
+        measure(calls[i].kind, calls[i].first, calls[i].second, calls[i].value);
+        memcpy(&record, &state, sizeof state);
+        if (calls[i].kind > 11) continue;
+        trace_len = 0;
+        put(&calls[i]);
+        measure(RUN, 0, 0, 0);
+        memcpy(&record, &state, sizeof state);
+    }
+}
+
+static void fresh(size_t l)
+{
+    l2_len = l;
+    if (c64x_fresh(&record, LENT).number != 0) abort();
+}
+
+/* Every line of both caches in use and dirty. */
+static void fill(uint32_t mode)
+{
+    static const uint32_t lines[8] = { 0, 256, 512, 1024, 0, 0, 0, 2048 };
+    fresh(262144);
+    c64x_change_mar(&record, 128, 1, LENT);
+    c64x_change_mode(&record, mode, LENT);
+    for (uint32_t i = 0; i < lines[mode]; i++) c64x_write(&record, 4, EXTERNAL + 128 * i, i, LENT);
+    for (uint32_t i = 0; i < 256; i++) {
+        c64x_read(&record, 4, EXTERNAL + 64 * i, LENT);
+        c64x_write(&record, 4, EXTERNAL + 64 * i, i, LENT);
+    }
+}
+
+int main(void)
+{
+    static const uint32_t modes[5] = { 0, 1, 2, 3, 7 };
+    stack = malloc(STACK_BYTES);
+    if (stack == NULL) {
+        fprintf(stderr, "stack: no memory\n");
+        return 2;
+    }
+    fresh(65536);
+    every_call();
+    for (int i = 0; i < 5; i++) {
+        fill(modes[i]);
+        every_call();
+        record.l2[5].lines[1].valid = 2; /* refused with 2 */
+        every_call();
+    }
+    for (int round = 0; round < 60; round++) {
+        fresh(32768 * (1 + below(8)));
+        c64x_change_mar(&record, 128, 1, LENT);
+        c64x_change_mode(&record, modes[below(5)], LENT);
+        for (int i = 0; i < 20; i++) {
+            struct call q = some_command();
+            measure(q.kind, q.first, q.second, q.value);
+            measure(VIEW, q.second & ~63u, 0, 0);
+        }
+        trace_len = 0;
+        while (trace_len < 2000) {
+            struct call q = some_command();
+            put(&q);
+        }
+        measure(RUN, 0, 0, 0);
+    }
+    size_t all = 0;
+    for (int kind = 0; kind < KINDS; kind++) {
+        printf("%-36s %6zu bytes\n", names[kind], most[kind]);
+        if (most[kind] > all) all = most[kind];
+    }
+    printf("%-36s %6zu bytes; c64x.h says %d at most\n", "the most", all, C64X_STACK_BYTES);
+    return all > C64X_STACK_BYTES;
+}

@@ -1,0 +1,96 @@
+//! What the program each_call has to print, told by the reference model alone:
+//! every call once or more, from a fresh start with L = E = 65,536.
+
+use oracle::gen::Setup;
+use oracle::trace::ANSWER_BYTES;
+use oracle::Command;
+
+/// What comes next: a command, a view of an address, or a run over a trace.
+enum Next {
+    Call(Command),
+    View(u32),
+    Run(&'static [u8]),
+}
+
+use Command::*;
+use Next::*;
+
+const LIST: &[Next] = &[
+    Call(Mar { number: 128, bit: 1 }),
+    Call(Mode { mode: 1 }),
+    Call(Write { size: 4, address: 0x80000000, value: 5 }),
+    Call(Read { size: 4, address: 0x80000000 }),
+    Call(Read { size: 4, address: 0x80000000 }),
+    Call(Write { size: 4, address: 0x80000000, value: 7 }),
+    View(0x80000000),
+    Call(L1dBlockWritebackInvalidate { base: 0x80000000, count: 1 }),
+    View(0x80000000),
+    Call(L2BlockWriteback { base: 0x80000000, count: 32 }),
+    View(0x80000000),
+    Call(Read { size: 8, address: 0x80000000 }),
+    Call(Write { size: 2, address: 0x80000002, value: 515 }),
+    Call(L2WritebackAll),
+    View(0x80000000),
+    Call(Write { size: 1, address: 0x100, value: 9 }),
+    Call(Read { size: 1, address: 0x100 }),
+    Call(Write { size: 1, address: 0x100, value: 8 }),
+    View(0x100),
+    Call(L1dBlockInvalidate { base: 0x100, count: 1 }),
+    Call(Read { size: 1, address: 0x100 }),
+    Call(Write { size: 1, address: 0x100, value: 6 }),
+    Call(L1dInvalidateAll),
+    Call(Read { size: 1, address: 0x100 }),
+    Call(Read { size: 1, address: 0x80000080 }),
+    Call(Write { size: 1, address: 0x80000080, value: 1 }),
+    Call(L2BlockInvalidate { base: 0x80000080, count: 1 }),
+    Call(Read { size: 1, address: 0x80000080 }),
+    Call(Write { size: 1, address: 0x80000080, value: 2 }),
+    Call(L2BlockWritebackInvalidate { base: 0x80000080, count: 1 }),
+    View(0x80000080),
+    Call(Read { size: 1, address: 0x80000080 }),
+    Call(Write { size: 1, address: 0x80000080, value: 3 }),
+    Call(L2WritebackInvalidateAll),
+    View(0x80000080),
+    Call(Read { size: 1, address: 0x80000080 }),
+    Call(Read { size: 3, address: 0x0 }),
+    Call(Read { size: 4, address: 0x2 }),
+    Call(Read { size: 1, address: 0x80010000 }),
+    Call(Write { size: 1, address: 0x0, value: 256 }),
+    Call(L2BlockWriteback { base: 0x2, count: 1 }),
+    Call(L1dBlockInvalidate { base: 0x0, count: 65536 }),
+    Call(Mode { mode: 5 }),
+    Call(Mar { number: 130, bit: 1 }),
+    Call(Mar { number: 128, bit: 0 }),
+    View(0x4),
+    View(0x80010000),
+    Call(Mode { mode: 2 }),
+    Call(Mode { mode: 1 }),
+    Run(&[11, 129, 1, 1, 0, 1, 128, 129, 128, 128, 8, 1, 1, 128, 129, 128, 128, 8, 4, 10, 2, 0, 1, 128, 129, 128, 128, 8]),
+];
+
+fn main() {
+    let mut setup = Setup::fresh(65_536, 65_536);
+    println!("0 0 0");
+    for next in LIST {
+        match next {
+            Call(command) => {
+                let answer = setup.call(command);
+                println!("{} {} {}", answer.number, answer.server, answer.value);
+            }
+            View(address) => {
+                let bytes = setup.look(*address);
+                let byte = |place: usize| bytes.get(place).copied().unwrap_or(0);
+                println!("{} {} {} {}", setup.look_number(*address), bytes.len(), byte(0), byte(2));
+            }
+            Run(trace) => {
+                let mut answers = [0; 6 * ANSWER_BYTES];
+                let run = setup.run(trace, &mut answers);
+                println!("{} {} {}", run.consumed, run.answers, run.stop);
+                for answer in answers.chunks(ANSWER_BYTES) {
+                    let value = u64::from_le_bytes(answer[2..].try_into().expect("eight bytes"));
+                    println!("{} {} {value}", answer[0], answer[1]);
+                }
+            }
+        }
+    }
+}

@@ -1,0 +1,355 @@
+// Executes every exported call of crate by_value: a list of calls from a fresh start with L = E = 65,536 and external memory zero, then a run over a trace. It
+// prints what each answers: number, server and value; of a view its number, how many bytes it has, and two of them; of the run bytes consumed, count and stop
+// number, then each answer. What it has to print is told by the reference model (compare/examples/each_call.rs).
+use by_value::Called;
+use model::Record;
+
+fn wide(x: u8) -> u64 {
+    x as u64
+}
+
+fn wide32(x: u32) -> u64 {
+    x as u64
+}
+
+fn show(a: u64, b: u64, c: u64) {
+    io::print_decimal(1, a);
+    io::write_all(1, b" ");
+    io::print_decimal(1, b);
+    io::write_all(1, b" ");
+    io::print_decimal(1, c);
+    io::write_all(1, b"\n");
+}
+
+fn told(x: Called) -> Record {
+    show(wide(x.number), wide(x.server), x.value);
+    x.record
+}
+
+// The first and the third byte of what is seen.
+fn seen<'a>(r: Record, l2: &'a [u8], ext: &'a [u8], address: u32) {
+    let part = by_value::view(r, l2, ext, address);
+    let number = by_value::view_number(r, l2, ext, address);
+    io::print_decimal(1, wide(number));
+    io::write_all(1, b" ");
+    if part.len() < 3 {
+        show(0, 0, 0);
+        return;
+    }
+    show(part.len() as u64, wide(part[0]), wide(part[2]));
+}
+
+// The call of one row: its code (12: a view) and its numbers.
+fn one(
+    r: Record,
+    code: u32,
+    a: u32,
+    b: u32,
+    v: u32,
+    l1d: &mut [u8; 16384],
+    l2: &mut [u8; 65536],
+    ext: &mut [u8; 65536],
+) -> Record {
+    if code == 0 {
+        return told(by_value::read(r, a, b, l1d, l2, ext));
+    }
+    if code == 1 {
+        return told(by_value::write(r, a, b, wide32(v), l1d, l2, ext));
+    }
+    if code == 2 {
+        return told(by_value::l2_writeback_all(r, l1d, l2, ext));
+    }
+    if code == 3 {
+        return told(by_value::l2_writeback_invalidate_all(r, l1d, l2, ext));
+    }
+    if code == 4 {
+        return told(by_value::l2_writeback_block(r, a, b, l1d, l2, ext));
+    }
+    if code == 5 {
+        return told(by_value::l2_writeback_invalidate_block(r, a, b, l1d, l2, ext));
+    }
+    if code == 6 {
+        return told(by_value::l2_invalidate_block(r, a, b, l1d, l2, ext));
+    }
+    if code == 7 {
+        return told(by_value::l1d_writeback_invalidate_block(r, a, b, l1d, l2, ext));
+    }
+    if code == 8 {
+        return told(by_value::l1d_invalidate_block(r, a, b, l1d, l2, ext));
+    }
+    if code == 9 {
+        return told(by_value::l1d_invalidate_all(r, l1d, l2, ext));
+    }
+    if code == 10 {
+        return told(by_value::change_mode(r, a, l1d, l2, ext));
+    }
+    if code == 11 {
+        return told(by_value::change_mar(r, a, b, l1d, l2, ext));
+    }
+    seen(r, l2, ext, a);
+    r
+}
+
+// A run, and what it answers.
+fn run_over(r: Record, l1d: &mut [u8; 16384], l2: &mut [u8; 65536], ext: &mut [u8; 65536]) {
+    let trace = [
+        11u8,
+        129,
+        1,
+        1,
+        0,
+        1,
+        128,
+        129,
+        128,
+        128,
+        8,
+        1,
+        1,
+        128,
+        129,
+        128,
+        128,
+        8,
+        4,
+        10,
+        2,
+        0,
+        1,
+        128,
+        129,
+        128,
+        128,
+        8,
+    ];
+    let mut answers = [0u8; 60];
+    let q = by_value::run(r, &trace, l1d, l2, ext, &mut answers);
+    show(q.consumed as u64, q.count as u64, wide(q.stop));
+    for k in 0..6 {
+        let p = k * 10;
+        show(
+            wide(answers[p]),
+            wide(answers[p + 1]),
+            memory::load8(&answers, p + 2),
+        );
+    }
+}
+
+fn main() {
+    let mut l1d = [0u8; 16384];
+    let mut l2 = io::large_buffer();
+    let mut ext = io::large_buffer();
+    let mut r = told(by_value::fresh(&mut l1d, &mut l2, &mut ext));
+    let list = [
+        11u32,
+        128,
+        1,
+        0,
+        10,
+        1,
+        0,
+        0,
+        1,
+        4,
+        2147483648,
+        5,
+        0,
+        4,
+        2147483648,
+        0,
+        0,
+        4,
+        2147483648,
+        0,
+        1,
+        4,
+        2147483648,
+        7,
+        12,
+        2147483648,
+        0,
+        0,
+        7,
+        2147483648,
+        1,
+        0,
+        12,
+        2147483648,
+        0,
+        0,
+        4,
+        2147483648,
+        32,
+        0,
+        12,
+        2147483648,
+        0,
+        0,
+        0,
+        8,
+        2147483648,
+        0,
+        1,
+        2,
+        2147483650,
+        515,
+        2,
+        0,
+        0,
+        0,
+        12,
+        2147483648,
+        0,
+        0,
+        1,
+        1,
+        256,
+        9,
+        0,
+        1,
+        256,
+        0,
+        1,
+        1,
+        256,
+        8,
+        12,
+        256,
+        0,
+        0,
+        8,
+        256,
+        1,
+        0,
+        0,
+        1,
+        256,
+        0,
+        1,
+        1,
+        256,
+        6,
+        9,
+        0,
+        0,
+        0,
+        0,
+        1,
+        256,
+        0,
+        0,
+        1,
+        2147483776,
+        0,
+        1,
+        1,
+        2147483776,
+        1,
+        6,
+        2147483776,
+        1,
+        0,
+        0,
+        1,
+        2147483776,
+        0,
+        1,
+        1,
+        2147483776,
+        2,
+        5,
+        2147483776,
+        1,
+        0,
+        12,
+        2147483776,
+        0,
+        0,
+        0,
+        1,
+        2147483776,
+        0,
+        1,
+        1,
+        2147483776,
+        3,
+        3,
+        0,
+        0,
+        0,
+        12,
+        2147483776,
+        0,
+        0,
+        0,
+        1,
+        2147483776,
+        0,
+        0,
+        3,
+        0,
+        0,
+        0,
+        4,
+        2,
+        0,
+        0,
+        1,
+        2147549184,
+        0,
+        1,
+        1,
+        0,
+        256,
+        4,
+        2,
+        1,
+        0,
+        8,
+        0,
+        65536,
+        0,
+        10,
+        5,
+        0,
+        0,
+        11,
+        130,
+        1,
+        0,
+        11,
+        128,
+        0,
+        0,
+        12,
+        4,
+        0,
+        0,
+        12,
+        2147549184,
+        0,
+        0,
+        10,
+        2,
+        0,
+        0,
+        10,
+        1,
+        0,
+        0,
+    ];
+    for k in 0..49 {
+        let p = k * 4;
+        r = one(
+            r,
+            list[p],
+            list[p + 1],
+            list[p + 2],
+            list[p + 3],
+            &mut l1d,
+            &mut l2,
+            &mut ext,
+        );
+    }
+    run_over(r, &mut l1d, &mut l2, &mut ext);
+}

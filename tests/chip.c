@@ -1,0 +1,282 @@
+/*
+ * Every call of include/c64x_chip.h, on cases whose outcome the paper gives: the worked example, C5, C6, C8, C9 and
+ * C10, what each cache command does to a dirty line, and each number of the refusal table with nothing changed. It is
+ * compiled as C and as C++. Prints how many checks passed; exit status 1 where one failed.
+ */
+#include <stdio.h>
+#include <string.h>
+
+#include "c64x_chip.h"
+
+#define EXT C64X_EXTERNAL_BASE
+
+static uint8_t l1d[C64X_L1D_BYTES], l2[65536], ext[65536];
+static uint8_t l1d_before[C64X_L1D_BYTES], l2_before[65536], ext_before[65536];
+static c64x_chip chip, chip_before;
+static int passed, failed;
+
+#define CHECK(fact) check((fact) != 0, #fact, __LINE__)
+
+static void check(int holds, const char *fact, int line)
+{
+    if (holds) {
+        passed++;
+    } else {
+        printf("chip: line %d: %s does not hold\n", line, fact);
+        failed++;
+    }
+}
+
+static int is(c64x_answer answer, unsigned number, unsigned server, uint64_t value)
+{
+    return answer.number == number && answer.server == server && answer.value == value;
+}
+
+static int done(c64x_answer answer)
+{
+    return is(answer, C64X_ACCEPTED, C64X_SERVER_NONE, 0);
+}
+
+/* A chip after reset whose external memory is zero. */
+static void start(size_t l2_len)
+{
+    memset(l1d, 1, sizeof l1d);
+    memset(l2, 2, sizeof l2);
+    memset(ext, 0, sizeof ext);
+    CHECK(done(c64x_chip_start(&chip, l1d, sizeof l1d, l2, l2_len, ext, sizeof ext)));
+}
+
+static void keep(void)
+{
+    memcpy(&chip_before, &chip, sizeof chip);
+    memcpy(l1d_before, l1d, sizeof l1d);
+    memcpy(l2_before, l2, sizeof l2);
+    memcpy(ext_before, ext, sizeof ext);
+}
+
+/* No byte has changed since `keep`, padding included. */
+static int kept(void)
+{
+    return memcmp(&chip_before, &chip, sizeof chip) == 0 && memcmp(l1d_before, l1d, sizeof l1d) == 0 &&
+           memcmp(l2_before, l2, sizeof l2) == 0 && memcmp(ext_before, ext, sizeof ext) == 0;
+}
+
+static int refused(c64x_answer answer, unsigned number)
+{
+    return is(answer, number, C64X_SERVER_NONE, 0) && kept();
+}
+
+/* The line of L1D, or of L2, with this address; NULL if there is none. */
+static const c64x_line *l1d_line(uint32_t address)
+{
+    for (int set = 0; set < C64X_L1D_SETS; set++)
+        for (int way = 0; way < C64X_L1D_WAYS; way++)
+            if (chip.record.l1d[set].lines[way].valid && chip.record.l1d[set].lines[way].address == address)
+                return &chip.record.l1d[set].lines[way];
+    return NULL;
+}
+
+static const c64x_line *l2_line(uint32_t address)
+{
+    for (int set = 0; set < C64X_L2_SETS; set++)
+        for (int way = 0; way < C64X_L2_WAYS; way++)
+            if (chip.record.l2[set].lines[way].valid && chip.record.l2[set].lines[way].address == address)
+                return &chip.record.l2[set].lines[way];
+    return NULL;
+}
+
+static int clean(const c64x_line *line)
+{
+    return line != NULL && !line->dirty;
+}
+
+static int dirty(const c64x_line *line)
+{
+    return line != NULL && line->dirty;
+}
+
+static void worked_example(void)
+{
+    static const uint8_t trace[] = {0x0B, 0x80, 0x01, 0x01, 0x01, 0x04, 0x80, 0x80, 0x80, 0x80, 0x08, 0x05, 0x00, 0x04,
+                                    0x80, 0x80, 0x80, 0x80, 0x08, 0x00, 0x04, 0x80, 0x80, 0x80, 0x80, 0x08, 0x0A, 0x04};
+    uint8_t answers[64];
+    start(sizeof l2);
+    CHECK(done(c64x_chip_change_mar(&chip, 128, 1)));
+    CHECK(is(c64x_chip_write(&chip, 4, EXT, 5), 0, C64X_SERVER_EXTERNAL, 0));
+    CHECK(is(c64x_chip_read(&chip, 4, EXT), 0, C64X_SERVER_EXTERNAL, 5));
+    CHECK(is(c64x_chip_read(&chip, 4, EXT), 0, C64X_SERVER_L1D, 5));
+    CHECK(is(c64x_chip_change_mode(&chip, 4), C64X_REFUSED_MODE, 0, 0));
+    start(sizeof l2);
+    memset(answers, 0xEE, sizeof answers);
+    c64x_ran ran = c64x_chip_run(&chip, trace, sizeof trace, answers, sizeof answers);
+    CHECK(ran.consumed == 28 && ran.count == 5 && ran.stop == C64X_ACCEPTED);
+    CHECK(is(c64x_answer_at(answers, 0), 0, 0, 0));
+    CHECK(is(c64x_answer_at(answers, 1), 0, 4, 0));
+    CHECK(is(c64x_answer_at(answers, 2), 0, 4, 5));
+    CHECK(is(c64x_answer_at(answers, 3), 0, 1, 5));
+    CHECK(is(c64x_answer_at(answers, 4), 8, 0, 0));
+    for (size_t i = 50; i < sizeof answers; i++)
+        CHECK(answers[i] == 0xEE);
+}
+
+static void cases(void)
+{
+    start(sizeof l2);
+    CHECK(c64x_chip_read(&chip, 4, 0x8000FFFC).number == C64X_ACCEPTED);                /* C5 */
+    CHECK(c64x_chip_read(&chip, 8, 0x8000FFFC).number == C64X_REFUSED_ALIGNMENT);
+    CHECK(c64x_chip_read(&chip, 1, 0x80010000).number == C64X_REFUSED_PLACE);
+    CHECK(c64x_chip_write(&chip, 1, 0, 255).number == C64X_ACCEPTED);                   /* C6 */
+    CHECK(c64x_chip_write(&chip, 1, 0, 256).number == C64X_REFUSED_VALUE);
+    CHECK(done(c64x_chip_l2_writeback_block(&chip, EXT, 65535)));
+    start(32768);                                                                       /* C8 */
+    CHECK(done(c64x_chip_change_mode(&chip, 1)));
+    CHECK(c64x_chip_read(&chip, 1, 0).number == C64X_REFUSED_PLACE);
+    start(sizeof l2);                                                                   /* C9 */
+    CHECK(done(c64x_chip_change_mar(&chip, 128, 1)));
+    CHECK(c64x_chip_read(&chip, 1, 0x80000000).server == C64X_SERVER_EXTERNAL);
+    CHECK(c64x_chip_read(&chip, 1, 0x80002000).server == C64X_SERVER_EXTERNAL);
+    CHECK(c64x_chip_read(&chip, 1, 0x80000000).server == C64X_SERVER_L1D);
+    CHECK(c64x_chip_read(&chip, 1, 0x80004000).server == C64X_SERVER_EXTERNAL);
+    CHECK(l1d_line(0x80000000) && !l1d_line(0x80002000) && l1d_line(0x80004000));
+    CHECK(c64x_chip_write(&chip, 1, 0x80000000, 9).server == C64X_SERVER_L1D);          /* C10 */
+    CHECK(done(c64x_chip_l2_writeback_invalidate_all(&chip)));
+    CHECK(dirty(l1d_line(0x80000000)));
+}
+
+/* In mode 1 the word at 80000000h is 5 in external memory, 6 in the L2 line and 7 in L1D. */
+static void three_levels(void)
+{
+    start(sizeof l2);
+    CHECK(c64x_chip_write(&chip, 4, EXT, 5).server == C64X_SERVER_EXTERNAL);
+    CHECK(done(c64x_chip_change_mar(&chip, 128, 1)));
+    CHECK(done(c64x_chip_change_mode(&chip, 1)));
+    CHECK(is(c64x_chip_write(&chip, 4, EXT, 6), 0, C64X_SERVER_EXTERNAL, 0));
+    CHECK(is(c64x_chip_read(&chip, 4, EXT), 0, C64X_SERVER_L2_CACHE, 6));
+    CHECK(is(c64x_chip_write(&chip, 4, EXT, 7), 0, C64X_SERVER_L1D, 0));
+    CHECK(dirty(l1d_line(EXT)) && dirty(l2_line(EXT)) && ext[0] == 5);
+}
+
+static void commands(void)
+{
+    uint8_t seen[C64X_VIEW_BYTES + 1];
+    three_levels();
+    seen[C64X_VIEW_BYTES] = 0xEE;
+    CHECK(c64x_chip_view(&chip, EXT, seen, sizeof seen) == C64X_ACCEPTED);
+    CHECK(seen[0] == 5 && seen[1] == 0 && seen[C64X_VIEW_BYTES] == 0xEE);
+    CHECK(c64x_chip_view_number(&chip, EXT) == C64X_ACCEPTED);
+    CHECK(done(c64x_chip_l2_writeback_all(&chip)));
+    CHECK(!l1d_line(EXT) && clean(l2_line(EXT)) && ext[0] == 7);
+    three_levels();
+    CHECK(done(c64x_chip_l2_writeback_invalidate_all(&chip)));
+    CHECK(!l1d_line(EXT) && !l2_line(EXT) && ext[0] == 7);
+    three_levels();
+    CHECK(done(c64x_chip_l2_writeback_block(&chip, EXT, 1)));
+    CHECK(!l1d_line(EXT) && clean(l2_line(EXT)) && ext[0] == 7);
+    three_levels();
+    CHECK(done(c64x_chip_l2_writeback_invalidate_block(&chip, EXT, 1)));
+    CHECK(!l1d_line(EXT) && !l2_line(EXT) && ext[0] == 7);
+    three_levels();
+    CHECK(done(c64x_chip_l2_invalidate_block(&chip, EXT, 1)));
+    CHECK(!l1d_line(EXT) && !l2_line(EXT) && ext[0] == 5);
+    three_levels();
+    CHECK(done(c64x_chip_l1d_writeback_invalidate_block(&chip, EXT, 1)));
+    CHECK(!l1d_line(EXT) && dirty(l2_line(EXT)) && ext[0] == 5);
+    CHECK(is(c64x_chip_read(&chip, 4, EXT), 0, C64X_SERVER_L2_CACHE, 7));
+    three_levels();
+    CHECK(done(c64x_chip_l1d_invalidate_block(&chip, EXT, 1)));
+    CHECK(!l1d_line(EXT) && dirty(l2_line(EXT)) && ext[0] == 5);
+    CHECK(is(c64x_chip_read(&chip, 4, EXT), 0, C64X_SERVER_L2_CACHE, 6));
+    three_levels();
+    CHECK(done(c64x_chip_l1d_invalidate_all(&chip)));
+    CHECK(!l1d_line(EXT) && dirty(l2_line(EXT)) && ext[0] == 5);
+    three_levels();
+    CHECK(done(c64x_chip_change_mode(&chip, 0)));
+    CHECK(!l1d_line(EXT) && !l2_line(EXT) && ext[0] == 7 && chip.record.mode == 0);
+    CHECK(done(c64x_chip_change_mar(&chip, 128, 0)));
+    CHECK(chip.record.mar128 == 0);
+    three_levels();
+    CHECK(done(c64x_chip_fresh(&chip)));
+    CHECK(!l1d_line(EXT) && !l2_line(EXT) && ext[0] == 5 && chip.record.mode == 0 && chip.record.mar128 == 0);
+}
+
+/* Runs, views and calls of each number from 1 on: nothing changes. */
+static void refusals(void)
+{
+    static const uint8_t damaged[] = {12};
+    static const uint8_t one[] = {2};
+    uint8_t answers[C64X_ANSWER_BYTES] = {0}, seen[C64X_VIEW_BYTES] = {0};
+    c64x_ran ran;
+
+    three_levels();
+    chip.l2_len = 32768;
+    keep();
+    CHECK(refused(c64x_chip_read(&chip, 4, EXT), C64X_REFUSED_LENGTH));
+    ran = c64x_chip_run(&chip, one, sizeof one, answers, sizeof answers);
+    CHECK(ran.consumed == 0 && ran.count == 0 && ran.stop == C64X_REFUSED_LENGTH && kept());
+    CHECK(c64x_chip_view(&chip, EXT, seen, sizeof seen) == C64X_REFUSED_LENGTH && kept());
+
+    three_levels();
+    chip.record.l1d[5].lines[1].dirty = 2;
+    keep();
+    CHECK(refused(c64x_chip_l2_writeback_all(&chip), C64X_REFUSED_RECORD));
+    ran = c64x_chip_run(&chip, one, sizeof one, answers, sizeof answers);
+    CHECK(ran.consumed == 0 && ran.count == 0 && ran.stop == C64X_REFUSED_RECORD && kept());
+    CHECK(c64x_chip_view_number(&chip, EXT) == C64X_REFUSED_RECORD && kept());
+
+    three_levels();
+    keep();
+    CHECK(refused(c64x_chip_read(&chip, 3, EXT), C64X_REFUSED_SIZE));
+    CHECK(refused(c64x_chip_write(&chip, 4, EXT + 2, 0), C64X_REFUSED_ALIGNMENT));
+    CHECK(refused(c64x_chip_l1d_invalidate_block(&chip, EXT + 2, 1), C64X_REFUSED_ALIGNMENT));
+    CHECK(c64x_chip_view_number(&chip, EXT + 32) == C64X_REFUSED_ALIGNMENT);
+    CHECK(refused(c64x_chip_write(&chip, 1, 32768, 0), C64X_REFUSED_PLACE));
+    CHECK(c64x_chip_view_number(&chip, 32768) == C64X_REFUSED_PLACE);
+    CHECK(refused(c64x_chip_write(&chip, 2, EXT, 65536), C64X_REFUSED_VALUE));
+    CHECK(refused(c64x_chip_l2_writeback_block(&chip, EXT, 65536), C64X_REFUSED_COUNT));
+    CHECK(refused(c64x_chip_l2_writeback_invalidate_block(&chip, EXT, 65536), C64X_REFUSED_COUNT));
+    CHECK(refused(c64x_chip_l2_invalidate_block(&chip, EXT, 65536), C64X_REFUSED_COUNT));
+    CHECK(refused(c64x_chip_l1d_writeback_invalidate_block(&chip, EXT, 65536), C64X_REFUSED_COUNT));
+    CHECK(refused(c64x_chip_l1d_invalidate_block(&chip, EXT, 65536), C64X_REFUSED_COUNT));
+    CHECK(refused(c64x_chip_change_mode(&chip, 3), C64X_REFUSED_MODE));
+    CHECK(refused(c64x_chip_change_mar(&chip, 130, 1), C64X_REFUSED_MAR));
+    CHECK(refused(c64x_chip_change_mar(&chip, 128, 0), C64X_REFUSED_LINE_HELD));
+    ran = c64x_chip_run(&chip, damaged, sizeof damaged, answers, sizeof answers);
+    CHECK(ran.consumed == 0 && ran.count == 0 && ran.stop == C64X_STOPPED_TRACE && kept());
+    ran = c64x_chip_run(&chip, one, sizeof one, answers, sizeof answers - 1);
+    CHECK(ran.consumed == 0 && ran.count == 0 && ran.stop == C64X_STOPPED_ANSWERS && kept());
+    CHECK(c64x_chip_view(&chip, EXT, seen, sizeof seen - 1) == C64X_REFUSED_LENGTH && kept());
+    CHECK(answers[0] == 0 && seen[0] == 0);
+
+    /* Of a fresh start that is refused the record is known too. */
+    chip.l1d_len = 16383;
+    keep();
+    CHECK(is(c64x_chip_fresh(&chip), C64X_REFUSED_LENGTH, 0, 0));
+    CHECK(chip.record.l2len == 32768 && chip.record.extlen == 128 && chip.record.mode == 0);
+    CHECK(!l1d_line(EXT) && !l2_line(EXT));
+    memcpy(&chip.record, &chip_before.record, sizeof chip.record);
+    CHECK(kept());
+}
+
+/* Every number and server has a text of its own; those that do not exist share one. */
+static void texts(void)
+{
+    for (unsigned a = 0; a <= 13; a++)
+        for (unsigned b = 0; b < a; b++)
+            CHECK(strcmp(c64x_number_text(a), c64x_number_text(b)) != 0);
+    for (unsigned a = 0; a <= 5; a++)
+        for (unsigned b = 0; b < a; b++)
+            CHECK(strcmp(c64x_server_text(a), c64x_server_text(b)) != 0);
+    CHECK(strcmp(c64x_number_text(13), c64x_number_text(255)) == 0);
+    CHECK(strcmp(c64x_server_text(5), c64x_server_text(255)) == 0);
+}
+
+int main(void)
+{
+    worked_example();
+    cases();
+    commands();
+    refusals();
+    texts();
+    printf("chip: %d checks passed, %d failed\n", passed, failed);
+    return failed != 0;
+}
