@@ -6,16 +6,16 @@ use mathlib.Core.Logic.{_≢_}
 use mathlib.Core.List.{List, []}
 use native.Mathlib.Omega.{arith}
 use lib.Dec.{ltb, eqb}
-use borrow.Author.Tests.{lt-ltb, le-ltb, eq-eqb, ne-eqb, eqb-true, eqb-false}
+use borrow.Author.Tests.{ltb-false, lt-ltb, le-ltb, eq-eqb, ne-eqb, eqb-true, eqb-false}
 use Rattle.model.specs.Bytes.{part, stored, little, littleBytes}
 use Rattle.model.specs.Memories.{externalBase}
-use Rattle.model.specs.Laws.{bool, false-true, cond-elim, cond-true, cond-false}
+use Rattle.model.specs.Laws.{bool, false-true, cond-elim, cond-true, cond-false, mar-bit}
 use Rattle.model.specs.Lines.{l1dSetOf, l1dData, l1dLine, lineOf, l1dUse}
 use Rattle.model.specs.Records.{State, state, sramOf, l2SetsOf, marBit, l1dSetAt, l1dLineAt, withL1dSet, withL1dLine}
 use Rattle.model.specs.Ways.{l1dFind, l1dVictim, inL1d, l1dWay, useL1d}
 use Rattle.model.specs.Homes.{memoryPart, putMemory, l2WayFor, fetchL2}
 use Rattle.model.specs.Access.{Access, access, cacheable, l1dBytes, evictL1d, fillL1d, putL1d, writeHome, readHit, readFilled, readEmptied, readMiss, readAccess, writeHit, writeMiss, writeAccess}
-use Rattle.model.specs.Refusals.{sizeOk, multipleOf, placeOk, valueOk, accessDue, first, unless}
+use Rattle.model.specs.Refusals.{sizeOk, multipleOf, placeOk, valueOk, accessDue, lowestDue, unless}
 use Rattle.model.specs.Calls.{Reply, reply, commandDue, readDone, writeDone, accepted, step}
 use Rattle.model.specs.declared.Line.{Line}
 use Rattle.model.specs.declared.Record.{Record}
@@ -125,7 +125,7 @@ pub size-of : (s e n a v d : ℕ) → d ≡ accessDue s e n a v → d ≡ 0 → 
 unfolding accessDue
 size-of s e n a v d ed o =
     bool (sizeOk n) (λ t. t)
-    (λ t. let k : first (unless (sizeOk n) 3) (first (unless (multipleOf n a) 4) (first (unless (placeOk s e n a) 5) (unless (valueOk n v) 6))) ≡ 3 = rw t refl in
+    (λ t. let k : lowestDue (unless (sizeOk n) 3) (lowestDue (unless (multipleOf n a) 4) (lowestDue (unless (placeOk s e n a) 5) (unless (valueOk n v) 6))) ≡ 3 = rw t refl in
     let z : _≡_ {A = ℕ} 3 0 = sym k ∙ sym ed ∙ o in absurd (omega arith))
 
 pub step-refused : (c : Command) (z : State) (n : ℕ) → n ≡ commandDue c z → n ≢ 0 → reply n 0 0 z ≡ step c z
@@ -195,9 +195,9 @@ unfolding cacheable
 cached-inside r a h = rw h refl
 
 pub cached-128 : (r : Record) (a : ℕ) (b : Bool) → ltb a externalBase ≡ false → a < 2164260864 → b ≡ r .mar128 → b ≡ cacheable r a
-unfolding cacheable marBit
-cached-128 r a b h l e = let k : ltb a 2164260864 ≡ true = lt-ltb a 2164260864 l in rw (h, k, e) refl
+unfolding cacheable
+cached-128 r a b h l e = rw (h, mar-bit r a (ltb-false a externalBase h), lt-ltb a 2164260864 l, e) refl
 
 pub cached-129 : (r : Record) (a : ℕ) (b : Bool) → ltb a externalBase ≡ false → 2164260864 ≤ a → b ≡ r .mar129 → b ≡ cacheable r a
-unfolding cacheable marBit
-cached-129 r a b h l e = let k : ltb a 2164260864 ≡ false = le-ltb a 2164260864 l in rw (h, k, e) refl
+unfolding cacheable
+cached-129 r a b h l e = rw (h, mar-bit r a (ltb-false a externalBase h), le-ltb a 2164260864 l, e) refl

@@ -10,7 +10,7 @@ use Rattle.model.specs.Basics.{each}
 use Rattle.model.specs.Memories.{isMode}
 use Rattle.model.specs.Records.{State}
 use Rattle.model.specs.Modes.{changeMode, changeMar}
-use Rattle.model.specs.Refusals.{first, unless, blockDue, modeDue, marDue, holdsRange}
+use Rattle.model.specs.Refusals.{lowestDue, unless, blockDue, modeDue, marDue, holdsRange}
 use Rattle.model.specs.Commands.{atL2, atL1d, eachTouched, eachL2, unlessMode0, l2WritebackAll, l2WritebackInvalidateAll, l2WritebackBlock, l2WritebackInvalidateBlock, l2InvalidateBlock, l1dWritebackInvalidateBlock, l1dInvalidateBlock, l1dInvalidateAll}
 use Rattle.model.specs.Calls.{reply, commandDue, commandState, accepted, step}
 use Rattle.model.specs.Laws.{bool, both-true, no-ways}
@@ -114,7 +114,7 @@ mode-byte l m h =
     bool (leb m 3) (λ e. let k = leb-true m 3 e in omega arith)
     (λ e. bool (eqb m 7) (λ f. let k = eqb-true m 7 f in omega arith) (λ f. let q : _≡_ {A = ℕ} 8 0 = rw (e, f) at h in absurd (omega arith)))
 
-pub mar-bit : (n b k : ℕ) → first (unless ((eqb n 128 || eqb n 129) && leb b 1) 9) k ≡ 0 → b ≤ 1
+pub mar-bit : (n b k : ℕ) → lowestDue (unless ((eqb n 128 || eqb n 129) && leb b 1) 9) k ≡ 0 → b ≤ 1
 mar-bit n b k h =
     bool ((eqb n 128 || eqb n 129) && leb b 1) (λ e. leb-true b 1 (both-true (eqb n 128 || eqb n 129) (leb b 1) e .1))
     (λ e. let q : _≡_ {A = ℕ} 9 0 = rw e at h in absurd (omega arith))

@@ -14,7 +14,7 @@ use Rattle.model.specs.Records.{State, state, l2SetsOf, l2SetAt, l2LineAt, with
 use Rattle.model.specs.Ways.{emptyL1d, emptyL2}
 use Rattle.model.specs.Homes.{writeOutL2, writebackL2, evictL2}
 use Rattle.model.specs.Commands.{atL1d, dropL2, eachL2, unlessMode0}
-use Rattle.model.specs.Laws.{bool}
+use Rattle.model.specs.Laws.{bool, mode0-sets}
 use Rattle.model.specs.declared.Line.{Line}
 use Rattle.model.specs.declared.L2Set.{L2Set}
 use Rattle.tags.specs.Sizes.{same-write-out-l2, same-writeback-l2, same-evict-l2}
@@ -90,11 +90,11 @@ module _ (z : State) (t v : ℕ) (empty : l2LineAt (z .rec) t v ≡ emptyLine) w
 -- ---- a block: none in mode 0, else its lines one by one
 pub block-none : (g : State → State) (z : State) (sets : ℕ) → sets ≡ l2SetsOf (z .rec) → sets ≡ 0 → z ≡ unlessMode0 g z
 unfolding unlessMode0
-block-none g z sets e h = rw (eq-eqb (l2SetsOf (z .rec)) 0 (sym e ∙ h)) refl
+block-none g z sets e h = rw (mode0-sets (z .rec), eq-eqb (l2SetsOf (z .rec)) 0 (sym e ∙ h)) refl
 
 pub block-some : (g : State → State) (y z : State) (sets : ℕ) → sets ≡ l2SetsOf (z .rec) → sets ≢ 0 → y ≡ g z → y ≡ unlessMode0 g z
 unfolding unlessMode0
-block-some g y z sets e h ey = rw (ne-eqb (l2SetsOf (z .rec)) 0 (λ q. h (e ∙ q))) ey
+block-some g y z sets e h ey = rw (mode0-sets (z .rec), ne-eqb (l2SetsOf (z .rec)) 0 (λ q. h (e ∙ q))) ey
 
 -- ---- all ways
 pub all-ways : (f : ℕ → ℕ → State → State) (y z : State) (sets : ℕ) → sets ≡ l2SetsOf (z .rec) → y ≡ each (λ k. f (k / 4) (k % 4)) (sets * 4) z → y ≡ eachL2 f z

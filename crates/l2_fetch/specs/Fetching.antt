@@ -6,13 +6,13 @@ use mathlib.Core.Path.{_≡_, refl, sym, ap, _∙_}
 use mathlib.Core.Logic.{_≢_}
 use mathlib.Core.List.{List}
 use native.Mathlib.Omega.{arith}
-use lib.Dec.{ltb}
+use lib.Dec.{ltb, eqb}
 use borrow.Author.Tests.{lt-ltb, le-ltb}
 use Rattle.model.specs.Bytes.{part, stored}
 use Rattle.model.specs.Memories.{externalBase}
-use Rattle.model.specs.Laws.{bool, false-true}
+use Rattle.model.specs.Laws.{bool, false-true, mode0-sets}
 use Rattle.model.specs.Lines.{l1dSetOf, l1dData, l1dLine, l2DataIn, l2SetIn, l2Line, lineOf, l2Use}
-use Rattle.model.specs.Records.{State, state, sramOf, l2SetsOf, l2SetOf, l2SetAt, l2LineAt, withL2Set, withL1dLine, withL2Line}
+use Rattle.model.specs.Records.{State, state, sramOf, l2SetsOf, mode0, l2SetOf, l2SetAt, l2LineAt, withL2Set, withL1dLine, withL2Line}
 use Rattle.model.specs.Ways.{l2Find, l2Victim, inL2, l2Way, useL2}
 use Rattle.model.specs.Homes.{homeIsL2, memoryPart, putMemory, putL2, l2WayFor, evictL2, fillL2, bringL2, fetchL2, homeServer}
 use Rattle.model.specs.Access.{homeLine, fillL1d, writeHome}
@@ -140,4 +140,6 @@ any-write z b v u a bs eb f = bool b (λ t. ap (λ (x : ℕ). writeHome x a bs z
 -- what was found stays found while the sizes stay
 pub found-next : (h : Fetched) (a : ℕ) (r q : Record) → l2SetsOf q ≡ l2SetsOf r → Found h a r → Found h a q
 unfolding homeIsL2
-found-next h a r q e f = (rw e (f .0), (λ t. rw e (f .1 .0 t), f .1 .1))
+found-next h a r q e f =
+    let m : mode0 q ≡ mode0 r = mode0-sets q ∙ ap (λ (n : ℕ). eqb n 0) e ∙ sym (mode0-sets r) in
+    (rw m (f .0), (λ t. rw e (f .1 .0 t), f .1 .1))

@@ -6,9 +6,10 @@ use mathlib.Core.Path.{_≡_, refl, sym, ap, _∙_}
 use native.Mathlib.Omega.{arith}
 use native.Mathlib.Numerals.{add-one}
 use lib.Dec.{leb, eqb}
+use Rattle.model.specs.Records.{covers}
 use borrow.Author.Tests.{eq-eqb, ne-eqb}
 use Rattle.model.specs.Basics.{anyOf}
-use Rattle.model.specs.Refusals.{first, unless, inRange, holdsRange, marDue}
+use Rattle.model.specs.Refusals.{lowestDue, unless, inRange, holdsRange, marDue}
 use Rattle.model.specs.declared.L1dSet.{L1dSet}
 use Rattle.model.specs.declared.L2Set.{L2Set}
 use Rattle.model.specs.declared.Record.{Record}
@@ -34,7 +35,7 @@ module _ (n b : ℕ) where
   pub operands-nine : marFlag ≡ false → 9 ≡ marOperandsDue n b
   operands-nine e = sym (by-operands ∙ rw e refl)
 
-  pub due-in-turn : (r : Record) → marDue r n b ≡ first (marOperandsDue n b) (unless (not (eqb b 0 && holdsRange n r)) 10)
+  pub due-in-turn : (r : Record) → marDue r n b ≡ lowestDue (marOperandsDue n b) (unless (not (eqb b 0 && holdsRange n r)) 10)
   unfolding marDue marOperandsDue
   due-in-turn r = refl
 
@@ -62,7 +63,7 @@ l2RangeIn ws n j = anyOf (inRange n) (l2In ws j .lines)
 
 -- ---- a way, a set
 pub range-joined : (f a n : ℕ) → ((eqb (f % 65536) 1 || eqb (f % 65536) 257) && eqb (a / 16777216) n) ≡ inRange n (lineIn f a)
-unfolding inRange lineIn
+unfolding inRange covers lineIn
 range-joined f a n = refl
 
 module _ (ws : List ℕ) (n i : ℕ) where
@@ -133,15 +134,15 @@ module _ (ws : List ℕ) (n : ℕ) where
 -- ---- the number due
 module _ (r : Record) (n b k : ℕ) (ek : k ≡ marOperandsDue n b) where
   pub mar-nine : (k ≡ 0 → ⊥) → k ≡ marDue r n b
-  mar-nine h = sym (due-in-turn n b r ∙ ap (λ (o : ℕ). first o (unless (not (eqb b 0 && holdsRange n r)) 10)) (sym ek) ∙ due k h)
+  mar-nine h = sym (due-in-turn n b r ∙ ap (λ (o : ℕ). lowestDue o (unless (not (eqb b 0 && holdsRange n r)) 10)) (sym ek) ∙ due k h)
     where
-      due : (o : ℕ) → (o ≡ 0 → ⊥) → first o (unless (not (eqb b 0 && holdsRange n r)) 10) ≡ o
+      due : (o : ℕ) → (o ≡ 0 → ⊥) → lowestDue o (unless (not (eqb b 0 && holdsRange n r)) 10) ≡ o
       due zero h = absurd (h refl)
       due (suc o) h = refl
 
   module _ (z : k ≡ 0) where
     none-yet : marDue r n b ≡ unless (not (eqb b 0 && holdsRange n r)) 10
-    none-yet = due-in-turn n b r ∙ ap (λ (o : ℕ). first o (unless (not (eqb b 0 && holdsRange n r)) 10)) (sym ek ∙ z)
+    none-yet = due-in-turn n b r ∙ ap (λ (o : ℕ). lowestDue o (unless (not (eqb b 0 && holdsRange n r)) 10)) (sym ek ∙ z)
 
     pub mar-set : (b ≡ 0 → ⊥) → 0 ≡ marDue r n b
     mar-set h = sym (none-yet ∙ rw (ne-eqb b 0 h) refl)

@@ -1,4 +1,5 @@
--- What the definitions repeat and test by. No sentence of paper 01 stands here; `cond`, `&&` and `||` are the library's.
+-- What the definitions repeat and test by. No sentence of paper 01 stands here; `cond`, `&&` and `||` are the
+-- library's.
 use Prim.Native.Nat.{ℕ, zero, suc}
 use mathlib.Core.Bool.{Bool, true, false, _&&_, _||_}
 use mathlib.Core.List.{List, [], _∷_}

@@ -1,5 +1,7 @@
--- Parts of a lent memory and values of several bytes, as paper 01 speaks of them. Both guards below never act on a well-formed record:
--- `part-inside` and `stored-inside` (Laws) take them away. They make every definition above them say something of every record.
+-- Parts of a lent memory and values of several bytes, as paper 01 speaks of them. Both guards below never act on a
+-- well-formed record:
+-- `part-inside` and `stored-inside` (Laws) take them away. They make every definition above them say something of
+-- every record.
 use Prim.Native.Nat.{ℕ, zero, suc, _%_, _+_, _-_, _/_, _*_}
 use mathlib.Core.Bool.{cond}
 use mathlib.Core.List.{List, [], _++_, _∷_}

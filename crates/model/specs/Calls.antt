@@ -1,4 +1,6 @@
--- Paper 01: the calls, the run over a trace, the technician's view. What every contract of an exported call cites.
+-- Paper 01: one command, the fresh start, the run over a trace, the technician's view: what every contract of an
+-- exported call cites. Last, the type of calls, one case for each kind, and what a call does to a state: what the
+-- statements about lists of calls are about.
 use Prim.Native.Nat.{ℕ, zero, suc, _+_, _*_}
 use mathlib.Core.Bool.{Bool, cond, _&&_}
 use mathlib.Core.List.{List, [], _∷_}
@@ -16,15 +18,17 @@ use Rattle.model.specs.Trace.{Decoded, decode}
 use Rattle.model.specs.declared.Command.{Command}
 use Rattle.model.specs.declared.Record.{Record}
 
--- what a call gives: number, server, value, and the state after it
+-- what a call gives: number, server, value, the bytes that it hands back, and the state after it
 pub record Reply : Type 0 where
   pub number : ℕ
   pub server : ℕ
   pub value : ℕ
+  pub bytes : List ℕ
   pub next : State
 
+-- a reply that hands back no bytes: that of every call but the view
 abbrev pub reply : ℕ → ℕ → ℕ → State → Reply
-reply n k v z = record { number = n; server = k; value = v; next = z }
+reply n k v z = record { number = n; server = k; value = v; bytes = []; next = z }
 
 -- "Value and server are 0 with it; the record comes back as given, and a refused direct call changes no lent byte."
 abbrev pub refused : ℕ → State → Reply
@@ -34,7 +38,8 @@ refused n z = reply n 0 0 z
 abbrev pub carriedOut : State → Reply
 carriedOut z = reply 0 0 0 z
 
--- ---- one command: the number due by its code ("11 means an unknown code", which a trace never gives), and what it does when none is
+-- ---- one command: the number due by its code ("11 means an unknown code", which a trace never gives), and what it
+-- does when none is
 unfoldable pub commandDue : Command → State → ℕ
 commandDue c z =
     cond (eqb (c .code) 0) (accessDue (sramOf (z .rec)) (z .rec .extlen) (c .first) (c .second) 0)
@@ -85,7 +90,8 @@ freshOk d m e = eqb (length d) l1dLength && (legalL2 (length m) && legalExternal
 unfoldable pub freshCall : List ℕ → List ℕ → List ℕ → Reply
 freshCall d m e = cond (freshOk d m e) (carriedOut (freshState (length m) e)) (refused 1 (state (freshRecord 32768 128) d m e))
 
--- ---- the run: "It returns the record, bytes consumed, the count of answers, stop number (0 at the end). Later answer bytes are unchanged."
+-- ---- the run: "It returns the record, bytes consumed, the count of answers, stop number (0 at the end). Later
+-- answer bytes are unchanged."
 pub record Run : Type 0 where
   pub next : State
   pub consumed : ℕ
@@ -100,9 +106,12 @@ ran z i k n o = record { next = z; consumed = i; count = k; stop = n; answers = 
 unfoldable pub putAnswer : List ℕ → ℕ → ℕ → ℕ → ℕ → List ℕ
 putAnswer o k n s v = stored o (k * 10) (n ∷ s ∷ littleBytes v 8)
 
--- "Then it carries out commands. .. Refusals 3 to 10 are answered and the run goes on. 11, then 12, stop it before that command".
--- "in a trace 11, then 12, come before 3 to 10". t: the trace, i: the byte it has come to, k: the answers so far, o: their bytes. Each command takes a byte at least,
--- so that as many turns as the trace has bytes are enough.
+-- "Then it carries out commands. .. Refusals 3 to 10 are answered and the run goes on. 11, then 12, stop it before
+-- that command".
+-- "in a trace 11, then 12, come before 3 to 10". t: the trace, i: the byte it has come to, k: the answers so far, o:
+-- their bytes.
+-- The number of turns is no limit: each command takes a byte at least, so that as many turns as bytes are left are
+-- enough, and more change nothing (`TurnsSuffice` in Traces).
 abbrev pub commandAt : List ℕ → ℕ → Decoded
 commandAt t i = decode (drop i t)
 
@@ -125,6 +134,41 @@ unfoldable pub runCall : List ℕ → List ℕ → State → Run
 runCall t o z =
     cond (eqb (lentDue z) 0) (runFrom t (length t) 0 z 0 o) (ran z 0 0 (lentDue z) o)
 
--- ---- "Looking behind L1D": "the bytes of SRAM or of external memory themselves .. never the L2 cache's copy. A refusal returns the empty part"
+-- ---- "Looking behind L1D": "the bytes of SRAM or of external memory themselves .. never the L2 cache's copy. A
+-- refusal returns the empty part"
 unfoldable pub viewCall : Record → List ℕ → List ℕ → ℕ → List ℕ
 viewCall r m e a = cond (eqb (viewDue r m e a) 0) (memoryPart a 64 (state r [] m e)) []
+
+-- "a second call with the same arguments returns the number, 0 when accepted.": both together; nothing is changed
+unfoldable pub viewDone : ℕ → State → Reply
+viewDone a z =
+    record {
+      number = viewDue (z .rec) (z .l2) (z .ext) a;
+      server = 0;
+      value = 0;
+      bytes = viewCall (z .rec) (z .l2) (z .ext) a;
+      next = z;
+    }
+
+-- ---- the calls, of every kind: a command, the fresh start, the technician's view of the line at an address. Lists
+-- of calls hold these.
+pub data Call : Type 0 where
+  oneCommand : Command → Call
+  freshStart : Call
+  look : ℕ → Call
+
+-- what a call gives on a state
+abbrev pub called : Call → State → Reply
+called (oneCommand c) z = call c z
+called freshStart z = freshCall (z .l1d) (z .l2) (z .ext)
+called (look a) z = viewDone a z
+
+-- the state after calls, one after another
+unfoldable pub after : List Call → State → State
+after [] z = z
+after (c ∷ cs) z = after cs (called c z .next)
+
+-- commands as calls
+abbrev pub commands : List Command → List Call
+commands [] = []
+commands (c ∷ cs) = oneCommand c ∷ commands cs

@@ -1,5 +1,7 @@
--- Demand 3, what it says; `Agreement` proves it. Paper 01, "Flat memory": "Demand 3 is one statement about the whole list and not one for each call."
--- Read it from the top: the commands that a list may hold, what is compared of a call, what a global writeback settles, both runs along the list, the demand.
+-- Demand 3, what it says; `Agreement` proves it. Paper 01, "Flat memory": "Demand 3 is one statement about the whole
+-- list and not one for each call."
+-- Read it from the top: the calls that a list may hold, what is compared of a call, what a global writeback settles,
+-- both runs along the list, the demand.
 use Prim.Native.Nat.{ℕ, _≤_}
 use mathlib.Core.Bool.{Bool, true, false, cond, _&&_, _||_}
 use mathlib.Core.Path.{_≡_}
@@ -9,33 +11,52 @@ use lib.ListN.{length}
 use lib.Dec.{leb, eqb}
 use Rattle.model.specs.Memories.{externalBase}
 use Rattle.model.specs.Records.{State, l1dLineAt, l2LineAt}
-use Rattle.model.specs.Flat.{Flat, freshFlat, flatStep}
-use Rattle.model.specs.Calls.{Reply, call, freshCall}
+use Rattle.model.specs.Flat.{Flat, freshFlat, flatCalled}
+use Rattle.model.specs.Calls.{Reply, freshCall, Call, oneCommand, freshStart, look, called, commands}
 use Rattle.model.specs.declared.Command.{Command}
 
--- ---- which commands a list may hold: reads (0), writes (1), the writeback commands (2 to 5 and 7), mode changes (10) and MAR changes (11),
--- each with any numbers; refused ones too
+-- ---- which calls a list may hold: reads (0), writes (1), the writeback commands (2 to 5 and 7), mode changes (10)
+-- and MAR changes (11), each with any numbers, refused ones too; and views. No fresh start: flat memory begins with
+-- the external memory as lent.
 abbrev pub listedCode : ℕ → Bool
 listedCode k = leb k 5 || (eqb k 7 || (eqb k 10 || eqb k 11))
 
-unfoldable pub listed : List Command → Bool
-listed [] = true
-listed (c ∷ cs) = listedCode (c .code) && listed cs
+abbrev pub listedCall : Call → Bool
+listedCall (oneCommand c) = listedCode (c .code)
+listedCall freshStart = false
+listedCall (look a) = true
 
--- ---- what is compared: the number and the value of reads, writes and mode changes. So both refuse the same ones, by the same number, and an accepted read
--- gives the same value.
-abbrev pub compared : Command → Bool
-compared c = eqb (c .code) 0 || (eqb (c .code) 1 || eqb (c .code) 10)
+unfoldable pub listed : List Call → Bool
+listed [] = true
+listed (c ∷ cs) = listedCall c && listed cs
+
+-- ---- what is compared: the number and the value of reads, writes and mode changes. So both refuse the same ones, by
+-- the same number, and an accepted read gives the same value.
+abbrev pub compared : Call → Bool
+compared (oneCommand c) = eqb (c .code) 0 || (eqb (c .code) 1 || eqb (c .code) 10)
+compared freshStart = false
+compared (look a) = false
 
 -- ---- the global writeback commands, "2 and 3 being the global ones"
-abbrev pub global : Command → Bool
-global c = eqb (c .code) 2 || eqb (c .code) 3
+abbrev pub global : Call → Bool
+global (oneCommand c) = eqb (c .code) 2 || eqb (c .code) 3
+global freshStart = false
+global (look a) = false
 
--- "The mode at a call is that of the last accepted mode change before it in the list, 0 if there was none.": the mode behind a call that was answered r
-unfoldable pub modeAfter : Command → Reply → ℕ → ℕ
-modeAfter c r mode = cond (eqb (c .code) 10 && eqb (r .number) 0) (c .first) mode
+-- "The mode at a call is that of the last accepted mode change before it in the list, 0 if there was none.": the mode
+-- behind a call that was answered r
+unfoldable pub modeAfter : Call → Reply → ℕ → ℕ
+modeAfter (oneCommand c) r mode = cond (eqb (c .code) 10 && eqb (r .number) 0) (c .first) mode
+modeAfter freshStart r mode = mode
+modeAfter (look a) r mode = mode
 
--- ---- external memory is settled: the same in both, and no line of it is dirty in either cache (L2 holds lines of external memory only)
+-- and the mode behind calls, one after another
+unfoldable pub modeAlong : ℕ → List Call → State → ℕ
+modeAlong mode [] z = mode
+modeAlong mode (c ∷ cs) z = modeAlong (modeAfter c (called c z) mode) cs (called c z .next)
+
+-- ---- external memory is settled: the same in both, and no line of it is dirty in either cache (L2 holds lines of
+-- external memory only)
 pub record Settled (z : State) (f : Flat) : Type 0 where
   pub same : z .ext ≡ f .ext
   pub l1dClean : (s w : ℕ) → l1dLineAt (z .rec) s w .valid ≡ true → externalBase ≤ l1dLineAt (z .rec) s w .address →
@@ -43,19 +64,25 @@ pub record Settled (z : State) (f : Flat) : Type 0 where
   pub l2Clean : (t v : ℕ) → l2LineAt (z .rec) t v .valid ≡ true → l2LineAt (z .rec) t v .dirty ≡ false
 
 -- ---- what agrees at one place of the list, the chip being in state z and flat memory in state f before the call
-pub record AgreesAt (mode : ℕ) (c : Command) (z : State) (f : Flat) : Type 0 where
-  pub number : compared c ≡ true → call c z .number ≡ flatStep c f .number
-  pub value : compared c ≡ true → call c z .value ≡ flatStep c f .value
-  pub settled : global c ≡ true → call c z .number ≡ 0 → mode ≢ 0 → Settled (call c z .next) (flatStep c f .next)
+pub record AgreesAt (mode : ℕ) (c : Call) (z : State) (f : Flat) : Type 0 where
+  pub number : compared c ≡ true → called c z .number ≡ flatCalled c f .number
+  pub value : compared c ≡ true → called c z .value ≡ flatCalled c f .value
+  pub settled : global c ≡ true → called c z .number ≡ 0 → mode ≢ 0 → Settled (called c z .next) (flatCalled c f .next)
 
--- ---- along the whole list: both carry out the same commands, one after another, and agree at each place
-pub data Agree : ℕ → List Command → State → Flat → Type 0 where
+-- ---- along the whole list: both carry out the same calls, one after another, and agree at each place
+pub data Agree : ℕ → List Call → State → Flat → Type 0 where
   end : {mode : ℕ} {z : State} {f : Flat} → Agree mode [] z f
-  next : {mode : ℕ} {c : Command} {cs : List Command} {z : State} {f : Flat} →
-      AgreesAt mode c z f → Agree (modeAfter c (call c z) mode) cs (call c z .next) (flatStep c f .next) → Agree mode (c ∷ cs) z f
+  next : {mode : ℕ} {c : Call} {cs : List Call} {z : State} {f : Flat} →
+      AgreesAt mode c z f → Agree (modeAfter c (called c z) mode) cs (called c z .next) (flatCalled c f .next) → Agree mode (c ∷ cs) z f
 
 -- ---- demand 3: from an accepted fresh start, which leaves mode 0, whatever bytes were lent to it, for every list
 abbrev pub Demand3 : Type 0
 Demand3 =
     (d m e : List ℕ) → freshCall d m e .number ≡ 0 →
-    (cs : List Command) → listed cs ≡ true → Agree 0 cs (freshCall d m e .next) (freshFlat (length m) e)
+    (cs : List Call) → listed cs ≡ true → Agree 0 cs (freshCall d m e .next) (freshFlat (length m) e)
+
+-- ---- so for every list of commands
+abbrev pub CommandsDemand3 : Type 0
+CommandsDemand3 =
+    (d m e : List ℕ) → freshCall d m e .number ≡ 0 →
+    (cs : List Command) → listed (commands cs) ≡ true → Agree 0 (commands cs) (freshCall d m e .next) (freshFlat (length m) e)

@@ -1,13 +1,14 @@
 -- Paper 01, "Flat memory".
 use Prim.Native.Nat.{ℕ, _-_}
 use mathlib.Core.Bool.{cond}
-use mathlib.Core.List.{List}
+use mathlib.Core.List.{List, [], _∷_}
 use lib.ListN.{length, replicate}
 use lib.Dec.{ltb, eqb}
 use Rattle.model.specs.Bytes.{part, stored, little, littleBytes, zeroFrom}
 use Rattle.model.specs.Memories.{externalBase, sramLength}
 use Rattle.model.specs.Modes.{smaller}
 use Rattle.model.specs.Refusals.{accessDue, modeDue}
+use Rattle.model.specs.Calls.{Call, oneCommand, freshStart, look}
 use Rattle.model.specs.declared.Command.{Command}
 
 -- "State: L, E, S, S bytes of SRAM, E of external memory." (E is the length of external memory, S that of SRAM.)
@@ -32,7 +33,8 @@ flatPut a bs f =
     cond (ltb a externalBase) (flat (f .l2len) (stored (f .sram) a bs) (f .ext))
     (flat (f .l2len) (f .sram) (stored (f .ext) (a - externalBase) bs))
 
--- "S becomes L − C for the new mode; SRAM bytes below the smaller of old and new S are kept, the other SRAM bytes are zero."
+-- "S becomes L − C for the new mode; SRAM bytes below the smaller of old and new S are kept, the other SRAM bytes are
+-- zero."
 unfoldable pub flatMode : ℕ → Flat → Flat
 flatMode m f = flat (f .l2len) (zeroFrom (smaller (length (f .sram)) (sramLength (f .l2len) m)) (f .sram) (sramLength (f .l2len) m)) (f .ext)
 
@@ -67,3 +69,13 @@ flatStep c f =
     cond (eqb (c .code) 0) (flatRead (c .first) (c .second) f)
     (cond (eqb (c .code) 1) (flatWrite (c .first) (c .second) (c .value) f)
     (cond (eqb (c .code) 10) (flatChange (c .first) f) (flatReply 0 0 f)))
+
+-- a call of any kind; the state after calls, one after another
+abbrev pub flatCalled : Call → Flat → FlatReply
+flatCalled (oneCommand c) f = flatStep c f
+flatCalled freshStart f = flatReply 0 0 f
+flatCalled (look a) f = flatReply 0 0 f
+
+unfoldable pub flatAfter : List Call → Flat → Flat
+flatAfter [] f = f
+flatAfter (c ∷ cs) f = flatAfter cs (flatCalled c f .next)

@@ -1,26 +1,33 @@
--- Laws of the definitions, which callers cite in place of their text: choices and tests, parts of a memory and bytes stored in it, the order of
--- use, the way that is chosen, commands in mode 0. No definition stands here.
-use Prim.Native.Nat.{ℕ, zero, suc, _<_, _≤_, _%_, _/_, _+_, _-_}
+-- Laws of the definitions, which callers cite in place of their text: choices and tests, parts of a memory and bytes
+-- stored in it, numbers due, MAR bits, the order of use, the way that is chosen, mode 0, the lines that a block touches.
+-- No definition of paper 01 stands here.
+use Prim.Native.Nat.{ℕ, zero, suc, _<_, _≤_, _%_, _/_, _+_, _*_, _-_}
 use mathlib.Core.Bool.{Bool, true, false, cond, _&&_}
 use mathlib.Core.List.{List, [], map, _++_}
-use mathlib.Core.Logic.{_≢_}
+use mathlib.Core.Logic.{_≢_, _↔_, _⊎_, inl, inr, ⊎-elim}
 use mathlib.Core.Path.{_≡_, refl, sym, ap, _∙_, subst}
 use native.Mathlib.Omega.{arith}
-use native.Mathlib.Nat.{add-sub-of-le}
+use native.Mathlib.Nat.{add-sub-of-le, eq-of-mul-eq-mul-right, mul-le-mul-right, div-mul-le-self, le-div-iff-mul-le, lt-div-mul-add, mul-div-cancel}
 use lib.ListN.{length, getD, take, drop, length-append, length-take, length-drop, take-append-drop, List·getD-append, length-map}
 use lib.Seq.{getD-take, getD-drop, getD-append-add, length-take-le}
-use lib.Dec.{leb, eqb}
-use borrow.Author.Tests.{leb-true, le-leb, lt-leb, eqb-true, eqb-false}
+use lib.Dec.{ltb, leb, eqb}
+use borrow.Author.Tests.{ltb-true, ltb-false, leb-true, le-leb, lt-leb, eqb-true, eqb-false, eq-eqb, ne-eqb}
 use Rattle.model.specs.Basics.{each}
 use Rattle.model.specs.Bytes.{splice, part, stored, littleBytes}
-use Rattle.model.specs.Lines.{Permutation2, Permutation4, used2, used4, l1dGet, l2Get}
-use Rattle.model.specs.Records.{State, l2SetsOf}
+use Rattle.model.specs.Memories.{externalBase, cacheSize, isMode}
+use Rattle.model.specs.Lines.{Permutation2, Permutation4, inFront, without, used2, used4, l1dGet, l2Get}
+use Rattle.model.specs.Records.{State, l2SetsOf, mode0, covers, marBit}
 use Rattle.model.specs.Ways.{lowestInvalid, l1dVictim, l2Victim}
-use Rattle.model.specs.Commands.{eachL2, unlessMode0}
+use Rattle.model.specs.Modes.{smaller}
+use Rattle.model.specs.Refusals.{lowestDue, unless, lentDue}
+use Rattle.model.specs.Commands.{blockEnd, linesTouched, eachL2, unlessMode0}
+use Rattle.model.specs.Calls.{Reply, reply, refused, carriedOut, commandDue, readDone, writeDone, commandState, accepted, step, call}
+use Rattle.model.specs.declared.Command.{Command}
 use Rattle.model.specs.declared.L1dSet.{L1dSet}
 use Rattle.model.specs.declared.L2Set.{L2Set}
 use Rattle.model.specs.declared.Order2.{Order2}
 use Rattle.model.specs.declared.Order4.{Order4}
+use Rattle.model.specs.declared.Record.{Record}
 
 -- ---- choices and tests
 pub false-true {ℓ} : {A : Type ℓ} → false ≡ true → A
@@ -128,10 +135,45 @@ module _ (m bs : List ℕ) (a i : ℕ) (fits : a + length bs ≤ length m) where
 pub part-at : (m : List ℕ) (a n i : ℕ) → a + n ≤ length m → i < n → getD (part m a n) i 0 ≡ getD m (a + i) 0
 part-at m a n i f h = rw (part-inside m a n f) (getD-take n (drop a m) i 0 h ∙ getD-drop a m i 0)
 
--- ---- laws of the order
+-- ---- no number is due: the test of each holds
+pub lowestDue-none : (b : Bool) (n k : ℕ) → lowestDue (unless b (suc n)) k ≡ 0 → (b ≡ true) × (k ≡ 0)
+lowestDue-none true n k e = (refl, e)
+lowestDue-none false n k e = absurd (omega arith)
+
+pub unless-none : (b : Bool) (n : ℕ) → unless b (suc n) ≡ 0 → b ≡ true
+unless-none true n e = refl
+unless-none false n e = absurd (omega arith)
+
+-- ---- the bit of an external address, as the code asks for it: in the first 16 MiB or behind them
+pub mar-bit : (r : Record) (a : ℕ) → externalBase ≤ a → marBit r a ≡ cond (ltb a (129 * 0x1000000)) (r .mar128) (r .mar129)
+unfolding marBit covers
+mar-bit r a h =
+    bool (ltb a (129 * 0x1000000))
+    (λ t. let l = ltb-true a (129 * 0x1000000) t in rw (t, eq-eqb (a / 0x1000000) 128 (omega arith)) refl)
+    (λ t. let l = ltb-false a (129 * 0x1000000) t in rw (t, ne-eqb (a / 0x1000000) 128 (omega arith)) refl)
+
+-- ---- laws of the order: the cases by which the code moves a way to the front, whatever the order
+pub used2-cases : (o : Order2) (w : ℕ) → used2 o w ≡ cond (eqb (o .first) w) o (record { first = w; second = o .first })
+unfolding used2 inFront without
+used2-cases o w =
+    bool (eqb (o .first) w) (λ e. let m = eqb-true (o .first) w e in rw (e, ← m) refl)
+    (λ e. rw e refl)
+
+pub used4-cases : (o : Order4) (w : ℕ) → used4 o w ≡
+    cond (eqb (o .first) w) o
+    (cond (eqb (o .second) w) (record { first = w; second = o .first; third = o .third; fourth = o .fourth })
+    (cond (eqb (o .third) w) (record { first = w; second = o .first; third = o .second; fourth = o .fourth })
+    (record { first = w; second = o .first; third = o .second; fourth = o .third })))
+unfolding used4 inFront without
+used4-cases o w =
+    bool (eqb (o .first) w) (λ e. let m = eqb-true (o .first) w e in rw (e, ← m) refl)
+    (λ e. bool (eqb (o .second) w) (λ f. rw (e, f) refl)
+    (λ f. bool (eqb (o .third) w) (λ g. rw (e, f, g) refl)
+    (λ g. rw (e, f, g) refl)))
+
+-- a permutation stays one
 pub used2-permutation : (o : Order2) (w : ℕ) → w < 2 → Permutation2 o → Permutation2 (used2 o w)
-unfolding used2
-used2-permutation o w h p = go (eqb (o .first) w) refl
+used2-permutation o w h p = rw (used2-cases o w) (go (eqb (o .first) w) refl)
   where
     go : (b : Bool) → eqb (o .first) w ≡ b → Permutation2 (cond b o (record { first = w; second = o .first }))
     go true e = p
@@ -155,8 +197,7 @@ in-front w a b c hw ha hb hc aw bw cw ab ac bc =
     }
 
 pub used4-permutation : (o : Order4) (w : ℕ) → w < 4 → Permutation4 o → Permutation4 (used4 o w)
-unfolding used4
-used4-permutation o w h p = go (eqb (o .first) w) refl (eqb (o .second) w) refl (eqb (o .third) w) refl
+used4-permutation o w h p = rw (used4-cases o w) (go (eqb (o .first) w) refl (eqb (o .second) w) refl (eqb (o .third) w) refl)
   where
     go : (x : Bool) → eqb (o .first) w ≡ x → (y : Bool) → eqb (o .second) w ≡ y → (z : Bool) → eqb (o .third) w ≡ z →
         Permutation4 (cond x o
@@ -192,7 +233,105 @@ pub l2-victim : (v : L2Set) → Permutation4 (v .order) → l2Victim v ≡ lowes
 unfolding l2Victim
 l2-victim v p = let h = p .below4 in let e : v .order .fourth % 4 ≡ v .order .fourth = omega arith in rw e refl
 
--- ---- L2 has no way to go through in mode 0
+-- ---- L2 has no sets in mode 0, and some in every other
+mode0-of : (m : ℕ) → cond (isMode m) (eqb m 0) true ≡ eqb (cacheSize m / 512) 0
+unfolding isMode cacheSize
+mode0-of m =
+    bool (eqb m 1) (λ t. rw (eqb-true m 1 t) refl)
+    (λ n₁. bool (eqb m 2) (λ t. rw (eqb-true m 2 t) refl)
+    (λ n₂. bool (eqb m 3) (λ t. rw (eqb-true m 3 t) refl)
+    (λ n₃. bool (eqb m 7) (λ t. rw (eqb-true m 7 t) refl)
+    (λ n₇. bool (leb m 3)
+    (λ t. let a = eqb-false m 1 n₁ in let b = eqb-false m 2 n₂ in let c = eqb-false m 3 n₃ in let l = leb-true m 3 t in
+    let e : m ≡ 0 = omega arith in rw e refl)
+    (λ t. rw (n₁, n₂, n₃, n₇, t) refl)))))
+
+pub mode0-sets : (r : Record) → mode0 r ≡ eqb (l2SetsOf r) 0
+unfolding mode0
+mode0-sets r = mode0-of (r .mode)
+
+-- so the ways that a loop goes through are none in mode 0
 pub no-ways : (f : ℕ → ℕ → State → State) (z : State) → unlessMode0 (eachL2 f) z ≡ eachL2 f z
 unfolding unlessMode0 eachL2 each
-no-ways f z = bool (eqb (l2SetsOf (z .rec)) 0) (λ e. let n = eqb-true (l2SetsOf (z .rec)) 0 e in rw (e, n) refl) (λ e. rw e refl)
+no-ways f z =
+    bool (mode0 (z .rec))
+    (λ e. let n = eqb-true (l2SetsOf (z .rec)) 0 (sym (mode0-sets (z .rec)) ∙ e) in rw (e, n) refl) (λ e. rw e refl)
+
+-- ---- "It touches each line with a byte in it": the lines that `eachTouched` goes through are those and no others
+abbrev pub GoneThrough : (n b c l : ℕ) → Type 0
+GoneThrough n b c l = (k : ℕ) × (k < linesTouched n b c) × (l * n ≡ (b / n + k) * n)
+
+abbrev pub HasByte : (n b c l : ℕ) → Type 0
+HasByte n b c l = (x : ℕ) × (b ≤ x) × (x < blockEnd b c) × (x / n ≡ l)
+
+-- a block of no words has no byte; the end of any other lies after its base
+block-end : (b c : ℕ) → b < 0x100000000 → ((c ≡ 0) × (blockEnd b c ≡ b)) ⊎ ((c ≢ 0) × (b < blockEnd b c))
+unfolding blockEnd smaller
+block-end b c low =
+    bool (eqb c 0)
+    (λ t. let e = eqb-true c 0 t in
+    let f : b + c * 4 ≡ b = omega arith in
+    let g : leb b 0x100000000 ≡ true = le-leb b 0x100000000 (omega arith) in
+    inl (e, rw (f, g) refl))
+    (λ t. let e = eqb-false c 0 t in
+    let more : b < cond (leb (b + c * 4) 0x100000000) (b + c * 4) 0x100000000 =
+    cond-elim (λ (y : ℕ). b < y) (leb (b + c * 4) 0x100000000) (b + c * 4) 0x100000000 (λ _. omega arith) (λ _. low) in
+    inr (e, more))
+
+module _ (n b c l : ℕ) (some : 0 < n) (low : b < 0x100000000) where
+  quotient-le : (x y : ℕ) → x ≤ y → x / n ≤ y / n
+  quotient-le x y k = let d = div-mul-le-self x n in let g : x / n * n ≤ y = omega arith in le-div-iff-mul-le some .1 g
+
+  byte-in : (k : ℕ) → k < linesTouched n b c → l ≡ b / n + k → HasByte n b c l
+  unfolding linesTouched
+  byte-in k h e =
+      ⊎-elim
+      (λ p. let z : k < 0 = rw (eq-eqb c 0 (p .0)) at h in absurd (omega arith))
+      (λ p. let u : k < (blockEnd b c - 1) / n - b / n + 1 = rw (ne-eqb c 0 (p .0)) at h in
+      let g = p .1 in
+      let last : b / n ≤ (blockEnd b c - 1) / n = quotient-le b (blockEnd b c - 1) (omega arith) in
+      bool (eqb k 0)
+      (λ t. let i = eqb-true k 0 t in (b, omega arith, g, omega arith))
+      (λ t. let i = eqb-false k 0 t in
+      let m : (b / n + 1) * n ≤ l * n = mul-le-mul-right n (omega arith) in
+      let o : (b / n + 1) * n ≡ b / n * n + n = omega arith in
+      let f = lt-div-mul-add {a = b} some in
+      let m′ : l * n ≤ (blockEnd b c - 1) / n * n = mul-le-mul-right n (omega arith) in
+      let d = div-mul-le-self (blockEnd b c - 1) n in
+      (l * n, omega arith, omega arith, mul-div-cancel l some)))
+      (block-end b c low)
+
+  pub touched-lines : GoneThrough n b c l ↔ HasByte n b c l
+  unfolding linesTouched
+  touched-lines = (
+    λ g. byte-in (g .0) (g .1) (eq-of-mul-eq-mul-right n some l (b / n + g .0) (g .2)),
+    λ g. let x = g .0 in let from = g .1 in let to = g .2 in let e = g .3 in
+        ⊎-elim
+        (λ p. let z = p .1 in absurd (omega arith))
+        (λ p. let f = quotient-le b x from in
+        let t = quotient-le x (blockEnd b c - 1) (omega arith) in
+        let i : b / n + (l - b / n) ≡ l = omega arith in
+        let u : l - b / n < cond (eqb c 0) 0 ((blockEnd b c - 1) / n - b / n + 1) = rw (ne-eqb c 0 (p .0)) (omega arith) in
+        (l - b / n, u, rw i refl))
+        (block-end b c low),
+  )
+
+-- ---- a command hands back no bytes: its reply is its number, server, value and state
+abbrev told : Reply → Reply
+told r = reply (r .number) (r .server) (r .value) (r .next)
+
+pub step-told : (c : Command) (z : State) → told (step c z) ≡ step c z
+unfolding step accepted readDone writeDone
+step-told c z =
+    let P : Reply → Type 0 = λ r. told r ≡ r in
+    cond-elim P (eqb (commandDue c z) 0) _ (refused (commandDue c z) z)
+    (λ _. cond-elim P (eqb (c .code) 0) (readDone (c .first) (c .second) z) _ (λ _. refl)
+    (λ _. cond-elim P (eqb (c .code) 1) (writeDone (c .first) (c .second) (c .value) z) (carriedOut (commandState c z))
+    (λ _. refl) (λ _. refl)))
+    (λ _. refl)
+
+pub call-told : (c : Command) (z : State) → told (call c z) ≡ call c z
+unfolding call
+call-told c z =
+    cond-elim (λ (r : Reply). told r ≡ r) (eqb (lentDue z) 0) (step c z) (refused (lentDue z) z)
+    (λ _. step-told c z) (λ _. refl)

@@ -13,5 +13,8 @@ pub mod Refusals
 pub mod Trace
 pub mod Calls
 pub mod Demand
+pub mod Sram
+pub mod Stays
 pub mod Traces
 pub mod Laws
+pub mod Opened

@@ -1,12 +1,14 @@
--- Paper 01, "Lines and the record": the record with the lent memories, which records are well formed, the fresh record.
-use Prim.Native.Nat.{ℕ, _+_, _%_, _*_}
+-- Paper 01, "Lines and the record": the record with the lent memories, which records are well formed, the fresh
+-- record.
+use Prim.Native.Nat.{ℕ, _<_, _+_, _/_}
 use mathlib.Core.Bool.{Bool, true, false, not, cond, _&&_}
+use mathlib.Core.Path.{_≡_}
 use mathlib.Core.List.{List, [], _∷_}
 use lib.ListN.{length, getD, set, replicate}
 use lib.Dec.{ltb, leb, eqb}
 use Rattle.model.specs.Basics.{anyOf, allIndexed}
 use Rattle.model.specs.Memories.{legalL2, legalExternal, externalBase, cacheSize, isMode, sramLength}
-use Rattle.model.specs.Lines.{l1dSetOf, l2Sets, l2SetIn, l2DataIn, l2Line, emptyLine, holds, l1dGet, l2Get, l1dPut, l2Put}
+use Rattle.model.specs.Lines.{Kind, setOf, offsetIn, l1dKind, l1dSetOf, l2LineLength, l2Ways, l2Kind, l2DataIn, l2Line, emptyLine, holds, l1dGet, l2Get, l1dPut, l2Put}
 use Rattle.model.specs.declared.Line.{Line}
 use Rattle.model.specs.declared.Order2.{Order2}
 use Rattle.model.specs.declared.Order4.{Order4}
@@ -24,22 +26,66 @@ pub record State : Type 0 where
 abbrev pub state : Record → List ℕ → List ℕ → List ℕ → State
 state r d m e = record { rec = r; l1d = d; l2 = m; ext = e }
 
--- ---- S, the number of L2 sets, an address's L2 set and a way's data, by the record's mode
+-- the state with another record, with other bytes of L1D, of L2, of external memory: every change of a state goes
+-- through these
+abbrev pub withRecord : State → Record → State
+withRecord z r = state r (z .l1d) (z .l2) (z .ext)
+
+abbrev pub withL1d : State → List ℕ → State
+withL1d z d = state (z .rec) d (z .l2) (z .ext)
+
+abbrev pub withL2 : State → List ℕ → State
+withL2 z m = state (z .rec) (z .l1d) m (z .ext)
+
+abbrev pub withExternal : State → List ℕ → State
+withExternal z e = state (z .rec) (z .l1d) (z .l2) e
+
+-- ---- the record with other sets, with another mode, with other MAR bits: every change of a record goes through
+-- these
+abbrev pub withL1dSets : Record → List L1dSet → Record
+withL1dSets r vs =
+    record { l2len = r .l2len; extlen = r .extlen; mode = r .mode; mar128 = r .mar128; mar129 = r .mar129; l1d = vs; l2 = r .l2 }
+
+abbrev pub withL2Sets : Record → List L2Set → Record
+withL2Sets r vs =
+    record { l2len = r .l2len; extlen = r .extlen; mode = r .mode; mar128 = r .mar128; mar129 = r .mar129; l1d = r .l1d; l2 = vs }
+
+abbrev pub withMode : Record → ℕ → Record
+withMode r m =
+    record { l2len = r .l2len; extlen = r .extlen; mode = m; mar128 = r .mar128; mar129 = r .mar129; l1d = r .l1d; l2 = r .l2 }
+
+abbrev pub withMars : Record → Bool → Bool → Record
+withMars r a b =
+    record { l2len = r .l2len; extlen = r .extlen; mode = r .mode; mar128 = a; mar129 = b; l1d = r .l1d; l2 = r .l2 }
+
+-- ---- S, the kind that L2 is of, its number of sets, an address's L2 set and a way's data, by the record's mode
 abbrev pub sramOf : Record → ℕ
 sramOf r = sramLength (r .l2len) (r .mode)
 
+abbrev pub l2KindBy : Record → Kind
+l2KindBy r = l2Kind (r .mode)
+
 abbrev pub l2SetsOf : Record → ℕ
-l2SetsOf r = l2Sets (r .mode)
+l2SetsOf r = l2KindBy r .sets
 
 abbrev pub l2SetOf : Record → ℕ → ℕ
-l2SetOf r a = l2SetIn (l2SetsOf r) a
+l2SetOf r a = setOf (l2KindBy r) a
 
 abbrev pub l2Data : Record → ℕ → ℕ → ℕ
 l2Data r t v = l2DataIn (sramOf r) (l2SetsOf r) t v
 
--- "MAR n covers the 16 MiB from n × 1000000h (001, Table 28)": the bit of an external address
+-- mode 0, which has no L2 cache. What is no mode has none either, so that L2 has no sets in mode 0 and some in every
+-- other (`mode0-sets` in Laws).
+unfoldable pub mode0 : Record → Bool
+mode0 r = cond (isMode (r .mode)) (eqb (r .mode) 0) true
+
+-- "MAR n covers the 16 MiB from n × 1000000h (001, Table 28)."
+unfoldable pub covers : ℕ → ℕ → Bool
+covers n a = eqb (a / 0x1000000) n
+
+-- the bit of the MAR that covers an external address: E is at most 32 MiB, so that it is 128 or 129
 unfoldable pub marBit : Record → ℕ → Bool
-marBit r a = cond (ltb a (129 * 0x1000000)) (r .mar128) (r .mar129)
+marBit r a = cond (covers 128 a) (r .mar128) (r .mar129)
 
 -- ---- "the lines, held by set and by way": a set of the record, and a line of a set.
 -- What stands for a set past the end of the array is what the language gives: no lines, order 0.
@@ -61,14 +107,19 @@ l1dLineAt r s w = l1dGet (l1dSetAt r s) w
 abbrev pub l2LineAt : Record → ℕ → ℕ → Line
 l2LineAt r t v = l2Get (l2SetAt r t) v
 
--- the record with one set replaced: every change of a line or an order goes through these two
+-- the lengths of the arrays, which the record's types give and a list does not say
+pub record Shape (r : Record) : Type 0 where
+  pub l1dSets : length (r .l1d) ≡ l1dKind .sets
+  pub l1dWays : (s : ℕ) → s < l1dKind .sets → length (l1dSetAt r s .lines) ≡ l1dKind .ways
+  pub l2Sets : length (r .l2) ≡ 512
+  pub l2Ways : (t : ℕ) → t < 512 → length (l2SetAt r t .lines) ≡ l2Ways
+
+-- the record with one set replaced
 abbrev pub withL1dSet : Record → ℕ → L1dSet → Record
-withL1dSet r s v =
-    record { l2len = r .l2len; extlen = r .extlen; mode = r .mode; mar128 = r .mar128; mar129 = r .mar129; l1d = set (r .l1d) s v; l2 = r .l2 }
+withL1dSet r s v = withL1dSets r (set (r .l1d) s v)
 
 abbrev pub withL2Set : Record → ℕ → L2Set → Record
-withL2Set r t v =
-    record { l2len = r .l2len; extlen = r .extlen; mode = r .mode; mar128 = r .mar128; mar129 = r .mar129; l1d = r .l1d; l2 = set (r .l2) t v }
+withL2Set r t v = withL2Sets r (set (r .l2) t v)
 
 -- the record with one line replaced
 unfoldable pub withL1dLine : Record → ℕ → ℕ → Line → Record
@@ -95,12 +146,13 @@ permuted4 o =
 unfoldable pub emptyWay : Line → Bool
 emptyWay x = not (x .dirty) && eqb (x .address) 0
 
--- "valid line addresses are multiples of the line length and lie in their own set,": address a of a line in set s of L1D, set t of L2
+-- "valid line addresses are multiples of the line length and lie in their own set,": address a of a line in set s of
+-- L1D, set t of L2
 unfoldable pub ownL1dSet : ℕ → ℕ → Bool
-ownL1dSet s a = eqb (a % 64) 0 && eqb s (l1dSetOf a)
+ownL1dSet s a = eqb (offsetIn l1dKind a) 0 && eqb s (l1dSetOf a)
 
 unfoldable pub ownL2Set : Record → ℕ → ℕ → Bool
-ownL2Set r t a = eqb (a % 128) 0 && eqb t (l2SetOf r a)
+ownL2Set r t a = eqb (offsetIn (l2KindBy r) a) 0 && eqb t (l2SetOf r a)
 
 -- "no line twice;" (a line lies in its own set, so that twice in a cache is twice in a set)
 unfoldable pub noneTwice : List Line → Bool
@@ -115,11 +167,11 @@ unfoldable pub inCacheable : Record → ℕ → ℕ → Bool
 inCacheable r n a = leb (a + n) (externalBase + r .extlen) && marBit r a
 
 unfoldable pub l1dRegion : Record → ℕ → Bool
-l1dRegion r a = cond (ltb a externalBase) (inSram r 64 a) (inCacheable r 64 a)
+l1dRegion r a = cond (ltb a externalBase) (inSram r (l1dKind .lineLength) a) (inCacheable r (l1dKind .lineLength) a)
 
 -- "L2 lines only in the latter;"
 unfoldable pub l2Region : Record → ℕ → Bool
-l2Region r a = leb externalBase a && inCacheable r 128 a
+l2Region r a = leb externalBase a && inCacheable r l2LineLength a
 
 -- "sets not in use are fresh;": only a set in use has a line, and only its order is another than the fresh one
 abbrev pub inUse : Record → ℕ → Bool
@@ -131,7 +183,7 @@ freshUnlessUsed r t o =
 
 -- "and in a mode other than 0 each external L1D line lies inside a valid L2 line."
 unfoldable pub insideL2Line : Record → ℕ → Bool
-insideL2Line r a = cond (eqb (l2SetsOf r) 0) true (anyOf (λ y. holds y (l2Line a)) (l2SetAt r (l2SetOf r a) .lines))
+insideL2Line r a = cond (mode0 r) true (anyOf (λ y. holds y (l2Line a)) (l2SetAt r (l2SetOf r a) .lines))
 
 unfoldable pub coveredByL2 : Record → ℕ → Bool
 coveredByL2 r a = cond (ltb a externalBase) true (insideL2Line r a)
@@ -170,9 +222,14 @@ freshL2Set =
       order = record { first = 3; second = 2; third = 1; fourth = 0 };
     }
 
+abbrev pub freshL1dSets : List L1dSet
+freshL1dSets = replicate (l1dKind .sets) freshL1dSet
+
+abbrev pub freshL2Sets : List L2Set
+freshL2Sets = replicate 512 freshL2Set
+
 unfoldable pub freshRecord : ℕ → ℕ → Record
-freshRecord l e =
-    record { l2len = l; extlen = e; mode = 0; mar128 = false; mar129 = false; l1d = replicate 128 freshL1dSet; l2 = replicate 512 freshL2Set }
+freshRecord l e = record { l2len = l; extlen = e; mode = 0; mar128 = false; mar129 = false; l1d = freshL1dSets; l2 = freshL2Sets }
 
 -- "L1D and L2 bytes become zero; external memory is kept."
 unfoldable pub freshState : ℕ → List ℕ → State

@@ -1,21 +1,21 @@
 -- Paper 01, "Refusal table": each number's condition, and the lowest number due. 0: none is due.
-use Prim.Native.Nat.{ℕ, zero, suc, _+_, _/_, _%_}
+use Prim.Native.Nat.{ℕ, zero, suc, _+_, _%_}
 use mathlib.Core.Bool.{Bool, true, false, not, cond, _&&_, _||_}
 use mathlib.Core.List.{List}
 use lib.ListN.{length}
 use lib.Dec.{ltb, leb, eqb}
 use Rattle.model.specs.Basics.{anyOf}
 use Rattle.model.specs.Memories.{l1dLength, legalL2, legalExternal, externalBase, cacheSize, isMode}
-use Rattle.model.specs.Records.{State, sramOf, wellFormed}
+use Rattle.model.specs.Records.{State, sramOf, covers, wellFormed}
 use Rattle.model.specs.declared.Line.{Line}
 use Rattle.model.specs.declared.L1dSet.{L1dSet}
 use Rattle.model.specs.declared.L2Set.{L2Set}
 use Rattle.model.specs.declared.Record.{Record}
 
--- "The lowest due number wins": the first of two numbers, asked in their order
-abbrev pub first : ℕ → ℕ → ℕ
-first zero k = k
-first (suc n) k = suc n
+-- "The lowest due number wins": of two, asked in their order; 0 is not due
+abbrev pub lowestDue : ℕ → ℕ → ℕ
+lowestDue zero k = k
+lowestDue (suc n) k = suc n
 
 -- number n unless the test holds
 abbrev pub unless : Bool → ℕ → ℕ
@@ -41,7 +41,8 @@ sizeOk n = eqb n 1 || (eqb n 2 || (eqb n 4 || eqb n 8))
 abbrev pub multipleOf : ℕ → ℕ → Bool
 multipleOf n a = eqb (a % n) 0
 
--- ---- "5: access or viewed line not wholly in SRAM or external memory (blocks may lie anywhere)": n bytes at a, by S and E
+-- ---- "5: access or viewed line not wholly in SRAM or external memory (blocks may lie anywhere)": n bytes at a, by S
+-- and E
 unfoldable pub placeOk : ℕ → ℕ → ℕ → ℕ → Bool
 placeOk s e n a = cond (ltb a externalBase) (leb (a + n) s) (leb (a + n) (externalBase + e))
 
@@ -61,31 +62,32 @@ modeOk l m = isMode m && leb (cacheSize m) l
 abbrev pub marOk : ℕ → ℕ → Bool
 marOk n b = (eqb n 128 || eqb n 129) && leb b 1
 
--- ---- "10: bit 0 while either cache holds a line of that range": a valid line with an address in the 16 MiB from n × 1000000h on
+-- ---- "10: bit 0 while either cache holds a line of that range": a valid line with an address that MAR n covers
 unfoldable pub inRange : ℕ → Line → Bool
-inRange n x = x .valid && eqb (x .address / 0x1000000) n
+inRange n x = x .valid && covers n (x .address)
 
 unfoldable pub holdsRange : ℕ → Record → Bool
 holdsRange n r = anyOf (λ (v : L1dSet). anyOf (inRange n) (v .lines)) (r .l1d) || anyOf (λ (v : L2Set). anyOf (inRange n) (v .lines)) (r .l2)
 
 -- "11: trace damaged": `damaged` (Trace). "12: fewer than 10 answer bytes left": `runFrom` (Calls).
--- ---- the lowest number due, call by call. 1 and 2 stand in front of every call; the view is lent L2 and external memory only.
+-- ---- the lowest number due, call by call. 1 and 2 stand in front of every call; the view is lent L2 and external
+-- memory only.
 unfoldable pub lentDue : State → ℕ
 lentDue z =
-    first (unless (lentL1d (z .l1d) && (lentL2 (z .rec) (z .l2) && lentExternal (z .rec) (z .ext))) 1)
+    lowestDue (unless (lentL1d (z .l1d) && (lentL2 (z .rec) (z .l2) && lentExternal (z .rec) (z .ext))) 1)
     (unless (wellFormed (z .rec)) 2)
 
 unfoldable pub viewLentDue : Record → List ℕ → List ℕ → ℕ
-viewLentDue r m e = first (unless (lentL2 r m && lentExternal r e) 1) (unless (wellFormed r) 2)
+viewLentDue r m e = lowestDue (unless (lentL2 r m && lentExternal r e) 1) (unless (wellFormed r) 2)
 
 -- a read or write of n bytes at a, of value v (a read's is 0)
 unfoldable pub accessDue : ℕ → ℕ → ℕ → ℕ → ℕ → ℕ
 accessDue s e n a v =
-    first (unless (sizeOk n) 3) (first (unless (multipleOf n a) 4) (first (unless (placeOk s e n a) 5) (unless (valueOk n v) 6)))
+    lowestDue (unless (sizeOk n) 3) (lowestDue (unless (multipleOf n a) 4) (lowestDue (unless (placeOk s e n a) 5) (unless (valueOk n v) 6)))
 
 -- a block of c words from b on
 unfoldable pub blockDue : ℕ → ℕ → ℕ
-blockDue b c = first (unless (multipleOf 4 b) 4) (unless (countOk c) 7)
+blockDue b c = lowestDue (unless (multipleOf 4 b) 4) (unless (countOk c) 7)
 
 -- a change to mode m
 unfoldable pub modeDue : ℕ → ℕ → ℕ
@@ -93,8 +95,8 @@ modeDue l m = unless (modeOk l m) 8
 
 -- MAR n gets bit b
 unfoldable pub marDue : Record → ℕ → ℕ → ℕ
-marDue r n b = first (unless (marOk n b) 9) (unless (not (eqb b 0 && holdsRange n r)) 10)
+marDue r n b = lowestDue (unless (marOk n b) 9) (unless (not (eqb b 0 && holdsRange n r)) 10)
 
 -- the technician's view of the line at a
 unfoldable pub viewDue : Record → List ℕ → List ℕ → ℕ → ℕ
-viewDue r m e a = first (viewLentDue r m e) (first (unless (multipleOf 64 a) 4) (unless (placeOk (sramOf r) (r .extlen) 64 a) 5))
+viewDue r m e a = lowestDue (viewLentDue r m e) (lowestDue (unless (multipleOf 64 a) 4) (unless (placeOk (sramOf r) (r .extlen) 64 a) 5))

@@ -46,8 +46,8 @@ number64 bs = numberBelow 0x10000000000000000 bs
 abbrev pub command : ℕ → ℕ → ℕ → ℕ → Command
 command c a b v = record { code = c; first = a; second = b; value = v }
 
--- the command at the front of a trace and how many bytes it takes; or damage: "11 means an unknown code, an overlong or too wide number,
--- or an end inside a command."
+-- the command at the front of a trace and how many bytes it takes; or damage: "11 means an unknown code, an overlong
+-- or too wide number, or an end inside a command."
 pub record Decoded : Type 0 where
   pub ok : Bool
   pub found : Command
@@ -78,9 +78,9 @@ valueNumber d bs =
 unfoldable pub threeNumbers : ℕ → List ℕ → Decoded
 threeNumbers c bs = cond (twoNumbers c bs .ok) (valueNumber (twoNumbers c bs) (drop (twoNumbers c bs .used - 1) bs)) damaged
 
--- "Codes: 0 read (size, address); 1 write (size, address, value); 2 L2 writeback all; 3 L2 writeback-invalidate all; 4, 5, 6 L2 block
--- writeback, writeback-invalidate, invalidate (base, count); 7, 8 L1D block writeback-invalidate, invalidate (base, count); 9 L1D
--- invalidate all; 10 mode; 11 MAR (number, bit)."
+-- "Codes: 0 read (size, address); 1 write (size, address, value); 2 L2 writeback all; 3 L2 writeback-invalidate all;
+-- 4, 5, 6 L2 block writeback, writeback-invalidate, invalidate (base, count); 7, 8 L1D block writeback-invalidate,
+-- invalidate (base, count); 9 L1D invalidate all; 10 mode; 11 MAR (number, bit)."
 unfoldable pub decodeAfter : ℕ → List ℕ → Decoded
 decodeAfter c bs =
     cond (eqb c 1) (threeNumbers c bs)

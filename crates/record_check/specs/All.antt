@@ -10,7 +10,7 @@ use lib.Dec.{ltb, leb, eqb}
 use Rattle.model.specs.Basics.{allIndexed}
 use Rattle.model.specs.Memories.{legalL2, legalExternal, isMode, cacheSize, sramLength}
 use Rattle.model.specs.Records.{state, legalSizes, wellFormed, l1dSetOk, l2SetOk, sramOf, l2SetsOf}
-use Rattle.model.specs.Refusals.{first, unless, lentL1d, lentL2, lentExternal, lentDue}
+use Rattle.model.specs.Refusals.{lowestDue, unless, lentL1d, lentL2, lentExternal, lentDue}
 use Rattle.model.specs.Laws.{bool, both-true}
 use Rattle.record_check.specs.Idle.{sizes-legal}
 use Rattle.tags.specs.Words.{word, listed, l1dIn, l2In, recordIn, marBitsIn, l2len-in, extlen-in, mode-good, mode-bad}
@@ -123,7 +123,7 @@ module _ (ws : List ℕ) where
     abbrev lengths : Bool
     lengths = eqb (length d) 16384 && ((a && eqb (length m) l) && (b && eqb (length e) x))
 
-    by-lengths : lentDue (state (recordIn ws) d m e) ≡ first (unless lengths 1) (unless (wellFormed (recordIn ws)) 2)
+    by-lengths : lentDue (state (recordIn ws) d m e) ≡ lowestDue (unless lengths 1) (unless (wellFormed (recordIn ws)) 2)
     unfolding lentDue lentL1d lentL2 lentExternal recordIn
     by-lengths = rw (ea, el, eb, ex) refl
 

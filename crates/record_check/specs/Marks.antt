@@ -12,8 +12,8 @@ use borrow.Author.Tests.{lt-ltb, le-ltb, eq-eqb, ne-eqb, leb-true, eqb-true, eqb
 use Rattle.model.specs.Basics.{anyOf}
 use Rattle.model.specs.Memories.{externalBase, cacheSize}
 use Rattle.model.specs.Lines.{l2Line, l2Sets, holds}
-use Rattle.model.specs.Records.{emptyWay, sramOf, l2SetsOf, l2SetOf, l2SetAt, marBit, insideL2Line, ownL1dSet, ownL2Set, inSram, inCacheable, l1dRegion, l2Region, coveredByL2, l1dPlace, l2Place, l1dLineOk, l2LineOk}
-use Rattle.model.specs.Laws.{bool, both-true, false-true}
+use Rattle.model.specs.Records.{emptyWay, sramOf, l2SetsOf, l2SetOf, l2SetAt, insideL2Line, ownL1dSet, ownL2Set, inSram, inCacheable, l1dRegion, l2Region, coveredByL2, l1dPlace, l2Place, l1dLineOk, l2LineOk}
+use Rattle.model.specs.Laws.{bool, both-true, false-true, mar-bit, mode0-sets}
 use Rattle.model.specs.declared.Line.{Line}
 use Rattle.model.specs.declared.Record.{Record}
 use Rattle.tags.specs.Few.{any-four}
@@ -38,9 +38,9 @@ module _ (x m n a : ℕ) where
   unfolding externalIn
   external-high h = rw (le-ltb a 2164260864 h) refl
 
-pub external-is : (ws : List ℕ) (n a : ℕ) → externalIn (word ws 1) (word ws 2) n a ≡ inCacheable (recordIn ws) n a
-unfolding externalIn inCacheable marBit recordIn
-external-is ws n a = refl
+pub external-is : (ws : List ℕ) (n a : ℕ) → externalBase ≤ a → externalIn (word ws 1) (word ws 2) n a ≡ inCacheable (recordIn ws) n a
+unfolding externalIn inCacheable recordIn
+external-is ws n a h = rw (mar-bit (recordIn ws) a h) refl
 
 -- ---- the mark without its padding is its two bytes
 pub two-bytes : (f : ℕ) → f % 65536 ≡ f / 256 % 256 * 256 + f % 256
@@ -143,7 +143,7 @@ module _ (r : Record) (i f a : ℕ) where
 
           pub l1d-way-alone : x ≡ true → (sets : ℕ) → sets ≡ l2SetsOf r → sets ≡ 0 → true ≡ l1dWay r i f a
           unfolding insideL2Line
-          l1d-way-alone q sets es z = sym (as-external ∙ rw (q, ← es, z) refl)
+          l1d-way-alone q sets es z = sym (as-external ∙ rw (q, mode0-sets r, ← es, z) refl)
 
           pub l1d-way-covered : x ≡ true → (sets : ℕ) → sets ≡ l2SetsOf r → (sets ≡ 0 → ⊥) → (j : ℕ) → j ≡ lowBits (a / 128) (sets - 1) → (b : Bool) →
               b ≡ anyOf (λ y. holds y (l2Line a)) (l2SetAt r j .lines) → b ≡ l1dWay r i f a
@@ -151,7 +151,7 @@ module _ (r : Record) (i f a : ℕ) where
           l1d-way-covered q sets es z j ej b eb =
               let v : eqb (l2SetsOf r) 0 ≡ false = ne-eqb (l2SetsOf r) 0 (λ w. z (es ∙ w)) in
               let k : lowBits (a / 128) (sets - 1) ≡ l2SetOf r a = rw es (masked-is (r .mode) (a / 128) v .0) in
-              let y : l1dWay r i f a ≡ anyOf (λ x. holds x (l2Line a)) (l2SetAt r (l2SetOf r a) .lines) = as-external ∙ rw (q, v) refl in
+              let y : l1dWay r i f a ≡ anyOf (λ x. holds x (l2Line a)) (l2SetAt r (l2SetOf r a) .lines) = as-external ∙ rw (q, mode0-sets r, v) refl in
               eb ∙ ap (λ (n : ℕ). anyOf (λ x. holds x (l2Line a)) (l2SetAt r n .lines)) (ej ∙ k) ∙ sym y
 
 -- the set that has to cover a line is one of the 512
@@ -176,7 +176,7 @@ module _ (r : Record) (t f a : ℕ) where
   pub l2-way-placed : (f % 65536 ≡ 0 → ⊥) → l2Way r t f a ≡ (liveIn (f % 65536) && l2Place r t a)
   l2-way-placed n = as-marked-2 ∙ marked-live (l2Place r t a) f a n
 
-  pub l2-way-live : (f % 65536 ≡ 0 → ⊥) → (b x : Bool) (sets c : ℕ) → b ≡ liveIn (f % 65536) → x ≡ inCacheable r 128 a → sets ≡ l2SetsOf r →
+  pub l2-way-live : (f % 65536 ≡ 0 → ⊥) → (b x : Bool) (sets c : ℕ) → b ≡ liveIn (f % 65536) → (externalBase ≤ a → x ≡ inCacheable r 128 a) → sets ≡ l2SetsOf r →
       t < sets → c ≡ lowBits a (sets * 128 - 1) → (b && (eqb c (t * 128) && (leb externalBase a && x))) ≡ l2Way r t f a
   unfolding l2Place ownL2Set l2Region
   l2-way-live n b x sets c eb ex es h ec =
@@ -185,7 +185,9 @@ module _ (r : Record) (t f a : ℕ) where
       let g : c ≡ a / 128 % l2SetsOf r * 128 + a % 128 = ec ∙ rw es (masked-is (r .mode) a v .1 .0) in
       let w : a % 128 < 128 = omega arith in
       let o = ap (λ (q : ℕ). eqb q (t * 128)) g ∙ own-l2 t (a / 128 % l2SetsOf r) (a % 128) w in
-      sym (as-marked-2 ∙ marked-live (l2Place r t a) f a n ∙ rw (k, eb, ex, o) refl)
+      let y : (leb externalBase a && x) ≡ (leb externalBase a && inCacheable r 128 a) =
+      bool (leb externalBase a) (λ u. rw (u, ex (leb-true externalBase a u)) refl) (λ u. rw u refl) in
+      sym (as-marked-2 ∙ marked-live (l2Place r t a) f a n ∙ rw (k, eb, y, o) refl)
 
 pub l2-above : (r : Record) (t a : ℕ) → l2Place r t a ≡ true → externalBase ≤ a
 unfolding l2Place l2Region

@@ -14,7 +14,7 @@ use Rattle.model.specs.Records.{State}
 use Rattle.model.specs.Trace.{Decoded, decoded, decode}
 use Rattle.model.specs.Calls.{Reply, reply, step, Run, ran, putAnswer, commandAt, putReply, runFrom}
 use Rattle.model.specs.Bytes.{stored, littleBytes}
-use Rattle.model.specs.Laws.{bool, length-littleBytes}
+use Rattle.model.specs.Laws.{step-told, bool, length-littleBytes}
 use Rattle.memory.specs.Values.{stored-sets}
 use Rattle.model.specs.declared.Command.{Command}
 use Rattle.decode.specs.Told.{told}
@@ -92,6 +92,7 @@ module _ (single : Bool) (c : Command) (t : List ℕ) (z : State) (o : List ℕ)
   told-one s h =
       let f : executed x a ≡ executes (sourceOf true c t) 1 1 0 z 0 o noAnswer = rw s at e in
       ap (λ (y : Executed). reply (y .last .number) (y .last .server) (y .last .value) (y .run .next)) (f ∙ executes-one c t z o noAnswer h)
+      ∙ step-told c z
 
   pub told-all : single ≡ false → x ≡ runFrom t (length t) 0 z 0 o
   unfolding endOf

@@ -8,7 +8,7 @@ use lib.Dec.{eqb}
 use borrow.Author.Tests.{eq-eqb, ne-eqb}
 use Rattle.model.specs.Memories.{legalL2, legalExternal}
 use Rattle.model.specs.Records.{sramOf, wellFormed}
-use Rattle.model.specs.Refusals.{first, unless, lentL2, lentExternal, viewLentDue, viewDue, placeOk}
+use Rattle.model.specs.Refusals.{lowestDue, unless, lentL2, lentExternal, viewLentDue, viewDue, placeOk}
 use Rattle.model.specs.declared.Record.{Record}
 
 -- ---- the lent lengths: a and b are what the tests of L2's and of external memory's say, l and x the lengths that the record has
@@ -42,7 +42,7 @@ pub record Accepted (r : Record) (m e : List ℕ) (a b : Bool) (l x : ℕ) : Typ
   pub formed : wellFormed r ≡ true
 
 module _ {r : Record} {m e : List ℕ} {a b : Bool} {l x : ℕ} (k : Accepted r m e a b l x) (v : ℕ) where
-  by-address : viewDue r m e v ≡ first (unless (eqb (v % 64) 0) 4) (unless (placeOk (sramOf r) (r .extlen) 64 v) 5)
+  by-address : viewDue r m e v ≡ lowestDue (unless (eqb (v % 64) 0) 4) (unless (placeOk (sramOf r) (r .extlen) 64 v) 5)
   unfolding viewDue viewLentDue
   by-address = rw (sym (both-lent (k .legal)) ∙ k .lent, k .formed) refl
 

@@ -11,30 +11,30 @@ use borrow.Author.Tests.{eq-eqb, ne-eqb, eqb-true, leb-true, ltb-true, ltb-false
 use Rattle.model.specs.Memories.{externalBase, legalL2, legalExternal}
 use Rattle.model.specs.Records.{sramOf, wellFormed}
 use Rattle.model.specs.Homes.{memoryPart}
-use Rattle.model.specs.Refusals.{viewDue, viewLentDue, lentL2, lentExternal, placeOk, first, unless}
+use Rattle.model.specs.Refusals.{viewDue, viewLentDue, lentL2, lentExternal, placeOk, lowestDue, unless}
 use Rattle.model.specs.Calls.{viewCall}
 use Rattle.model.specs.Laws.{both-true, part-inside}
 use Rattle.model.specs.declared.Record.{Record}
-use Rattle.model.proofs.Due.{first-none, unless-none}
+use Rattle.model.specs.Laws.{lowestDue-none, unless-none}
 
 pub record Seen (m e : List ℕ) (a : ℕ) : Type 0 where
   pub low : a < externalBase → a + 64 ≤ length m
   pub high : externalBase ≤ a → a - externalBase + 64 ≤ length e
 
 -- neither of two numbers is due
-first-both : (n k : ℕ) → first n k ≡ 0 → (n ≡ 0) × (k ≡ 0)
+first-both : (n k : ℕ) → lowestDue n k ≡ 0 → (n ≡ 0) × (k ≡ 0)
 first-both zero k e = (refl, e)
 first-both (suc n) k e = absurd (omega arith)
 
 pub view-tells : (r : Record) (m e : List ℕ) (a : ℕ) → viewDue r m e a ≡ 0 → Seen m e a
 unfolding viewDue viewLentDue lentL2 lentExternal placeOk
 view-tells r m e a h =
-    let p = first-both (viewLentDue r m e) (first (unless (eqb (a % 64) 0) 4) (unless (placeOk (sramOf r) (r .extlen) 64 a) 5)) h in
-    let b = both-true (lentL2 r m) (lentExternal r e) (first-none (lentL2 r m && lentExternal r e) 0 (unless (wellFormed r) 2) (p .0) .0) in
+    let p = first-both (viewLentDue r m e) (lowestDue (unless (eqb (a % 64) 0) 4) (unless (placeOk (sramOf r) (r .extlen) 64 a) 5)) h in
+    let b = both-true (lentL2 r m) (lentExternal r e) (lowestDue-none (lentL2 r m && lentExternal r e) 0 (unless (wellFormed r) 2) (p .0) .0) in
     let l = eqb-true (length m) (r .l2len) (both-true (legalL2 (length m)) (eqb (length m) (r .l2len)) (b .0) .1) in
     let x = eqb-true (length e) (r .extlen) (both-true (legalExternal (length e)) (eqb (length e) (r .extlen)) (b .1) .1) in
     let k = unless-none (placeOk (sramOf r) (r .extlen) 64 a) 4
-    (first-none (eqb (a % 64) 0) 3 (unless (placeOk (sramOf r) (r .extlen) 64 a) 5) (p .1) .1) in
+    (lowestDue-none (eqb (a % 64) 0) 3 (unless (placeOk (sramOf r) (r .extlen) 64 a) 5) (p .1) .1) in
     record {
       low = λ g. let f = leb-true (a + 64) (sramOf r) (rw (lt-ltb a externalBase g) at k) in omega arith;
       high = λ g. let f = leb-true (a + 64) (externalBase + r .extlen) (rw (le-ltb a externalBase g) at k) in omega arith;

@@ -1,4 +1,5 @@
--- `model::fresh_record` meets its contract: each return is a case of the definition, by the tests on its way and what its callees ensure.
+-- `model::fresh_record` meets its contract: each return is a case of the definition, by the tests on its way and what
+-- its callees ensure.
 use mathlib.Core.Path.{refl}
 use Rattle.model.specs.Records.{freshRecord}
 use Rattle.model.proofs.fresh_record.Statement.{statement}

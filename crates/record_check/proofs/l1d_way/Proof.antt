@@ -47,13 +47,13 @@ returns-4 : tie.Need-returns-4
 returns-4 c =
     let a = c .before .before .before .before .before .before .before .before .before .args in
     l1d-way-outside (recordIn (a .tags .now)) (a .i) (a .f) (a .a) (c .before .before .before .before .before .before .before .before .before .pre .0 .0) (c .before .before .before .before .before .before .before .if1 .left) (c .before .before .before .before .before .before .live .result) (c .before .before .before .before .before .before .live .ensures) (c .before .before .before .before .before .if2 .taken)
-    (c .before .before .before .before .if3 .left) (c .before .external-ok .result) (c .before .external-ok .ensures ∙ external-is (a .tags .now) 64 (a .a)) (c .if4 .left)
+    (c .before .before .before .before .if3 .left) (c .before .external-ok .result) (c .before .external-ok .ensures ∙ external-is (a .tags .now) 64 (a .a) (c .before .before .before .before .if3 .left)) (c .if4 .left)
 
 returns-5 : tie.Need-returns-5
 returns-5 c =
     let a = c .before .before .before .before .before .before .before .before .before .before .args in
     l1d-way-alone (recordIn (a .tags .now)) (a .i) (a .f) (a .a) (c .before .before .before .before .before .before .before .before .before .before .pre .0 .0) (c .before .before .before .before .before .before .before .before .if1 .left) (c .before .before .before .before .before .before .before .live .result) (c .before .before .before .before .before .before .before .live .ensures) (c .before .before .before .before .before .before .if2 .taken)
-    (c .before .before .before .before .before .if3 .left) (c .before .before .external-ok .result) (c .before .before .external-ok .ensures ∙ external-is (a .tags .now) 64 (a .a)) (c .before .if4 .taken) (a .sets) (c .before .before .before .before .before .before .before .before .before .before .pre .1 .1) (c .if5 .taken)
+    (c .before .before .before .before .before .if3 .left) (c .before .before .external-ok .result) (c .before .before .external-ok .ensures ∙ external-is (a .tags .now) 64 (a .a) (c .before .before .before .before .before .if3 .left)) (c .before .if4 .taken) (a .sets) (c .before .before .before .before .before .before .before .before .before .before .pre .1 .1) (c .if5 .taken)
 
 wide-requires : tie.Need-wide-requires
 wide-requires c κs = search needs
@@ -79,7 +79,7 @@ returns-6 : tie.Need-returns-6
 returns-6 c =
     let a = c .before .before .before .before .before .before .before .before .before .before .before .before .before .before .args in
     l1d-way-covered (recordIn (a .tags .now)) (a .i) (a .f) (a .a) (c .before .before .before .before .before .before .before .before .before .before .before .before .before .before .pre .0 .0) (c .before .before .before .before .before .before .before .before .before .before .before .before .if1 .left) (c .before .before .before .before .before .before .before .before .before .before .before .live .result) (c .before .before .before .before .before .before .before .before .before .before .before .live .ensures) (c .before .before .before .before .before .before .before .before .before .before .if2 .taken)
-    (c .before .before .before .before .before .before .before .before .before .if3 .left) (c .before .before .before .before .before .before .external-ok .result) (c .before .before .before .before .before .before .external-ok .ensures ∙ external-is (a .tags .now) 64 (a .a)) (c .before .before .before .before .before .if4 .taken) (a .sets) (c .before .before .before .before .before .before .before .before .before .before .before .before .before .before .pre .1 .1) (c .before .before .before .before .if5 .left)
+    (c .before .before .before .before .before .before .before .before .before .if3 .left) (c .before .before .before .before .before .before .external-ok .result) (c .before .before .before .before .before .before .external-ok .ensures ∙ external-is (a .tags .now) 64 (a .a) (c .before .before .before .before .before .before .before .before .before .if3 .left)) (c .before .before .before .before .before .if4 .taken) (a .sets) (c .before .before .before .before .before .before .before .before .before .before .before .before .before .before .pre .1 .1) (c .before .before .before .before .if5 .left)
     (c .before .before .low .result) (c .before .before .low .ensures ∙ ap (λ (n : ℕ). lowBits (n / 128) (a .sets - 1)) (c .before .before .before .wide .ensures)) (c .covers .result) (c .covers .ensures ∙ ap (λ (b : ℕ). anyOf (λ y. holds y b) (l2SetAt (recordIn (a .tags .now)) (c .before .before .low .result) .lines)) (c .before .line-of .ensures))
 
 pub l1d-way-spec : {M : Type 1} → statement M

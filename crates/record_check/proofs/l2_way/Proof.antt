@@ -42,7 +42,7 @@ returns-2 : tie.Need-returns-2
 returns-2 c =
     let a = c .before .before .before .before .before .before .before .before .args in
     l2-way-live (recordIn (a .tags .now)) (a .j) (a .f) (a .a) (c .before .before .before .before .before .before .if1 .left) (c .live .result) (c .before .external-ok .result) (a .sets) (c .before .before .before .before .low .result)
-    (c .live .ensures) (c .before .external-ok .ensures ∙ external-is (a .tags .now) 128 (a .a)) (c .before .before .before .before .before .before .before .before .pre .1 .0) (c .before .before .before .before .before .before .before .before .pre .1 .1) (c .before .before .before .before .low .ensures ∙ ap (λ (n : ℕ). lowBits n (a .sets * 128 - 1)) (c .before .before .before .before .before .wide .ensures))
+    (c .live .ensures) (λ h. c .before .external-ok .ensures ∙ external-is (a .tags .now) 128 (a .a) h) (c .before .before .before .before .before .before .before .before .pre .1 .0) (c .before .before .before .before .before .before .before .before .pre .1 .1) (c .before .before .before .before .low .ensures ∙ ap (λ (n : ℕ). lowBits n (a .sets * 128 - 1)) (c .before .before .before .before .before .wide .ensures))
 
 pub l2-way-spec : {M : Type 1} → statement M
 l2-way-spec =

@@ -1,6 +1,7 @@
--- A mode change writes back all dirty lines of L1D and L2 and then makes every line invalid (`changeMode`). That it keeps the invariant is shown by steps which empty
--- each L1D line as soon as it went home (`sweptL1d`). Shown here: after the change both are the same state (`change-swept`). What differs on the way, the lines of
--- L1D, nothing looks at but the write-back of the line itself, and that one is still there; in the end the change replaces them all.
+-- A mode change writes back all dirty lines of L1D and L2 and then makes every line invalid (`changeMode`). That it
+-- keeps the invariant is shown by steps which empty each L1D line as soon as it went home (`sweptL1d`). Shown here:
+-- after the change both are the same state (`change-swept`). What differs on the way, the lines of L1D, nothing looks
+-- at but the write-back of the line itself, and that one is still there; in the end the change replaces them all.
 use Prim.Native.Nat.{ℕ, zero, suc, _*_, _/_, _%_, _≤_}
 use mathlib.Core.Bool.{cond}
 use mathlib.Core.List.{List}
@@ -8,37 +9,26 @@ use mathlib.Core.Path.{_≡_, refl, sym, ap, _∙_}
 use native.Mathlib.Omega.{arith}
 use lib.Dec.{ltb, eqb}
 use borrow.Author.Tests.{eqb-true, eqb-false}
 use Rattle.model.specs.Basics.{each}
 use Rattle.model.specs.Bytes.{part}
 use Rattle.model.specs.Memories.{externalBase}
 use Rattle.model.specs.Lines.{l1dData, emptyLine}
-use Rattle.model.specs.Records.{State, state, l2SetsOf, l1dLineAt, l2LineAt, withL1dLine, withL2Line}
+use Rattle.model.specs.Records.{State, withRecord, withL1dSets, l2SetsOf, mode0, l1dLineAt, l2LineAt, withL1dLine, withL2Line}
 use Rattle.model.specs.Ways.{inL2, l2Way, emptyL1d}
 use Rattle.model.specs.Access.{writebackL1d, evictL1d}
 use Rattle.model.specs.Homes.{homeIsL2, putMemory, putL2, putHome, writeOutL2}
 use Rattle.model.specs.Modes.{flushL1d, flushL2, newMode, changeMode}
 use Rattle.model.specs.Laws.{bool}
 use Rattle.model.specs.declared.Line.{Line}
 use Rattle.model.specs.declared.L1dSet.{L1dSet}
-use Rattle.model.proofs.Tables.{l1dKind, lineIn, withLine, line-other-set, line-other-way}
+use Rattle.agreement.proofs.Tables.{l1dStore, lineIn, withLine, line-other-set, line-other-way}
 
 abbrev pub sweptL1d : State → State
 sweptL1d z = each (λ k. evictL1d (k / 2) (k % 2)) 256 z
 
 -- ---- a state with other lines of L1D: what looks at none of them does the same to it
 abbrev relined : List L1dSet → State → State
-relined xs z =
-    state
-    (record {
-      l2len = z .rec .l2len;
-      extlen = z .rec .extlen;
-      mode = z .rec .mode;
-      mar128 = z .rec .mar128;
-      mar129 = z .rec .mar129;
-      l1d = xs;
-      l2 = z .rec .l2;
-    })
-    (z .l1d) (z .l2) (z .ext)
+relined xs z = withRecord z (withL1dSets (z .rec) xs)
 
 -- the write-back of a line looks at that line only
 abbrev written : Line → ℕ → ℕ → State → State
@@ -46,10 +36,10 @@ written x s w z = cond (x .valid) (cond (x .dirty) (putHome (x .address) (part (
 
 module _ (xs : List L1dSet) where
   put-relined : (a : ℕ) (bs : List ℕ) (z : State) → putHome a bs (relined xs z) ≡ relined xs (putHome a bs z)
-  unfolding putHome homeIsL2 inL2 l2Way putL2 putMemory withL2Line
+  unfolding putHome homeIsL2 mode0 inL2 l2Way putL2 putMemory withL2Line
   put-relined a bs z =
       bool (ltb a externalBase) (λ l. rw l refl)
-      (λ l. bool (eqb (l2SetsOf (z .rec)) 0) (λ n. rw (l, n) refl)
+      (λ l. bool (mode0 (z .rec)) (λ n. rw (l, n) refl)
       (λ n. bool (inL2 z a) (λ i. rw (l, n, i) refl) (λ i. rw (l, n, i) refl)))
 
   out-relined : (t v : ℕ) (z : State) → writeOutL2 t v (relined xs z) ≡ relined xs (writeOutL2 t v z)
@@ -76,7 +66,7 @@ module _ (xs : List L1dSet) where
       (λ v. bool (x .dirty) (λ d. rw (v, d) (put-relined (x .address) (part (z .l1d) (l1dData s w) 64) z)) (λ d. rw (v, d) refl))
       (λ v. rw v refl)
 
-  back-relined : (s w : ℕ) (z : State) → lineIn l1dKind xs s w ≡ l1dLineAt (z .rec) s w →
+  back-relined : (s w : ℕ) (z : State) → lineIn l1dStore xs s w ≡ l1dLineAt (z .rec) s w →
       writebackL1d s w (relined xs z) ≡ relined xs (writebackL1d s w z)
   unfolding writebackL1d
   back-relined s w z e = ap (λ (x : Line). written x s w (relined xs z)) e ∙ written-relined (l1dLineAt (z .rec) s w) s w z
@@ -87,16 +77,16 @@ back-lines s w z = ap (λ (x : State). x .rec .l1d) (back-relined (z .rec .l1d) 
 
 -- ---- the lines of L1D with the first k ways emptied: the others are as they were
 abbrev emptied : ℕ → List L1dSet → List L1dSet
-emptied k xs = each (λ i ys. withLine l1dKind ys (i / 2) (i % 2) emptyLine) k xs
+emptied k xs = each (λ i ys. withLine l1dStore ys (i / 2) (i % 2) emptyLine) k xs
 
-later : (xs : List L1dSet) (k j : ℕ) → k ≤ j → lineIn l1dKind (emptied k xs) (j / 2) (j % 2) ≡ lineIn l1dKind xs (j / 2) (j % 2)
+later : (xs : List L1dSet) (k j : ℕ) → k ≤ j → lineIn l1dStore (emptied k xs) (j / 2) (j % 2) ≡ lineIn l1dStore xs (j / 2) (j % 2)
 unfolding each
 later xs zero j h = refl
 later xs (suc k) j h =
     bool (eqb (j / 2) (k / 2))
     (λ e. let s = eqb-true (j / 2) (k / 2) e in
-    line-other-way l1dKind (emptied k xs) (k / 2) (k % 2) emptyLine (j / 2) (j % 2) (λ q. absurd (omega arith)))
-    (λ e. line-other-set l1dKind (emptied k xs) (k / 2) (k % 2) emptyLine (j / 2) (j % 2) (eqb-false (j / 2) (k / 2) e))
+    line-other-way l1dStore (emptied k xs) (k / 2) (k % 2) emptyLine (j / 2) (j % 2) (λ q. absurd (omega arith)))
+    (λ e. line-other-set l1dStore (emptied k xs) (k / 2) (k % 2) emptyLine (j / 2) (j % 2) (eqb-false (j / 2) (k / 2) e))
     ∙ later xs k j (omega arith)
 
 -- ---- the sweep is the write-backs, with the ways that were gone through emptied
@@ -113,8 +103,8 @@ unfolding each evictL1d emptyL1d withL1dLine
 swept-back zero z = refl
 swept-back (suc k) z =
     let xs = emptied k (z .rec .l1d) in
-    let same : lineIn l1dKind xs (k / 2) (k % 2) ≡ l1dLineAt (backs k z .rec) (k / 2) (k % 2) =
-    later (z .rec .l1d) k k (omega arith) ∙ ap (λ (ys : List L1dSet). lineIn l1dKind ys (k / 2) (k % 2)) (sym (backs-lines k z)) in
+    let same : lineIn l1dStore xs (k / 2) (k % 2) ≡ l1dLineAt (backs k z .rec) (k / 2) (k % 2) =
+    later (z .rec .l1d) k k (omega arith) ∙ ap (λ (ys : List L1dSet). lineIn l1dStore ys (k / 2) (k % 2)) (sym (backs-lines k z)) in
     ap (evictL1d (k / 2) (k % 2)) (swept-back k z)
     ∙ ap (emptyL1d (k / 2) (k % 2)) (back-relined xs (k / 2) (k % 2) (backs k z) same)
 

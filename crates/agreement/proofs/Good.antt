@@ -1,7 +1,10 @@
--- The chip's state as the invariant sees it: L1D and L2 as levels, SRAM and external memory as one memory, what a mode and the MAR bits fix as a layout.
--- `Good z F` says that the state is well formed and that every byte a program can see is right by F; `Well z` is the same with any byte allowed.
--- Shown: a search of a set finds the line or nobody holds it (one lemma on `wayHolding` for both caches); a chosen way is one of the set; slots do
--- not overlap; and one line or one order of the record replaced keeps lengths, orders and empty ways (from `Tables`, for both caches).
+-- The chip's state as the invariant sees it: L1D and L2 as levels, SRAM and external memory as one memory, what a
+-- mode and the MAR bits fix as a layout.
+-- `Good z F` says that the state is well formed and that every byte a program can see is right by F; `Well z` is the
+-- same with any byte allowed.
+-- Shown: a search of a set finds the line or nobody holds it (one lemma on `wayHolding` for both caches); a chosen
+-- way is one of the set; slots do not overlap; and one line or one order of the record replaced keeps lengths, orders
+-- and empty ways (from `Tables`, for both caches).
 use Prim.Native.Nat.{ℕ, zero, suc, _+_, _*_, _/_, _%_, _≤_, _<_}
 use mathlib.Core.Bool.{true, false, cond}
 use mathlib.Core.Path.{_≡_, refl, sym, ap, _∙_}
@@ -12,31 +15,31 @@ use lib.ListN.{length, getD}
 use lib.Seq.{getD-set-other}
 use lib.Dec.{ltb, eqb}
 use borrow.Author.Tests.{ltb-true, ltb-false, eqb-true, eqb-false, eq-eqb}
 use Rattle.model.specs.Bytes.{stored}
 use Rattle.model.specs.Memories.{externalBase, cacheSize, isMode}
 use Rattle.model.specs.Lines.{l1dSetOf, l1dData, l2Slot, l1dLine, l2Line, emptyLine, holds, l1dGet, l2Get, l2Put, l1dUse, l2Use}
-use Rattle.model.specs.Records.{State, state, sramOf, l2SetsOf, l2SetOf, l2Data, marBit, noL2Set, l1dSetAt, l2SetAt, l1dLineAt, l2LineAt, withL1dLine, withL2Line, freshL2Set}
+use Rattle.model.specs.Records.{State, withRecord, withL1d, withL2, withExternal, sramOf, l2SetsOf, mode0, l2SetOf, l2Data, marBit, noL2Set, l1dSetAt, l2SetAt, l1dLineAt, l2LineAt, withL1dLine, withL2Line, freshL2Set}
 use Rattle.model.specs.Ways.{wayHolding, lowestInvalid, l1dFind, l2Find, l1dVictim, l2Victim, l1dWay, l2Way, inL1d, inL2, useL1d, useL2}
 use Rattle.model.specs.Homes.{homeIsL2}
-use Rattle.model.specs.Laws.{bool, false-true, both-true, cond-elim, used2-permutation, used4-permutation}
+use Rattle.model.specs.Laws.{bool, false-true, both-true, cond-elim, used2-permutation, used4-permutation, mode0-sets}
 use Rattle.model.specs.declared.Line.{Line}
 use Rattle.model.specs.declared.L1dSet.{L1dSet}
 use Rattle.model.specs.declared.L2Set.{L2Set}
 use Rattle.model.specs.declared.Record.{Record}
-use Rattle.model.proofs.Level.{Level, Valid, Other, Free, Replaced}
-use Rattle.model.proofs.Invariant.{Allowed, Layout, Invariant, invariant-same}
-use Rattle.model.proofs.Tables.{l1dKind, l2Kind, levelOf, Table, table-line, replaced-line, table-used, line-used}
-use Rattle.model.proofs.Memory.{memoryByte, other-slot}
+use Rattle.agreement.proofs.Level.{Level, Valid, Other, Free, Replaced}
+use Rattle.agreement.proofs.Invariant.{Allowed, Layout, Invariant, invariant-same}
+use Rattle.agreement.proofs.Tables.{l1dStore, l2Store, levelOf, Table, table-line, replaced-line, table-used, line-used}
+use Rattle.agreement.proofs.Memory.{memoryByte, other-slot}
 
 -- ---- the state as the invariant sees it
 abbrev pub layoutOf : Record → Layout
 layoutOf r = record { sram = sramOf r; ext = r .extlen; sets = l2SetsOf r; mar = marBit r }
 
 abbrev pub l1dLevel : State → Level
-l1dLevel z = levelOf l1dKind (z .rec .l1d) l1dData (z .l1d)
+l1dLevel z = levelOf l1dStore (z .rec .l1d) l1dData (z .l1d)
 
 abbrev pub l2Level : State → Level
-l2Level z = levelOf l2Kind (z .rec .l2) (l2Data (z .rec)) (z .l2)
+l2Level z = levelOf l2Store (z .rec .l2) (l2Data (z .rec)) (z .l2)
 
 abbrev pub memoryOf : State → ℕ → ℕ
 memoryOf z a = memoryByte (z .l2) (z .ext) a
@@ -58,8 +61,8 @@ pub record Sizes (l e mode : ℕ) (l1d l2 ext : List ℕ) : Type 0 where
 -- what a well-formed state has beside the invariant; sets not in use are fresh
 pub record Tidy (z : State) : Type 0 where
   pub sizes : Sizes (z .rec .l2len) (z .rec .extlen) (z .rec .mode) (z .l1d) (z .l2) (z .ext)
-  pub l1d : Table l1dKind (z .rec .l1d)
-  pub l2 : Table l2Kind (z .rec .l2)
+  pub l1d : Table l1dStore (z .rec .l1d)
+  pub l2 : Table l2Store (z .rec .l2)
   pub idle : (t : ℕ) → t < 512 → l2SetsOf (z .rec) ≤ t → l2SetAt (z .rec) t ≡ freshL2Set
 
 pub record Good (z : State) (F : Allowed) : Type 0 where
@@ -209,13 +212,15 @@ pub home-memory {ℓ} : {A : Type ℓ} (r : Record) (b : ℕ) → homeIsL2 r b �
 unfolding homeIsL2
 home-memory r b e f g =
     bool (ltb b externalBase) (λ t. f (ltb-true b externalBase t))
-    (λ t. bool (eqb (l2SetsOf r) 0) (λ u. g (ltb-false b externalBase t) (eqb-true (l2SetsOf r) 0 u)) (λ u. false-true (sym (rw (t, u) at e))))
+    (λ t. bool (mode0 r) (λ u. g (ltb-false b externalBase t) (eqb-true (l2SetsOf r) 0 (sym (mode0-sets r) ∙ u)))
+    (λ u. false-true (sym (rw (t, u) at e))))
 
 pub home-l2 : (r : Record) (b : ℕ) → homeIsL2 r b ≡ true → (externalBase ≤ b) × (l2SetsOf r ≢ 0)
 unfolding homeIsL2
 home-l2 r b e =
     bool (ltb b externalBase) (λ t. false-true (rw t at e))
-    (λ t. bool (eqb (l2SetsOf r) 0) (λ u. false-true (rw (t, u) at e)) (λ u. (ltb-false b externalBase t, eqb-false (l2SetsOf r) 0 u)))
+    (λ t. bool (mode0 r) (λ u. false-true (rw (t, u) at e))
+    (λ u. (ltb-false b externalBase t, eqb-false (l2SetsOf r) 0 (sym (mode0-sets r) ∙ u))))
 
 -- ---- slots: ways of n sets. The product `w * n` is no linear term, so the way is taken by cases first
 four-ways {ℓ} : (P : ℕ → Type ℓ) → P 0 → P 1 → P 2 → P 3 → (w : ℕ) → w < 4 → P w
@@ -288,6 +293,10 @@ module _ (z : State) (h : Tidy z) where
       other-slot 128 (z .l2) bs (l2Data (z .rec) t v) (l2Data (z .rec) t′ v′) o (l2-fits t v ht hv)
       (l2-apart (z .rec) t v t′ v′ ht (b .0) hv (b .1) n) ho
 
+-- ---- another record, and other bytes in all memories that the invariant sees
+abbrev pub withLists : State → Record → List ℕ → List ℕ → List ℕ → State
+withLists z r d m e = withExternal (withL2 (withL1d (withRecord z r) d) m) e
+
 -- ---- the lists change, keeping their lengths; and the mode
 pub sizes-new : {l e n : ℕ} {d m x : List ℕ} → Sizes l e n d m x → (n′ : ℕ) → isMode n′ ≡ true → cacheSize n′ ≤ l →
     (d′ m′ x′ : List ℕ) → length d′ ≡ length d → length m′ ≡ length m → length x′ ≡ length x → Sizes l e n′ d′ m′ x′
@@ -312,7 +321,7 @@ sizes-with : {l e n : ℕ} {d m x : List ℕ} → Sizes l e n d m x → (d′ m�
 sizes-with {l} {e} {n} h d′ m′ x′ p q r = sizes-new h n (h .legalMode) (h .cacheMost) d′ m′ x′ p q r
 
 pub lists-tidy : (z : State) → Tidy z → (d m e : List ℕ) → length d ≡ length (z .l1d) → length m ≡ length (z .l2) → length e ≡ length (z .ext) →
-    Tidy (state (z .rec) d m e)
+    Tidy (withLists z (z .rec) d m e)
 lists-tidy z h d m e a b c = record { sizes = sizes-with (h .sizes) d m e a b c; l1d = h .l1d; l2 = h .l2; idle = h .idle }
 
 -- ---- one line of the record replaced, and the lists with their lengths kept
@@ -320,34 +329,34 @@ module _ (z : State) (h : Tidy z) (s w : ℕ) (l : Line) (d m e : List ℕ) wher
   pub l1d-replaced : s < 128 → w < 2 →
       ((s′ w′ : ℕ) → Other s w s′ w′ → Valid (l1dLevel z) s′ w′ → (i : ℕ) → i < 64 → getD d (l1dData s′ w′ + i) 0 ≡ getD (z .l1d) (l1dData s′ w′ + i) 0)
       →
-      Replaced 64 (l1dLevel z) (l1dLevel (state (withL1dLine (z .rec) s w l) d m e)) s w l
+      Replaced 64 (l1dLevel z) (l1dLevel (withLists z (withL1dLine (z .rec) s w l) d m e)) s w l
   unfolding withL1dLine
-  l1d-replaced hs hw r = replaced-line l1dKind (z .rec .l1d) s w l (h .l1d .shaped) hs hw 64 l1dData (z .l1d) d r
+  l1d-replaced hs hw r = replaced-line l1dStore (z .rec .l1d) s w l (h .l1d .shaped) hs hw 64 l1dData (z .l1d) d r
 
   pub l1d-tidy : (l .valid ≡ false → l ≡ emptyLine) → length d ≡ length (z .l1d) → length m ≡ length (z .l2) → length e ≡ length (z .ext) →
-      Tidy (state (withL1dLine (z .rec) s w l) d m e)
+      Tidy (withLists z (withL1dLine (z .rec) s w l) d m e)
   unfolding withL1dLine
   l1d-tidy v a b c =
-      record { sizes = sizes-with (h .sizes) d m e a b c; l1d = table-line l1dKind (z .rec .l1d) s w l (h .l1d) v; l2 = h .l2; idle = h .idle }
+      record { sizes = sizes-with (h .sizes) d m e a b c; l1d = table-line l1dStore (z .rec .l1d) s w l (h .l1d) v; l2 = h .l2; idle = h .idle }
 
   pub l2-replaced : s < l2SetsOf (z .rec) → w < 4 →
       ((s′ w′ : ℕ) → Other s w s′ w′ → Valid (l2Level z) s′ w′ → (i : ℕ) → i < 128 →
       getD m (l2Data (z .rec) s′ w′ + i) 0 ≡ getD (z .l2) (l2Data (z .rec) s′ w′ + i) 0) →
-      Replaced 128 (l2Level z) (l2Level (state (withL2Line (z .rec) s w l) d m e)) s w l
+      Replaced 128 (l2Level z) (l2Level (withLists z (withL2Line (z .rec) s w l) d m e)) s w l
   unfolding withL2Line
   l2-replaced hs hw r =
       let c = h .sizes .cacheMost in let c′ = h .sizes .l2Most in
-      replaced-line l2Kind (z .rec .l2) s w l (h .l2 .shaped) (omega arith) hw 128 (l2Data (z .rec)) (z .l2) m r
+      replaced-line l2Store (z .rec .l2) s w l (h .l2 .shaped) (omega arith) hw 128 (l2Data (z .rec)) (z .l2) m r
 
   pub l2-tidy : s < l2SetsOf (z .rec) → (l .valid ≡ false → l ≡ emptyLine) → length d ≡ length (z .l1d) → length m ≡ length (z .l2) →
       length e ≡ length (z .ext) →
-      Tidy (state (withL2Line (z .rec) s w l) d m e)
+      Tidy (withLists z (withL2Line (z .rec) s w l) d m e)
   unfolding withL2Line
   l2-tidy hs v a b c =
       record {
         sizes = sizes-with (h .sizes) d m e a b c;
         l1d = h .l1d;
-        l2 = table-line l2Kind (z .rec .l2) s w l (h .l2) v;
+        l2 = table-line l2Store (z .rec .l2) s w l (h .l2) v;
         idle = λ t k g. getD-set-other (z .rec .l2) s t (l2Put (l2SetAt (z .rec) s) w l) noL2Set (omega arith) ∙ h .idle t k g;
       }
 
@@ -355,11 +364,11 @@ module _ (z : State) (h : Tidy z) (s w : ℕ) (l : Line) (d m e : List ℕ) wher
 module _ (z : State) (s w : ℕ) where
   pub l1d-used-line : (s′ w′ : ℕ) → l1dLineAt (useL1d s w z .rec) s′ w′ ≡ l1dLineAt (z .rec) s′ w′
   unfolding useL1d l1dUse
-  l1d-used-line = line-used l1dKind (z .rec .l1d) s (l1dUse (l1dSetAt (z .rec) s) w) refl
+  l1d-used-line = line-used l1dStore (z .rec .l1d) s (l1dUse (l1dSetAt (z .rec) s) w) refl
 
   pub l2-used-line : (s′ w′ : ℕ) → l2LineAt (useL2 s w z .rec) s′ w′ ≡ l2LineAt (z .rec) s′ w′
   unfolding useL2 l2Use
-  l2-used-line = line-used l2Kind (z .rec .l2) s (l2Use (l2SetAt (z .rec) s) w) refl
+  l2-used-line = line-used l2Store (z .rec .l2) s (l2Use (l2SetAt (z .rec) s) w) refl
 
   pub useL1d-kept : Kept z (useL1d s w z)
   unfolding useL1d marBit
@@ -376,7 +385,7 @@ module _ (z : State) (s w : ℕ) where
       record {
         tidy = record {
           sizes = h .sizes;
-          l1d = table-used l1dKind (z .rec .l1d) s (l1dUse (l1dSetAt (z .rec) s) w) refl (h .l1d)
+          l1d = table-used l1dStore (z .rec .l1d) s (l1dUse (l1dSetAt (z .rec) s) w) refl (h .l1d)
               (λ k. used2-permutation (l1dSetAt (z .rec) s .order) w hw (h .l1d .ordered s k));
           l2 = h .l2;
           idle = h .idle;
@@ -393,7 +402,7 @@ module _ (z : State) (s w : ℕ) where
         tidy = record {
           sizes = h .sizes;
           l1d = h .l1d;
-          l2 = table-used l2Kind (z .rec .l2) s (l2Use (l2SetAt (z .rec) s) w) refl (h .l2)
+          l2 = table-used l2Store (z .rec .l2) s (l2Use (l2SetAt (z .rec) s) w) refl (h .l2)
               (λ k. used4-permutation (l2SetAt (z .rec) s .order) w hw (h .l2 .ordered s k));
           idle = λ t k g. getD-set-other (z .rec .l2) s t (l2Use (l2SetAt (z .rec) s) w) noL2Set (omega arith) ∙ h .idle t k g;
         };

@@ -1,7 +1,9 @@
--- An L1D line leaves: it goes home if it is dirty, and its way becomes empty; likewise the two halves of an L2 line. Shown: the state stays good, L1D
--- only has fewer lines, L2 has the same lines, and an L2 line of which L1D held nothing gets no dirtier.
--- Why: the bytes that go out are right (L1D is never behind), and they go to the next place for that address: to SRAM or external memory where L2 does not
--- hold the line, else to the L2 line, which becomes dirty. That L2 has it follows from inclusion.
+-- An L1D line leaves: it goes home if it is dirty, and its way becomes empty; likewise the two halves of an L2 line.
+-- Shown: the state stays good, L1D only has fewer lines, L2 has the same lines, and an L2 line of which L1D held
+-- nothing gets no dirtier.
+-- Why: the bytes that go out are right (L1D is never behind), and they go to the next place for that address: to SRAM
+-- or external memory where L2 does not hold the line, else to the L2 line, which becomes dirty. That L2 has it
+-- follows from inclusion.
 use Prim.Native.Nat.{ℕ, _+_, _*_, _-_, _/_, _%_, _≤_, _<_}
 use mathlib.Core.Bool.{true, false, cond}
 use mathlib.Core.Path.{_≡_, refl, sym, ap, _∙_}
@@ -11,23 +13,23 @@ use native.Mathlib.Omega.{arith}
 use lib.ListN.{length, getD}
 use lib.Dec.{ltb, eqb}
 use borrow.Author.Tests.{ltb-true, ltb-false, eqb-true, eqb-false}
 use Rattle.model.specs.Bytes.{stored, part}
 use Rattle.model.specs.Memories.{externalBase}
 use Rattle.model.specs.Lines.{l1dSetOf, l1dData, l1dLine, l2Line, upperHalf, emptyLine, lineOf}
-use Rattle.model.specs.Records.{State, state, sramOf, l2SetOf, l2Data, marBit, l1dLineAt, l2LineAt, withL1dLine, withL2Line}
+use Rattle.model.specs.Records.{State, withL2, withExternal, sramOf, l2SetOf, l2Data, marBit, l1dLineAt, l2LineAt, withL1dLine, withL2Line}
 use Rattle.model.specs.Ways.{l1dWay, l2Way, inL1d, inL2, emptyL1d}
 use Rattle.model.specs.Access.{writebackL1d, evictL1d}
 use Rattle.model.specs.Homes.{homeIsL2, putMemory, putL2, putHome, takeHalf, takeHalves}
 use Rattle.model.specs.Laws.{bool, false-true, cond-elim, length-stored, length-part, part-at}
 use Rattle.model.specs.declared.Line.{Line}
-use Rattle.model.proofs.Level.{Valid, Free, Replaced, same-slot, emptied-line, kept-valid, kept-address}
-use Rattle.model.proofs.Invariant.{Allowed, Inside, Invariant, invariant-same, l1d-dropped, l1d-into-memory, l1d-into-l2}
-use Rattle.model.proofs.Memory.{memoryByte, memory-low, memory-high, lowStored, highStored, Fits, low-length, high-length, stored-elsewhere, Wrote, wrote-memory, half-in, half-out}
-use Rattle.model.proofs.Good.{layoutOf, l1dLevel, l2Level, memoryOf, Tidy, Good, Kept, kept-refl, kept-trans, l1d-hit, l2-hit, l1d-miss, l2-miss, l2-bounds, home-memory, home-l2, l1d-fits, l2-fits, l2-rest, l1d-replaced, l1d-tidy, l2-replaced, l2-tidy}
+use Rattle.agreement.proofs.Level.{Valid, Free, Replaced, same-slot, emptied-line, kept-valid, kept-address}
+use Rattle.agreement.proofs.Invariant.{Allowed, Inside, Invariant, invariant-same, l1d-dropped, l1d-into-memory, l1d-into-l2}
+use Rattle.agreement.proofs.Memory.{memoryByte, memory-low, memory-high, lowStored, highStored, Fits, low-length, high-length, stored-elsewhere, Wrote, wrote-memory, half-in, half-out}
+use Rattle.agreement.proofs.Good.{layoutOf, l1dLevel, l2Level, memoryOf, Tidy, Good, Kept, kept-refl, kept-trans, l1d-hit, l2-hit, l1d-miss, l2-miss, l2-bounds, home-memory, home-l2, l1d-fits, l2-fits, l2-rest, l1d-replaced, l1d-tidy, l2-replaced, l2-tidy}
 
 -- bytes put into SRAM or external memory, both lists said at once
 pub putMemory-state : (a : ℕ) (bs : List ℕ) (z : State) →
-    putMemory a bs z ≡ state (z .rec) (z .l1d) (lowStored (z .l2) a bs) (highStored (z .ext) a bs)
+    putMemory a bs z ≡ withExternal (withL2 z (lowStored (z .l2) a bs)) (highStored (z .ext) a bs)
 unfolding putMemory lowStored highStored
 putMemory-state a bs z = bool (ltb a externalBase) (λ t. rw t refl) (λ t. rw t refl)
 
@@ -115,11 +117,11 @@ module _ (z : State) (F : Allowed) (q : Good z F) (s w : ℕ) (hs : s < 128) (hw
       record { low = λ h. let g = p .low h in omega arith; high = λ h. let g = p .high h in omega arith }
 
   evicted-memory : Valid (l1dLevel z) s w → homeIsL2 (z .rec) b ≡ false →
-      L1dEvicted z F s w (emptyL1d s w (state (z .rec) (z .l1d) (lowStored (z .l2) b bs) (highStored (z .ext) b bs)))
+      L1dEvicted z F s w (emptyL1d s w (withExternal (withL2 z (lowStored (z .l2) b bs)) (highStored (z .ext) b bs)))
   unfolding emptyL1d withL1dLine marBit
   evicted-memory k e =
       let m′ = lowStored (z .l2) b bs in let e′ = highStored (z .ext) b bs in
-      let z′ = emptyL1d s w (state (z .rec) (z .l1d) m′ e′) in
+      let z′ = emptyL1d s w (withExternal (withL2 z m′) e′) in
       let u : Replaced 64 (l1dLevel z) (l1dLevel z′) s w emptyLine
       = l1d-replaced z (q .tidy) s w emptyLine (z .l1d) m′ e′ hs hw (λ _ _ _ _ _ _. refl) in
       let n = bs-length in

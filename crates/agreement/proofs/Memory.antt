@@ -1,6 +1,8 @@
--- Bytes put into a lent memory, and SRAM and external memory seen as one by address: SRAM from 0, external memory from 80000000h.
--- Shown: what each byte is after bytes were put at an address, after a line was copied, after half a line went into a slot; and what may stand where
--- (`Written`) after a write. All of it rests on the laws of `stored` and `part` (Bytes), so that nothing above this file opens them.
+-- Bytes put into a lent memory, and SRAM and external memory seen as one by address: SRAM from 0, external memory
+-- from 80000000h.
+-- Shown: what each byte is after bytes were put at an address, after a line was copied, after half a line went into a
+-- slot; and what may stand where (`Written`) after a write. All of it rests on the laws of `stored` and `part`
+-- (Bytes), so that nothing above this file opens them.
 use Prim.Native.Nat.{ℕ, _+_, _*_, _-_, _/_, _%_, _≤_, _<_}
 use mathlib.Core.Bool.{cond}
 use mathlib.Core.Path.{_≡_, refl, sym, _∙_}
@@ -10,10 +12,10 @@ use native.Mathlib.Omega.{arith}
 use lib.ListN.{length, getD}
 use lib.Dec.{ltb}
 use borrow.Author.Tests.{ltb-true, ltb-false, lt-ltb, le-ltb}
 use Rattle.model.specs.Bytes.{stored, part}
 use Rattle.model.specs.Memories.{externalBase}
 use Rattle.model.specs.Laws.{bool, cond-elim, length-stored, length-part, stored-before, stored-in, stored-after, part-at}
-use Rattle.model.proofs.Invariant.{Allowed, carry}
+use Rattle.agreement.proofs.Invariant.{Allowed, carry}
 
 -- ---- stored, said once: a byte inside is that of the bytes put there, a byte outside is what it was
 module _ (m bs : List ℕ) (p : ℕ) (fits : p + length bs ≤ length m) where

@@ -1,35 +1,36 @@
 -- A change of the mode, a change of a MAR bit, and the fresh start. Shown: each leaves (or makes) a good state.
--- Why: with every set fresh no line holds anything, so only the memories count (`fresh-good`). Before a mode change nothing is valid in L1D and nothing dirty
--- in L2, so the memories are right; SRAM keeps its bytes below the smaller of old and new S and is zero from there on, as flat memory's. A MAR bit becomes 0 only
--- where no line of its 16 MiB is held, so that every line held keeps its bit.
+-- Why: with every set fresh no line holds anything, so only the memories count (`fresh-good`). Before a mode change
+-- nothing is valid in L1D and nothing dirty in L2, so the memories are right; SRAM keeps its bytes below the smaller
+-- of old and new S and is zero from there on, as flat memory's. A MAR bit becomes 0 only where no line of its 16 MiB
+-- is held, so that every line held keeps its bit.
 use Prim.Native.Nat.{ℕ, zero, suc, _+_, _-_, _/_, _≤_, _<_}
 use mathlib.Core.Bool.{true, false}
 use mathlib.Core.Path.{_≡_, refl, sym, ap, _∙_}
-use mathlib.Core.Logic.{_≢_, _⊎_, ⊎-elim}
+use mathlib.Core.Logic.{_⊎_, ⊎-elim}
 use mathlib.Core.List.{List, _++_}
 use native.Mathlib.Omega.{arith}
 use native.Mathlib.Nat.{add-sub-of-le}
 use lib.ListN.{length, getD, take, replicate, length-append, length-replicate, getD-replicate, List·getD-eq-default, List·getD-append}
 use lib.Seq.{getD-take, getD-append-add, length-take-le}
 use lib.Dec.{ltb, leb, eqb}
-use borrow.Author.Tests.{ltb-true, ltb-false, leb-true, leb-false, eq-eqb, eqb-true}
+use borrow.Author.Tests.{ltb-true, ltb-false, leb-true, leb-false, eq-eqb, eqb-true, eqb-false}
 use Rattle.model.specs.Basics.{anyOf}
 use Rattle.model.specs.Bytes.{zeroFrom}
 use Rattle.model.specs.Memories.{externalBase, cacheSize, isMode, sramLength}
 use Rattle.model.specs.Lines.{emptyLine, Permutation2, Permutation4}
-use Rattle.model.specs.Records.{State, sramOf, marBit, noL2Set, l1dLineAt, l2LineAt, freshL1dSet, freshL2Set}
+use Rattle.model.specs.Records.{State, sramOf, covers, marBit, noL2Set, l1dLineAt, l2LineAt, freshL1dSet, freshL2Set}
 use Rattle.model.specs.Modes.{smaller, newMode, changeMar}
 use Rattle.model.specs.Refusals.{inRange, holdsRange}
 use Rattle.model.specs.Laws.{bool, false-true}
 use Rattle.model.specs.declared.Line.{Line}
 use Rattle.model.specs.declared.L1dSet.{L1dSet}
 use Rattle.model.specs.declared.L2Set.{L2Set}
 use Rattle.model.specs.declared.Record.{Record}
-use Rattle.model.proofs.Level.{Valid, NoDirty}
-use Rattle.model.proofs.Invariant.{Allowed, carry, Inside}
-use Rattle.model.proofs.Tables.{l1dKind, l2Kind, fresh-line, fresh-table, none-found}
-use Rattle.model.proofs.Memory.{memory-low, memory-high}
-use Rattle.model.proofs.Good.{layoutOf, l1dLevel, l2Level, memoryOf, Sizes, sizes-new, Good}
+use Rattle.agreement.proofs.Level.{Valid, NoDirty}
+use Rattle.agreement.proofs.Invariant.{Allowed, carry, Inside}
+use Rattle.agreement.proofs.Tables.{l1dStore, l2Store, fresh-line, fresh-table, none-found}
+use Rattle.agreement.proofs.Memory.{memory-low, memory-high}
+use Rattle.agreement.proofs.Good.{layoutOf, l1dLevel, l2Level, memoryOf, Sizes, sizes-new, Good}
 
 -- ---- bytes set zero from k on
 module _ (k : ℕ) (m : List ℕ) (n : ℕ) (hk : k ≤ length m) (hn : k ≤ n) where
@@ -102,14 +103,14 @@ pub fresh-good : (z : State) (F : Allowed) → z .rec .l1d ≡ replicate 128 fre
     ((a : ℕ) → Inside (layoutOf (z .rec)) a → F a (memoryOf z a)) → Good z F
 fresh-good z F e₁ e₂ sizes h =
     let v₁ : (s w : ℕ) → l1dLineAt (z .rec) s w .valid ≡ false
-    = λ s w. rw e₁ (ap (λ (l : Line). l .valid) (fresh-line l1dKind freshL1dSet 128 l1d-fresh s w)) in
+    = λ s w. rw e₁ (ap (λ (l : Line). l .valid) (fresh-line l1dStore freshL1dSet 128 l1d-fresh s w)) in
     let v₂ : (s w : ℕ) → l2LineAt (z .rec) s w .valid ≡ false
-    = λ s w. rw e₂ (ap (λ (l : Line). l .valid) (fresh-line l2Kind freshL2Set 512 l2-fresh s w)) in
+    = λ s w. rw e₂ (ap (λ (l : Line). l .valid) (fresh-line l2Store freshL2Set 512 l2-fresh s w)) in
     record {
       tidy = record {
         sizes = sizes;
-        l1d = rw e₁ (fresh-table l1dKind freshL1dSet 128 l1d-fresh refl refl l1d-fresh-order);
-        l2 = rw e₂ (fresh-table l2Kind freshL2Set 512 l2-fresh refl refl l2-fresh-order);
+        l1d = rw e₁ (fresh-table l1dStore freshL1dSet 128 l1d-fresh refl refl l1d-fresh-order);
+        l2 = rw e₂ (fresh-table l2Store freshL2Set 512 l2-fresh refl refl l2-fresh-order);
         idle = λ t k _. rw e₂ (getD-replicate 512 t freshL2Set noL2Set k);
       };
       inv = record {
@@ -166,15 +167,19 @@ module _ (n : ℕ) (r : Record) (h : holdsRange n r ≡ false) where
 
   l1d-none : (s w : ℕ) → inRange n (l1dLineAt r s w) ≡ false
   unfolding inRange
-  l1d-none = none-found l1dKind (r .l1d) (inRange n) refl l1d-range
+  l1d-none = none-found l1dStore (r .l1d) (inRange n) refl l1d-range
 
   l2-none : (s w : ℕ) → inRange n (l2LineAt r s w) ≡ false
   unfolding inRange
-  l2-none = none-found l2Kind (r .l2) (inRange n) refl l2-range
+  l2-none = none-found l2Store (r .l2) (inRange n) refl l2-range
 
-outside-range : (n : ℕ) (l : Line) → inRange n l ≡ false → l .valid ≡ true → l .address / 16777216 ≢ n
+outside-range : (n : ℕ) (l : Line) → inRange n l ≡ false → l .valid ≡ true → covers n (l .address) ≡ false
 unfolding inRange
-outside-range n l h v e = false-true (sym (rw (v, eq-eqb (l .address / 16777216) n e) at h))
+outside-range n l h v = rw v at h
+
+covered-by-129 : (a : ℕ) → externalBase ≤ a → a < externalBase + 33554432 → covers 128 a ≡ false → covers 129 a ≡ true
+unfolding covers
+covered-by-129 a lo hi t = let k = eqb-false (a / 16777216) 128 t in eq-eqb (a / 16777216) 129 (omega arith)
 
 -- every line that is held keeps its bit
 module _ (z : State) (F : Allowed) (q : Good z F) (n b : ℕ) (allowed : (b ≡ 1) ⊎ (holdsRange n (z .rec) ≡ false)) where
@@ -182,15 +187,11 @@ module _ (z : State) (F : Allowed) (q : Good z F) (n b : ℕ) (allowed : (b ≡ 
       (holdsRange n (z .rec) ≡ false → inRange n l ≡ false) → marBit (z .rec) (l .address) ≡ true → marBit (changeMar n b z .rec) (l .address) ≡ true
   unfolding changeMar marBit
   keeps-bit l v lo hi none e =
-      bool (ltb (l .address) 2164260864)
-      (λ t. let t′ = ltb-true (l .address) 2164260864 t in
-      rw t (bool (eqb n 128)
-      (λ y. let y′ = eqb-true n 128 y in rw y (⊎-elim (λ c. rw c refl) (λ c. absurd (outside-range n l (none c) v (omega arith))) allowed))
-      (λ y. rw y (rw t at e))))
-      (λ t. let t′ = ltb-false (l .address) 2164260864 t in
-      rw t (bool (eqb n 129)
-      (λ y. let y′ = eqb-true n 129 y in rw y (⊎-elim (λ c. rw c refl) (λ c. absurd (outside-range n l (none c) v (omega arith))) allowed))
-      (λ y. rw y (rw t at e))))
+      let set-to-1 : (k : ℕ) → covers k (l .address) ≡ true → eqb n k ≡ true → eqb b 1 ≡ true =
+      λ k y i. ⊎-elim (λ c. rw c refl) (λ c. false-true (sym (rw (eqb-true n k i) at (outside-range n l (none c) v)) ∙ y)) allowed in
+      bool (covers 128 (l .address))
+      (λ t. rw t (bool (eqb n 128) (λ y. rw y (set-to-1 128 t y)) (λ y. rw y (rw t at e))))
+      (λ t. rw t (bool (eqb n 129) (λ y. rw y (set-to-1 129 (covered-by-129 (l .address) lo hi t) y)) (λ y. rw y (rw t at e))))
 
   pub changeMar-good : Good (changeMar n b z) F
   unfolding changeMar

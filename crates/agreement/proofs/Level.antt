@@ -1,6 +1,7 @@
--- One cache level as two functions, of any line length and any number of sets and ways: which line each slot (a set and a way) holds, and the
--- slot's bytes. It shows what a step that replaces one slot's line keeps: a sound level stays sound, and an address that no dirty line holds after
--- it was held by none before it, the slot itself apart. Each lemma holds because a slot is either the replaced one or as it was (`same-slot`).
+-- One cache level as two functions, of any line length and any number of sets and ways: which line each slot (a set
+-- and a way) holds, and the slot's bytes. It shows what a step that replaces one slot's line keeps: a sound level
+-- stays sound, and an address that no dirty line holds after it was held by none before it, the slot itself apart.
+-- Each lemma holds because a slot is either the replaced one or as it was (`same-slot`).
 -- L1D and L2 are both such levels; nothing here speaks of lists.
 use Prim.Native.Nat.{ℕ, _*_, _/_, _<_}
 use mathlib.Core.Bool.{Bool, true}

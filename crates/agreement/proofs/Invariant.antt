@@ -1,8 +1,12 @@
--- What holds between L1D, L2, the memory behind them and flat memory (`Invariant`), and that each small step of a cache keeps it.
--- Why it holds: it says of each PLACE whether its bytes are right. L1D's always are; an L2 byte is unless a dirty L1D line holds its address; a byte
--- of SRAM or of external memory is unless a dirty line of either level holds it. So a step need only be looked at where it moves or drops bytes.
--- A step is given by what it does to lines and bytes, slot by slot (`Replaced`); nothing here speaks of lists, sets of the record or modes.
--- "Right" is a parameter F: with `c ≡ f a` the lemmas give agreement with flat memory f, with a trivial F that the record stays well formed.
+-- What holds between L1D, L2, the memory behind them and flat memory (`Invariant`), and that each small step of a
+-- cache keeps it.
+-- Why it holds: it says of each PLACE whether its bytes are right. L1D's always are; an L2 byte is unless a dirty L1D
+-- line holds its address; a byte of SRAM or of external memory is unless a dirty line of either level holds it. So a
+-- step need only be looked at where it moves or drops bytes.
+-- A step is given by what it does to lines and bytes, slot by slot (`Replaced`); nothing here speaks of lists, sets
+-- of the record or modes.
+-- "Right" is a parameter F: with `c ≡ f a` the lemmas give agreement with flat memory f, with a trivial F that the
+-- record stays well formed.
 use Prim.Native.Nat.{ℕ, _+_, _*_, _/_, _%_, _≤_, _<_}
 use mathlib.Core.Bool.{Bool, true, false}
 use mathlib.Core.Path.{_≡_, refl, sym, ap, _∙_}
@@ -10,11 +14,11 @@ use mathlib.Core.Logic.{_≢_}
 use native.Mathlib.Omega.{arith}
 use lib.Dec.{eqb}
 use borrow.Author.Tests.{eqb-true, eqb-false}
 use Rattle.model.specs.Memories.{externalBase}
 use Rattle.model.specs.Lines.{emptyLine, lineOf}
 use Rattle.model.specs.Laws.{bool, false-true}
 use Rattle.model.specs.declared.Line.{Line}
-use Rattle.model.proofs.Level.{Level, Valid, NoDirty, Free, Sound, Replaced, same-slot, replaced-at, replaced-sound, replaced-nodirty, emptied-other, emptied-line, emptied-was, emptied-sound, kept-at, kept-sound, kept-is, kept-was}
+use Rattle.agreement.proofs.Level.{Level, Valid, NoDirty, Free, Sound, Replaced, same-slot, replaced-at, replaced-sound, replaced-nodirty, emptied-other, emptied-line, emptied-was, emptied-sound, kept-at, kept-sound, kept-is, kept-was}
 
 -- byte c may stand at address a. For flat memory f it is `c ≡ f a`; for a well-formed record alone it is anything
 abbrev pub Allowed : Type 1
@@ -194,7 +198,8 @@ module _ (g : Layout) (x y : Level) (mem : ℕ → ℕ) (F : Allowed) (q : Invar
         memoryRight = λ a l m m′. q .memoryRight a l (replaced-nodirty 64 x x′ s w (lineOf b false) u a (λ k′ _ _. room k′) m) m′;
       }
 
--- ---- (5) the L1D line that holds address a is written: flat memory changes inside that line alone, and the line's bytes change likewise
+-- ---- (5) the L1D line that holds address a is written: flat memory changes inside that line alone, and the line's
+-- bytes change likewise
 module _ (g : Layout) (x y : Level) (mem : ℕ → ℕ) (F : Allowed) (q : Invariant g x y mem F) (x′ : Level) (s w a : ℕ) (F′ : Allowed) (k : Valid x s w)
     (e₁ : x .line s w .address ≡ a / 64 * 64) (u : Replaced 64 x x′ s w (lineOf (x .line s w .address) true))
     (old : (b : ℕ) → b / 64 * 64 ≢ a / 64 * 64 → (c : ℕ) → F b c → F′ b c)

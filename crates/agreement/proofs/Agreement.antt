@@ -1,40 +1,42 @@
--- Demand 3 is met (`demand3`). Shown first of one command: where the chip is good by flat memory's bytes (`Matches`), both give the same answer and match again.
--- Why: an accepted read reads right bytes, so the same; a write changes flat memory as it changes what is right; a mode change likewise; the other commands
--- are not seen. After a global writeback in a mode with an L2 cache every place of external memory is right, so the two lists are equal.
+-- Demand 3 is met (`demand3`). Shown first of one command: where the chip is good by flat memory's bytes (`Matches`),
+-- both give the same answer and match again.
+-- Why: an accepted read reads right bytes, so the same; a write changes flat memory as it changes what is right; a
+-- mode change likewise; the other commands are not seen. After a global writeback in a mode with an L2 cache every
+-- place of external memory is right, so the two lists are equal.
 use Prim.Native.Nat.{ℕ, _+_, _*_, _-_, _≤_, _<_}
 use mathlib.Core.Bool.{true, false, _&&_}
 use mathlib.Core.Path.{_≡_, refl, sym, ap, _∙_, subst}
 use mathlib.Core.Logic.{_≢_}
-use mathlib.Core.List.{List, [], _∷_}
+use mathlib.Core.List.{List, [], _∷_, _++_}
 use native.Mathlib.Omega.{arith}
 use lib.ListN.{length, length-replicate}
 use lib.Seq.{ext-getD}
 use lib.Dec.{ltb, eqb}
 use borrow.Author.Tests.{eqb-true, ne-eqb, lt-leb}
 use Rattle.model.specs.Bytes.{little, littleBytes, zeroFrom}
 use Rattle.model.specs.Memories.{l1dLength, externalBase, legalL2, legalExternal, cacheSize, isMode, sramLength}
 use Rattle.model.specs.Records.{State, state, sramOf, l2SetsOf, l2LineAt, freshRecord, freshState}
 use Rattle.model.specs.Access.{readAccess, writeAccess}
 use Rattle.model.specs.Modes.{smaller, flushL2, newMode, changeMode}
 use Rattle.model.specs.Commands.{l2WritebackAll, l2WritebackInvalidateAll}
-use Rattle.model.specs.Flat.{Flat, flat, freshFlat, flatPart, flatPut, flatMode, FlatReply, flatReply, flatRead, flatWrite, flatChange, flatStep}
+use Rattle.model.specs.Flat.{Flat, flat, freshFlat, flatPart, flatPut, flatMode, FlatReply, flatReply, flatRead, flatWrite, flatChange, flatStep, flatCalled, flatAfter}
 use Rattle.model.specs.Refusals.{accessDue, modeDue}
 use Rattle.model.specs.Trace.{command}
-use Rattle.model.specs.Calls.{Reply, refused, carriedOut, freshOk, freshCall, commandDue, readDone, writeDone, commandState, accepted, step, call}
-use Rattle.model.specs.Demand.{listedCode, listed, compared, global, modeAfter, Settled, AgreesAt, Agree, Demand3, end, next}
+use Rattle.model.specs.Calls.{Reply, refused, carriedOut, freshOk, freshCall, commandDue, readDone, writeDone, commandState, accepted, step, viewDone, Call, oneCommand, freshStart, look, called, after, commands}
+use Rattle.model.specs.Demand.{listedCode, listedCall, listed, compared, global, modeAfter, modeAlong, Settled, AgreesAt, Agree, Demand3, CommandsDemand3, end, next}
 use Rattle.model.specs.Laws.{bool, false-true, both-true, cond-elim, length-littleBytes}
 use Rattle.model.specs.declared.Command.{Command}
-use Rattle.model.proofs.Level.{Valid}
-use Rattle.model.proofs.Invariant.{Allowed, Layout}
-use Rattle.model.proofs.Memory.{memoryByte, memory-low, memory-high, lowStored, highStored, low-length, high-length, Fits, read-length, read-at, written-same, wrote-memory}
-use Rattle.model.proofs.Good.{l1dLevel, l2Level, Good, Well, good-well}
-use Rattle.model.proofs.ReadWrite.{Step}
-use Rattle.model.proofs.Sweeps.{SweptTo, flushed, l2WritebackAll-good, l2WritebackInvalidateAll-good, flush-good}
-use Rattle.model.proofs.Changes.{zero-length, zero-below, zero-above, smaller-bound, fresh-good, newMode-good}
-use Rattle.model.proofs.Due.{access-tells, accepted-read, accepted-write, mode-tells, mode-sets}
-use Rattle.model.proofs.Steps.{codes, Quiet, quiet-step, quiet-2, quiet-3, quiet-4, quiet-5, quiet-7, quiet-11}
-use Rattle.model.proofs.Tested.{legalL2-tells, legalExternal-tells, call-step}
-use Rattle.model.proofs.Flushes.{sweptL1d, change-swept}
+use Rattle.agreement.proofs.Level.{Valid}
+use Rattle.agreement.proofs.Invariant.{Allowed, Layout}
+use Rattle.agreement.proofs.Memory.{memoryByte, memory-low, memory-high, lowStored, highStored, low-length, high-length, Fits, read-length, read-at, written-same, wrote-memory}
+use Rattle.agreement.proofs.Good.{l1dLevel, l2Level, Good, Well, good-well}
+use Rattle.agreement.proofs.ReadWrite.{Step}
+use Rattle.agreement.proofs.Sweeps.{SweptTo, flushed, l2WritebackAll-good, l2WritebackInvalidateAll-good, flush-good}
+use Rattle.agreement.proofs.Changes.{zero-length, zero-below, zero-above, smaller-bound, fresh-good, newMode-good}
+use Rattle.agreement.proofs.Due.{access-tells, accepted-read, accepted-write, mode-tells, mode-sets}
+use Rattle.agreement.proofs.Steps.{codes, Quiet, quiet-step, quiet-2, quiet-3, quiet-4, quiet-5, quiet-7, quiet-11}
+use Rattle.agreement.proofs.Tested.{legalL2-tells, legalExternal-tells, call-step}
+use Rattle.agreement.proofs.Flushes.{sweptL1d, change-swept}
 
 -- ---- chip and flat memory match: every byte that counts is flat memory's, and the sizes are the same
 abbrev flatByte : Flat → ℕ → ℕ
@@ -130,10 +132,10 @@ mode-matches z f m k ok c none clean =
 
 -- ---- one command: the same answer where it is compared, and both match again
 pub record Answered (c : Command) (r : Reply) (g : FlatReply) (before : ℕ) : Type 0 where
-  pub number : compared c ≡ true → r .number ≡ g .number
-  pub value : compared c ≡ true → r .value ≡ g .value
+  pub number : compared (oneCommand c) ≡ true → r .number ≡ g .number
+  pub value : compared (oneCommand c) ≡ true → r .value ≡ g .value
   pub matches : Matches (r .next) (g .next)
-  pub mode : r .next .rec .mode ≡ modeAfter c r before
+  pub mode : r .next .rec .mode ≡ modeAfter (oneCommand c) r before
 
 module _ (z : State) (f : Flat) (m : Matches z f) (a b v : ℕ) where
   same-due : (n : ℕ) → accessDue (length (f .sram)) (length (f .ext)) a b n ≡ accessDue (sramOf (z .rec)) (z .rec .extlen) a b n
@@ -180,7 +182,7 @@ module _ (z : State) (f : Flat) (m : Matches z f) (a b v : ℕ) where
       rw t (record { number = λ _. refl; value = λ _. refl; matches = s; mode = refl }))
       (λ t. rw t (record { number = λ _. refl; value = λ _. refl; matches = m; mode = rw t refl })))
 
-  quiet-answered : (k : ℕ) → compared (command k a b v) ≡ false → eqb k 10 ≡ false → flatStep (command k a b v) f ≡ flatReply 0 0 f →
+  quiet-answered : (k : ℕ) → compared (oneCommand (command k a b v)) ≡ false → eqb k 10 ≡ false → flatStep (command k a b v) f ≡ flatReply 0 0 f →
       Quiet z (Is f) (step (command k a b v) z .next) →
       Answered (command k a b v) (step (command k a b v) z) (flatStep (command k a b v) f) (z .rec .mode)
   unfolding modeAfter
@@ -230,14 +232,14 @@ settles z z′ f m n u =
       l2Clean = h .l2Clean;
     }
 
-global-settles : (c : Command) (z : State) (f : Flat) → Matches z f → z .rec .mode ≢ 0 → global c ≡ true →
+global-settles : (c : Command) (z : State) (f : Flat) → Matches z f → z .rec .mode ≢ 0 → global (oneCommand c) ≡ true →
     Settled (step c z .next) (flatStep c f .next)
 unfolding step commandDue accepted commandState flatStep
 global-settles c z f m n =
     let a = c .first in let b = c .second in let v = c .value in
-    let not-global : (k : ℕ) → global (command k a b v) ≡ false → global (command k a b v) ≡ true → Settled (step (command k a b v) z .next) (flatStep (command k a b v) f .next) =
+    let not-global : (k : ℕ) → global (oneCommand (command k a b v)) ≡ false → global (oneCommand (command k a b v)) ≡ true → Settled (step (command k a b v) z .next) (flatStep (command k a b v) f .next) =
     λ k e y. false-true (sym e ∙ y) in
-    codes (λ (k : ℕ). global (command k a b v) ≡ true → Settled (step (command k a b v) z .next) (flatStep (command k a b v) f .next))
+    codes (λ (k : ℕ). global (oneCommand (command k a b v)) ≡ true → Settled (step (command k a b v) z .next) (flatStep (command k a b v) f .next))
     (not-global 0 refl) (not-global 1 refl)
     (λ _. settles z (l2WritebackAll z) f m n (l2WritebackAll-good z (Is f) (m .good)))
     (λ _. settles z (l2WritebackInvalidateAll z) f m n (l2WritebackInvalidateAll-good z (Is f) (m .good)))
@@ -246,24 +248,60 @@ global-settles c z f m n =
     (λ k h. not-global k (rw (ne-eqb k 2 (omega arith), ne-eqb k 3 (omega arith)) refl))
     (c .code)
 
--- ---- along a list
-pub agree : (cs : List Command) (mode : ℕ) (z : State) (f : Flat) → Matches z f → z .rec .mode ≡ mode → listed cs ≡ true → Agree mode cs z f
-unfolding listed
-agree [] mode z f m e y = end
-agree (c ∷ cs) mode z f m e y =
-    let p = both-true (listedCode (c .code)) (listed cs) y in
+-- ---- one call: a view is not compared and changes nothing, a fresh start is not listed
+call-agrees : (c : Call) (mode : ℕ) (z : State) (f : Flat) → Matches z f → z .rec .mode ≡ mode → listedCall c ≡ true → AgreesAt mode c z f
+call-agrees freshStart mode z f m e y = false-true y
+call-agrees (look a) mode z f m e y = record { number = λ n. false-true n; value = λ n. false-true n; settled = λ n. false-true n }
+call-agrees (oneCommand c) mode z f m e y =
     let s = call-step c z (good-well z (Is f) (m .good)) in
-    let r = step-answered c z f m (p .0) in
-    let here : AgreesAt mode c z f =
+    let r = step-answered c z f m y in
     record {
       number = λ k. rw s (r .number k);
       value = λ k. rw s (r .value k);
       settled = λ k _ n. rw s (global-settles c z f m (λ i. n (sym e ∙ i)) k);
-    } in
-    let rest : Agree (modeAfter c (call c z) mode) cs (call c z .next) (flatStep c f .next) =
-    rw s (agree cs (modeAfter c (step c z) mode) (step c z .next) (flatStep c f .next) (r .matches)
-    (r .mode ∙ ap (λ (k : ℕ). modeAfter c (step c z) k) e) (p .1)) in
-    next here rest
+    }
+
+pub call-matches : (c : Call) (mode : ℕ) (z : State) (f : Flat) → Matches z f → z .rec .mode ≡ mode → listedCall c ≡ true →
+    Matches (called c z .next) (flatCalled c f .next) × (called c z .next .rec .mode ≡ modeAfter c (called c z) mode)
+unfolding viewDone modeAfter
+call-matches freshStart mode z f m e y = false-true y
+call-matches (look a) mode z f m e y = (m, e)
+call-matches (oneCommand c) mode z f m e y =
+    let s = call-step c z (good-well z (Is f) (m .good)) in
+    let r = step-answered c z f m y in
+    rw s (r .matches, r .mode ∙ ap (λ (k : ℕ). modeAfter (oneCommand c) (step c z) k) e)
+
+-- ---- along a list
+pub agree : (cs : List Call) (mode : ℕ) (z : State) (f : Flat) → Matches z f → z .rec .mode ≡ mode → listed cs ≡ true → Agree mode cs z f
+unfolding listed
+agree [] mode z f m e y = end
+agree (c ∷ cs) mode z f m e y =
+    let p = both-true (listedCall c) (listed cs) y in
+    let r = call-matches c mode z f m e (p .0) in
+    next (call-agrees c mode z f m e (p .0))
+    (agree cs (modeAfter c (called c z) mode) (called c z .next) (flatCalled c f .next) (r .0) (r .1) (p .1))
+
+pub after-matches : (cs : List Call) (mode : ℕ) (z : State) (f : Flat) → Matches z f → z .rec .mode ≡ mode → listed cs ≡ true →
+    Matches (after cs z) (flatAfter cs f) × (after cs z .rec .mode ≡ modeAlong mode cs z)
+unfolding listed after flatAfter modeAlong
+after-matches [] mode z f m e y = (m, e)
+after-matches (c ∷ cs) mode z f m e y =
+    let p = both-true (listedCall c) (listed cs) y in
+    let r = call-matches c mode z f m e (p .0) in
+    after-matches cs (modeAfter c (called c z) mode) (called c z .next) (flatCalled c f .next) (r .0) (r .1) (p .1)
+
+-- a list that ends with a global writeback, in a mode with an L2 cache, leaves external memory settled
+pub ends-settled : (cs : List Call) (c : Command) (mode : ℕ) (z : State) (f : Flat) → Matches z f → z .rec .mode ≡ mode →
+    listed (cs ++ (oneCommand c ∷ [])) ≡ true → global (oneCommand c) ≡ true → modeAlong mode cs z ≢ 0 →
+    Settled (after (cs ++ (oneCommand c ∷ [])) z) (flatAfter (cs ++ (oneCommand c ∷ [])) f)
+unfolding listed after flatAfter modeAlong
+ends-settled [] c mode z f m e y g n =
+    let s = call-step c z (good-well z (Is f) (m .good)) in
+    subst (λ (r : Reply). Settled (r .next) (flatStep c f .next)) (sym s) (global-settles c z f m (λ i. n (sym e ∙ i)) g)
+ends-settled (d ∷ cs) c mode z f m e y g n =
+    let p = both-true (listedCall d) (listed (cs ++ (oneCommand c ∷ []))) y in
+    let r = call-matches d mode z f m e (p .0) in
+    ends-settled cs c (modeAfter d (called d z) mode) (called d z .next) (flatCalled d f .next) (r .0) (r .1) (p .1) g n
 
 -- ---- the fresh start
 pub fresh-matches : (l : ℕ) (e : List ℕ) → legalL2 l ≡ true → legalExternal (length e) ≡ true → Matches (freshState l e) (freshFlat l e)
@@ -293,7 +331,7 @@ fresh-matches l e hl he =
       ext = refl;
     }
 
-fresh-mode : (l : ℕ) (e : List ℕ) → freshState l e .rec .mode ≡ 0
+pub fresh-mode : (l : ℕ) (e : List ℕ) → freshState l e .rec .mode ≡ 0
 unfolding freshState freshRecord
 fresh-mode l e = refl
 
@@ -316,6 +354,9 @@ pub demand3 : Demand3
 demand3 d m e h cs y =
     let p = fresh-accepted d m e h in let s = p .2 in
     rw s (agree cs 0 (freshState (length m) e) (freshFlat (length m) e) (fresh-matches (length m) e (p .0) (p .1)) (fresh-mode (length m) e) y)
+
+pub commands-demand3 : CommandsDemand3
+commands-demand3 d m e h cs y = demand3 d m e h (commands cs) y
 
 -- and the fresh state is well formed
 pub fresh-well : (l : ℕ) (e : List ℕ) → legalL2 l ≡ true → legalExternal (length e) ≡ true → Well (freshState l e)

@@ -1,8 +1,9 @@
--- The line of an access comes into L2, then into L1D. Shown: after `fetchL2` the way that was found or chosen holds the line; the 64 bytes of the home
--- are right; after `fillL1d` the L1D way holds them, clean.
--- Why: the way is emptied first, so that nothing is lost; nobody else holds the line, or the search would have found it; the home's bytes are right because
--- L1D does not hold the line, and where the home is SRAM or external memory L2 does not hold it either.
-use Prim.Native.Nat.{ℕ, suc, _+_, _*_, _-_, _/_, _%_, _≤_, _<_}
+-- The line of an access comes into L2, then into L1D. Shown: after `fetchL2` the way that was found or chosen holds
+-- the line; the 64 bytes of the home are right; after `fillL1d` the L1D way holds them, clean.
+-- Why: the way is emptied first, so that nothing is lost; nobody else holds the line, or the search would have found
+-- it; the home's bytes are right because L1D does not hold the line, and where the home is SRAM or external memory L2
+-- does not hold it either.
+use Prim.Native.Nat.{ℕ, suc, _+_, _-_, _/_, _%_, _≤_, _<_}
 use mathlib.Core.Bool.{true, false, cond}
 use mathlib.Core.Path.{_≡_, refl, sym, ap, _∙_}
 use mathlib.Core.Logic.{_≢_}
@@ -11,41 +12,34 @@ use native.Mathlib.Omega.{arith}
 use native.Mathlib.Nat.{mod-lt}
 use lib.ListN.{length, getD}
 use lib.Dec.{ltb}
-use borrow.Author.Tests.{ltb-true, ltb-false, lt-ltb, le-ltb}
+use borrow.Author.Tests.{ltb-false, le-ltb}
 use Rattle.model.specs.Bytes.{stored, part}
 use Rattle.model.specs.Memories.{externalBase}
 use Rattle.model.specs.Lines.{l1dSetOf, l1dData, l1dLine, l2Line, lineOf}
-use Rattle.model.specs.Records.{State, l2SetsOf, l2SetOf, l2Data, marBit, l2SetAt, l1dLineAt, l2LineAt, withL1dLine}
+use Rattle.model.specs.Records.{State, l2SetsOf, l2SetOf, l2Data, covers, marBit, l2SetAt, l1dLineAt, l2LineAt, withL1dLine}
 use Rattle.model.specs.Ways.{l2Victim, l2Way, inL2, useL2}
 use Rattle.model.specs.Access.{cacheable, homeLine, fillL1d}
 use Rattle.model.specs.Homes.{homeIsL2, memoryPart, evictL2, fillL2, l2WayFor, fetchL2}
 use Rattle.model.specs.Laws.{bool, false-true, cond-elim, length-stored, length-part, part-at}
 use Rattle.model.specs.declared.Line.{Line}
 use Rattle.model.specs.declared.Record.{Record}
-use Rattle.model.proofs.Level.{Valid, Other, NoDirty, Free, Replaced, same-slot}
-use Rattle.model.proofs.Invariant.{Allowed, carry, Layout, Inside, L1dPlaced, L2Placed, InL2Line, l1d-filled}
-use Rattle.model.proofs.Memory.{Fits, read-length, read-at, stored-at}
-use Rattle.model.proofs.Good.{layoutOf, l1dLevel, l2Level, memoryOf, Good, Kept, kept-refl, kept-trans, Hit, l2-hit, l2-miss, l2-bounds, l2-victim-bound, home-l2, l1d-fits, l2-fits, l1d-rest, l1d-replaced, l1d-tidy, l2-used-line, useL2-good, useL2-kept, cache-whole}
-use Rattle.model.proofs.Evict.{memory-free}
-use Rattle.model.proofs.Writeback.{evictL2-good, fillL2-good}
+use Rattle.agreement.proofs.Level.{Valid, Other, NoDirty, Free, Replaced, same-slot}
+use Rattle.agreement.proofs.Invariant.{Allowed, carry, Layout, Inside, L1dPlaced, L2Placed, InL2Line, l1d-filled}
+use Rattle.agreement.proofs.Memory.{Fits, read-length, read-at, stored-at}
+use Rattle.agreement.proofs.Good.{layoutOf, l1dLevel, l2Level, memoryOf, Good, Kept, kept-refl, kept-trans, Hit, l2-hit, l2-miss, l2-bounds, l2-victim-bound, home-l2, l1d-fits, l2-fits, l1d-rest, l1d-replaced, l1d-tidy, l2-used-line, useL2-good, useL2-kept, cache-whole}
+use Rattle.agreement.proofs.Evict.{memory-free}
+use Rattle.agreement.proofs.Writeback.{evictL2-good, fillL2-good}
 
 -- ---- MAR bits are of whole lines
-mar-line : (r : Record) (a b : ℕ) → b ≤ a → a < b + 128 → b % 64 ≡ 0 → a / 64 * 64 ≡ b → marBit r b ≡ marBit r a
-unfolding marBit
-mar-line r a b h h′ e e′ =
-    bool (ltb a 2164260864)
-    (λ t. let l = ltb-true a 2164260864 t in rw (t, lt-ltb b 2164260864 (omega arith)) refl)
-    (λ t. let l = ltb-false a 2164260864 t in rw (t, le-ltb b 2164260864 (omega arith)) refl)
+mar-line : (r : Record) (a b : ℕ) → b / 16777216 ≡ a / 16777216 → marBit r b ≡ marBit r a
+unfolding marBit covers
+mar-line r a b e = rw e refl
 
 pub mar-l1dLine : (r : Record) (a : ℕ) → marBit r (l1dLine a) ≡ marBit r a
-mar-l1dLine r a = mar-line r a (l1dLine a) (omega arith) (omega arith) (omega arith) refl
+mar-l1dLine r a = mar-line r a (l1dLine a) (omega arith)
 
 pub mar-l2Line : (r : Record) (a : ℕ) → marBit r (l2Line a) ≡ marBit r a
-unfolding marBit
-mar-l2Line r a =
-    bool (ltb a 2164260864)
-    (λ t. let l = ltb-true a 2164260864 t in rw (t, lt-ltb (l2Line a) 2164260864 (omega arith)) refl)
-    (λ t. let l = ltb-false a 2164260864 t in rw (t, le-ltb (l2Line a) 2164260864 (omega arith)) refl)
+mar-l2Line r a = mar-line r a (l2Line a) (omega arith)
 
 -- ---- an access of n bytes at a lies in SRAM or in external memory
 pub record AccessFits (g : Layout) (a n : ℕ) : Type 0 where

@@ -1,28 +1,30 @@
--- One command by its code: what `step` does to a good state. Shown: the commands that flat memory does not see (2 to 5, 7, 11), carried out or refused, leave the
--- state good by the same F with L, E and the mode as they were; and every command, of any code, leaves a well-formed state (`step-well`).
--- Why: the lemmas of the single commands, and a refused command changes nothing. At a written-out code the definitions of `step` compute.
+-- One command by its code: what `step` does to a good state. Shown: the commands that flat memory does not see (2 to
+-- 5, 7, 11), carried out or refused, leave the state good by the same F with L, E and the mode as they were; and
+-- every command, of any code, leaves a well-formed state (`step-well`).
+-- Why: the lemmas of the single commands, and a refused command changes nothing. At a written-out code the
+-- definitions of `step` compute.
 use Prim.Native.Nat.{ℕ, zero, suc, _≤_}
 use mathlib.Core.Bool.{cond, and-false}
 use mathlib.Core.Path.{_≡_, refl, ap}
 use native.Mathlib.Omega.{arith}
 use lib.Dec.{leb, eqb}
 use borrow.Author.Tests.{eqb-true, ne-eqb, lt-leb}
 use Rattle.model.specs.Records.{State, sramOf}
 use Rattle.model.specs.Modes.{flushL2, newMode, changeMode, changeMar}
 use Rattle.model.specs.Commands.{l2WritebackAll, l2WritebackInvalidateAll, l2WritebackBlock, l2WritebackInvalidateBlock, l2InvalidateBlock, l1dWritebackInvalidateBlock, l1dInvalidateBlock}
 use Rattle.model.specs.Refusals.{accessDue, blockDue, modeDue, marDue}
 use Rattle.model.specs.Trace.{command}
 use Rattle.model.specs.Calls.{Reply, refused, carriedOut, commandDue, readDone, writeDone, commandState, accepted, step}
 use Rattle.model.specs.Laws.{cond-elim}
 use Rattle.model.specs.declared.Command.{Command}
-use Rattle.model.proofs.Invariant.{Allowed, Layout}
-use Rattle.model.proofs.Good.{Good, Anything, Well}
-use Rattle.model.proofs.ReadWrite.{Step}
-use Rattle.model.proofs.Sweeps.{l2WritebackAll-good, l2WritebackInvalidateAll-good, l2WritebackBlock-good, l2WritebackInvalidateBlock-good, l1dWritebackInvalidateBlock-good, flush-good}
-use Rattle.model.proofs.Changes.{newMode-good, changeMar-good}
-use Rattle.model.proofs.Due.{accepted-read, accepted-write, mode-tells, mar-tells}
-use Rattle.model.proofs.Drops.{l1dInvalidateAll-well, l1dInvalidateBlock-well, l2InvalidateBlock-well}
-use Rattle.model.proofs.Flushes.{sweptL1d, change-swept}
+use Rattle.agreement.proofs.Invariant.{Allowed, Layout}
+use Rattle.agreement.proofs.Good.{Good, Anything, Well}
+use Rattle.agreement.proofs.ReadWrite.{Step}
+use Rattle.agreement.proofs.Sweeps.{l2WritebackAll-good, l2WritebackInvalidateAll-good, l2WritebackBlock-good, l2WritebackInvalidateBlock-good, l1dWritebackInvalidateBlock-good, flush-good}
+use Rattle.agreement.proofs.Changes.{newMode-good, changeMar-good}
+use Rattle.agreement.proofs.Due.{accepted-read, accepted-write, mode-tells, mar-tells}
+use Rattle.agreement.proofs.Drops.{l1dInvalidateAll-well, l1dInvalidateBlock-well, l2InvalidateBlock-well}
+use Rattle.agreement.proofs.Flushes.{sweptL1d, change-swept}
 
 -- ---- a code is one of the twelve, each written out, or a later number
 pub codes {ℓ} : (P : ℕ → Type ℓ) → P 0 → P 1 → P 2 → P 3 → P 4 → P 5 → P 6 → P 7 → P 8 → P 9 → P 10 → P 11 → ((k : ℕ) → 12 ≤ k → P k) → (k : ℕ) → P k

@@ -1,6 +1,8 @@
--- The Boolean test of checks 1 and 2 (`lentDue`) and the invariant of a well-formed state (`Well`) say the same: `due-well` and `well-due`. The arrays' lengths,
--- which the record's types give and no test asks for, are a hypothesis (`Shape`). So a call's state is never refused by the next call: `call-well`, `call-shape`.
--- Why: each test of the record is one of the fields of `Well`, line by line and set by set; what both caches need is shown once over a table of sets.
+-- The Boolean test of checks 1 and 2 (`lentDue`) and the invariant of a well-formed state (`Well`) say the same:
+-- `due-well` and `well-due`. The arrays' lengths, which the record's types give and no test asks for, are a
+-- hypothesis (`Shape`). So a call's state is never refused by the next call: `call-well`, `call-shape`.
+-- Why: each test of the record is one of the fields of `Well`, line by line and set by set; what both caches need is
+-- shown once over a table of sets.
 use Prim.Native.Nat.{ℕ, zero, suc, _+_, _/_, _%_, _≤_, _<_}
 use mathlib.Core.Bool.{Bool, true, false, not, cond, _&&_}
 use mathlib.Core.Path.{_≡_, refl, sym, ap, _∙_}
@@ -11,27 +13,26 @@ use lib.ListN.{length, getD}
 use lib.Seq.{ext-getD}
 use lib.Dec.{ltb, leb, eqb}
 use borrow.Author.Tests.{ltb-true, ltb-false, leb-true, le-leb, eqb-true, eqb-false, eq-eqb, ne-eqb, lt-ltb, le-ltb}
 use Rattle.model.specs.Basics.{anyOf, allIndexed}
 use Rattle.model.specs.Memories.{externalBase, legalL2, legalExternal, cacheSize, isMode}
 use Rattle.model.specs.Lines.{l1dSetOf, l1dData, l2Line, emptyLine, holds, Permutation2, Permutation4}
-use Rattle.model.specs.Records.{State, sramOf, l2SetsOf, l2SetOf, l2Data, marBit, noL1dSet, noL2Set, l1dSetAt, l2SetAt, l1dLineAt, l2LineAt, legalSizes, permuted2, permuted4, emptyWay, insideL2Line, l1dPlace, l2Place, l1dLineOk, l2LineOk, noneTwice, freshUnlessUsed, l1dSetOk, l2SetOk, wellFormed, freshL2Set, coveredByL2, ownL1dSet, l1dRegion, ownL2Set, inSram, l2Region, inCacheable, inUse}
-use Rattle.model.specs.Refusals.{first, unless, lentL1d, lentL2, lentExternal, lentDue}
+use Rattle.model.specs.Records.{State, Shape, sramOf, l2SetsOf, mode0, l2SetOf, l2Data, marBit, noL1dSet, noL2Set, l1dSetAt, l2SetAt, l1dLineAt, l2LineAt, legalSizes, permuted2, permuted4, emptyWay, insideL2Line, l1dPlace, l2Place, l1dLineOk, l2LineOk, noneTwice, freshUnlessUsed, l1dSetOk, l2SetOk, wellFormed, freshL2Set, coveredByL2, ownL1dSet, l1dRegion, ownL2Set, inSram, l2Region, inCacheable, inUse}
+use Rattle.model.specs.Refusals.{unless, lentL1d, lentL2, lentExternal, lentDue}
 use Rattle.model.specs.Calls.{Reply, refused, step, call}
-use Rattle.model.specs.Laws.{bool, false-true, both-true, cond-elim}
+use Rattle.model.specs.Laws.{bool, false-true, both-true, cond-elim, mode0-sets, lowestDue-none, unless-none}
 use Rattle.model.specs.declared.Line.{Line}
 use Rattle.model.specs.declared.Order2.{Order2}
 use Rattle.model.specs.declared.Order4.{Order4}
 use Rattle.model.specs.declared.L2Set.{L2Set}
 use Rattle.model.specs.declared.Record.{Record}
 use Rattle.model.specs.declared.Command.{Command}
-use Rattle.model.proofs.Level.{Valid, Sound}
-use Rattle.model.proofs.Invariant.{L1dPlaced, L2Placed, InL2Line}
-use Rattle.model.proofs.Tables.{Kind, l1dKind, l2Kind, setIn, lineIn, levelOf, Shaped, Table, slot-cases, any-none}
-use Rattle.model.proofs.Good.{layoutOf, l1dLevel, l2Level, Sizes, Well, holds-yes, holds-tells}
-use Rattle.model.proofs.Changes.{l2-fresh}
-use Rattle.model.proofs.Due.{first-none, unless-none}
-use Rattle.model.proofs.Drops.{well}
-use Rattle.model.proofs.Steps.{step-well}
+use Rattle.agreement.proofs.Level.{Valid, Sound}
+use Rattle.agreement.proofs.Invariant.{L1dPlaced, L2Placed, InL2Line}
+use Rattle.agreement.proofs.Tables.{Store, l1dStore, l2Store, setIn, lineIn, levelOf, Shaped, Table, slot-cases, any-none}
+use Rattle.agreement.proofs.Good.{layoutOf, l1dLevel, l2Level, Sizes, Well, holds-yes, holds-tells}
+use Rattle.agreement.proofs.Changes.{l2-fresh}
+use Rattle.agreement.proofs.Drops.{well}
+use Rattle.agreement.proofs.Steps.{step-well}
 
 -- ---- several tests, joined by `both`: each of them holds, by its place; and from all of them
 abbrev every : Bool → List Bool → Bool
@@ -296,8 +297,8 @@ l2-place-makes r t v a p =
 inside-tells : (z : State) (a : ℕ) → l2SetsOf (z .rec) ≢ 0 → insideL2Line (z .rec) a ≡ true → InL2Line (l2Level z) a
 unfolding insideL2Line
 inside-tells z a n h =
-    bool (eqb (l2SetsOf (z .rec)) 0)
-    (λ t. absurd (n (eqb-true (l2SetsOf (z .rec)) 0 t)))
+    bool (mode0 (z .rec))
+    (λ t. absurd (n (eqb-true (l2SetsOf (z .rec)) 0 (sym (mode0-sets (z .rec)) ∙ t))))
     (λ t. let r = any-tells (λ y. holds y (l2Line a)) emptyLine (l2SetAt (z .rec) (l2SetOf (z .rec) a) .lines) (rw t at h) in
     let p = holds-tells (l2LineAt (z .rec) (l2SetOf (z .rec) a) (r .0)) (l2Line a) (r .1) in
     (l2SetOf (z .rec) a, r .0, p .0, p .1))
@@ -305,8 +306,8 @@ inside-tells z a n h =
 inside-makes : (z : State) → Well z → (a : ℕ) → (l2SetsOf (z .rec) ≢ 0 → InL2Line (l2Level z) a) → insideL2Line (z .rec) a ≡ true
 unfolding insideL2Line holds
 inside-makes z h a f =
-    bool (eqb (l2SetsOf (z .rec)) 0) (λ t. rw t refl)
-    (λ t. let i = f (eqb-false (l2SetsOf (z .rec)) 0 t) in
+    bool (mode0 (z .rec)) (λ t. rw t refl)
+    (λ t. let i = f (eqb-false (l2SetsOf (z .rec)) 0 (sym (mode0-sets (z .rec)) ∙ t)) in
     let p = h .inv .l2Sound .place (i .0) (i .1) (i .2) in
     let e = i .3 in
     let d : l2LineAt (z .rec) (i .0) (i .1) .address / 128 ≡ a / 128 = omega arith in
@@ -318,7 +319,7 @@ inside-makes z h a f =
 abbrev lineTest : (ℕ → ℕ → Bool) → ℕ → ℕ → Line → Bool
 lineTest place s = λ _ x. cond (x .valid) (place s (x .address)) (emptyWay x)
 
-module _ (k : Kind) (xs : List (k .OneSet)) (shape : Shaped k xs) (place : ℕ → ℕ → Bool)
+module _ (k : Store) (xs : List (k .OneSet)) (shape : Shaped k xs) (place : ℕ → ℕ → Bool)
     (lines : (s : ℕ) → s < k .sets → allIndexed (lineTest place s) 0 (k .lines (setIn k xs s)) ≡ true)
     (twice : (s : ℕ) → s < k .sets → noneTwice (k .lines (setIn k xs s)) ≡ true) where
   line-test : (s w : ℕ) → s < k .sets → w < k .ways → lineTest place s w (lineIn k xs s w) ≡ true
@@ -343,17 +344,19 @@ module _ (k : Kind) (xs : List (k .OneSet)) (shape : Shaped k xs) (place : ℕ �
         place = pl;
       }
 
-module _ (k : Kind) (xs : List (k .OneSet)) (h : Table k xs) (place : ℕ → ℕ → Bool)
+module _ (k : Store) (xs : List (k .OneSet)) (h : Table k xs) (place : ℕ → ℕ → Bool)
     (placed : (s w : ℕ) → lineIn k xs s w .valid ≡ true → place s (lineIn k xs s w .address) ≡ true) where
   table-lines : (s : ℕ) → allIndexed (lineTest place s) 0 (k .lines (setIn k xs s)) ≡ true
   table-lines s =
       all-makes (lineTest place s) emptyLine (k .lines (setIn k xs s))
       (λ w _. bool (lineIn k xs s w .valid) (λ i. rw i (placed s w i)) (λ i. let e = h .empty s w i in rw e empty-makes))
 
--- ---- the lengths, which the types of the record's arrays give
-pub record Shape (r : Record) : Type 0 where
-  pub l1d : Shaped l1dKind (r .l1d)
-  pub l2 : Shaped l2Kind (r .l2)
+-- ---- the lengths, of each cache's table
+l1d-shaped : (r : Record) → Shape r → Shaped l1dStore (r .l1d)
+l1d-shaped r h = record { sets = h .l1dSets; ways = h .l1dWays }
+
+l2-shaped : (r : Record) → Shape r → Shaped l2Store (r .l2)
+l2-shaped r h = record { sets = h .l2Sets; ways = h .l2Ways }
 
 -- ---- lengths and mode
 sizes-tell : (z : State) → lentL1d (z .l1d) ≡ true → lentL2 (z .rec) (z .l2) ≡ true → lentExternal (z .rec) (z .ext) ≡ true →
@@ -428,7 +431,7 @@ module _ (z : State) (h : Sizes (z .rec .l2len) (z .rec .extlen) (z .rec .mode) 
       and le-leb (cacheSize (r .mode)) (r .l2len) (h .cacheMost))
 
 -- ---- from the test to the invariant
-module _ (z : State) (shape : Shape (z .rec)) (sizes : Sizes (z .rec .l2len) (z .rec .extlen) (z .rec .mode) (z .l1d) (z .l2) (z .ext))
+module _ (z : State) (l1dShape : Shaped l1dStore (z .rec .l1d)) (l2Shape : Shaped l2Store (z .rec .l2)) (sizes : Sizes (z .rec .l2len) (z .rec .extlen) (z .rec .mode) (z .l1d) (z .l2) (z .ext))
     (l1d : allIndexed (l1dSetOk (z .rec)) 0 (z .rec .l1d) ≡ true) (l2 : allIndexed (l2SetOk (z .rec)) 0 (z .rec .l2) ≡ true) where
   l1d-set-tests : (s : ℕ) → s < 128 → (i : ℕ) →
       getD
@@ -437,7 +440,7 @@ module _ (z : State) (shape : Shape (z .rec)) (sizes : Sizes (z .rec .l2len) (z 
       i true ≡ true
   unfolding l1dSetOk l1dLineOk
   l1d-set-tests s hs =
-      let v = l1dSetAt (z .rec) s in let n = shape .l1d .sets in
+      let v = l1dSetAt (z .rec) s in let n = l1dShape .sets in
       tells (allIndexed (lineTest (l1dPlace (z .rec)) s) 0 (v .lines)) (noneTwice (v .lines) ∷ permuted2 (v .order) ∷ [])
       (all-tells (l1dSetOk (z .rec)) noL1dSet (z .rec .l1d) l1d s (omega arith))
 
@@ -446,32 +449,32 @@ module _ (z : State) (shape : Shape (z .rec)) (sizes : Sizes (z .rec .l2len) (z 
       permuted4 (l2SetAt (z .rec) t .order) ∷ freshUnlessUsed (z .rec) t (l2SetAt (z .rec) t .order) ∷ []) i true ≡ true
   unfolding l2SetOk l2LineOk
   l2-set-tests t ht =
-      let v = l2SetAt (z .rec) t in let n = shape .l2 .sets in
+      let v = l2SetAt (z .rec) t in let n = l2Shape .sets in
       tells (allIndexed (lineTest (l2Place (z .rec)) t) 0 (v .lines))
       (noneTwice (v .lines) ∷ permuted4 (v .order) ∷ freshUnlessUsed (z .rec) t (v .order) ∷ [])
       (all-tells (l2SetOk (z .rec)) noL2Set (z .rec .l2) l2 t (omega arith))
 
   l1d-placed : (s w : ℕ) → Valid (l1dLevel z) s w → (s < 128) × (w < 2) × (l1dPlace (z .rec) s (l1dLineAt (z .rec) s w .address) ≡ true)
-  l1d-placed = table-placed l1dKind (z .rec .l1d) (shape .l1d) (l1dPlace (z .rec)) (λ s hs. l1d-set-tests s hs 0) (λ s hs. l1d-set-tests s hs 1)
+  l1d-placed = table-placed l1dStore (z .rec .l1d) l1dShape (l1dPlace (z .rec)) (λ s hs. l1d-set-tests s hs 0) (λ s hs. l1d-set-tests s hs 1)
 
   l1d-sound : Sound (L1dPlaced (layoutOf (z .rec))) (l1dLevel z)
   l1d-sound =
-      table-sound l1dKind (z .rec .l1d) (shape .l1d) (l1dPlace (z .rec)) (λ s hs. l1d-set-tests s hs 0) (λ s hs. l1d-set-tests s hs 1)
+      table-sound l1dStore (z .rec .l1d) l1dShape (l1dPlace (z .rec)) (λ s hs. l1d-set-tests s hs 0) (λ s hs. l1d-set-tests s hs 1)
       (L1dPlaced (layoutOf (z .rec))) (λ s w a hw h. l1d-place-tells (z .rec) s w a hw h) (λ s w s′ w′ a p p′. p′ .ownSet ∙ sym (p .ownSet)) l1dData
       (z .l1d)
 
   l2-sound : Sound (L2Placed (layoutOf (z .rec))) (l2Level z)
   l2-sound =
-      table-sound l2Kind (z .rec .l2) (shape .l2) (l2Place (z .rec)) (λ t ht. l2-set-tests t ht 0) (λ t ht. l2-set-tests t ht 1)
+      table-sound l2Store (z .rec .l2) l2Shape (l2Place (z .rec)) (λ t ht. l2-set-tests t ht 0) (λ t ht. l2-set-tests t ht 1)
       (L2Placed (layoutOf (z .rec))) (λ t v a hv h. l2-place-tells (z .rec) t v a hv h) (λ t v t′ v′ a p p′. p′ .ownSet ∙ sym (p .ownSet))
       (l2Data (z .rec)) (z .l2)
 
   l2-empty : (t v : ℕ) → l2LineAt (z .rec) t v .valid ≡ false → l2LineAt (z .rec) t v ≡ emptyLine
-  l2-empty = table-empty l2Kind (z .rec .l2) (shape .l2) (l2Place (z .rec)) (λ t ht. l2-set-tests t ht 0) (λ t ht. l2-set-tests t ht 1)
+  l2-empty = table-empty l2Store (z .rec .l2) l2Shape (l2Place (z .rec)) (λ t ht. l2-set-tests t ht 0) (λ t ht. l2-set-tests t ht 1)
 
   idle : (t : ℕ) → t < 512 → l2SetsOf (z .rec) ≤ t → l2SetAt (z .rec) t ≡ freshL2Set
   idle t ht c =
-      let n = shape .l2 .ways t ht in
+      let n = l2Shape .ways t ht in
       let o = fresh-order-tells (z .rec) t (l2SetAt (z .rec) t .order) c (l2-set-tests t ht 3) in
       let none : (v : ℕ) → l2LineAt (z .rec) t v .valid ≡ false =
       λ v. bool (l2LineAt (z .rec) t v .valid) (λ i. let p = l2-sound .place t v i in let li = p .setUsed in absurd (omega arith)) (λ i. i) in
@@ -485,11 +488,11 @@ module _ (z : State) (shape : Shape (z .rec)) (sizes : Sizes (z .rec .l2len) (z 
       (record {
         sizes = sizes;
         l1d = record {
-          shaped = shape .l1d;
+          shaped = l1dShape;
           ordered = λ s hs. order2-tells (l1dSetAt (z .rec) s .order) (l1d-set-tests s hs 2);
-          empty = table-empty l1dKind (z .rec .l1d) (shape .l1d) (l1dPlace (z .rec)) (λ s hs. l1d-set-tests s hs 0) (λ s hs. l1d-set-tests s hs 1);
+          empty = table-empty l1dStore (z .rec .l1d) l1dShape (l1dPlace (z .rec)) (λ s hs. l1d-set-tests s hs 0) (λ s hs. l1d-set-tests s hs 1);
         };
-        l2 = record { shaped = shape .l2; ordered = λ t ht. order4-tells (l2SetAt (z .rec) t .order) (l2-set-tests t ht 2); empty = l2-empty };
+        l2 = record { shaped = l2Shape; ordered = λ t ht. order4-tells (l2SetAt (z .rec) t .order) (l2-set-tests t ht 2); empty = l2-empty };
         idle = idle;
       })
       l1d-sound l2-sound
@@ -500,11 +503,11 @@ module _ (z : State) (shape : Shape (z .rec)) (sizes : Sizes (z .rec .l2len) (z 
 pub due-well : (z : State) → Shape (z .rec) → lentDue z ≡ 0 → Well z
 unfolding lentDue wellFormed
 due-well z shape h =
-    let p = first-none (lentL1d (z .l1d) && (lentL2 (z .rec) (z .l2) && lentExternal (z .rec) (z .ext))) 0 (unless (wellFormed (z .rec)) 2) h in
+    let p = lowestDue-none (lentL1d (z .l1d) && (lentL2 (z .rec) (z .l2) && lentExternal (z .rec) (z .ext))) 0 (unless (wellFormed (z .rec)) 2) h in
     let a = tells (lentL1d (z .l1d)) (lentL2 (z .rec) (z .l2) ∷ lentExternal (z .rec) (z .ext) ∷ []) (p .0) in
     let b = tells (legalSizes (z .rec)) (allIndexed (l1dSetOk (z .rec)) 0 (z .rec .l1d) ∷ allIndexed (l2SetOk (z .rec)) 0 (z .rec .l2) ∷ [])
     (unless-none (wellFormed (z .rec)) 1 (p .1)) in
-    tests-well z shape (sizes-tell z (a 0) (a 1) (a 2) (b 0)) (b 1) (b 2)
+    tests-well z (l1d-shaped (z .rec) shape) (l2-shaped (z .rec) shape) (sizes-tell z (a 0) (a 1) (a 2) (b 0)) (b 1) (b 2)
 
 -- ---- and the other way: a well-formed state passes checks 1 and 2
 module _ (z : State) (h : Well z) where
@@ -514,7 +517,7 @@ module _ (z : State) (h : Well z) where
       all-makes (l1dSetOk (z .rec)) noL1dSet (z .rec .l1d)
       (λ s k. let n = h .tidy .l1d .shaped .sets in let v = l1dSetAt (z .rec) s in
       makes (allIndexed (lineTest (l1dPlace (z .rec)) s) 0 (v .lines)) (noneTwice (v .lines) ∷ permuted2 (v .order) ∷ [])
-      (table-lines l1dKind (z .rec .l1d) (h .tidy .l1d) (l1dPlace (z .rec))
+      (table-lines l1dStore (z .rec .l1d) (h .tidy .l1d) (l1dPlace (z .rec))
       (λ s′ w i. let a = l1dLineAt (z .rec) s′ w .address in
       l1d-place-makes (z .rec) s′ w a (h .inv .l1dSound .place s′ w i) (λ b. inside-makes z h a (λ n. h .inv .inclusion s′ w i b n))) s
       and once-makes (v .lines) (λ w w′ i i′ e. h .inv .l1dSound .once s w s w′ i i′ e .1)
@@ -527,7 +530,7 @@ module _ (z : State) (h : Well z) where
       (λ t k. let n = h .tidy .l2 .shaped .sets in let v = l2SetAt (z .rec) t in
       makes (allIndexed (lineTest (l2Place (z .rec)) t) 0 (v .lines))
       (noneTwice (v .lines) ∷ permuted4 (v .order) ∷ freshUnlessUsed (z .rec) t (v .order) ∷ [])
-      (table-lines l2Kind (z .rec .l2) (h .tidy .l2) (l2Place (z .rec))
+      (table-lines l2Store (z .rec .l2) (h .tidy .l2) (l2Place (z .rec))
       (λ t′ w i. l2-place-makes (z .rec) t′ w (l2LineAt (z .rec) t′ w .address) (h .inv .l2Sound .place t′ w i)) t
       and once-makes (v .lines) (λ w w′ i i′ e. h .inv .l2Sound .once t w t w′ i i′ e .1)
       and order4-makes (v .order) (h .tidy .l2 .ordered t (omega arith))
@@ -544,7 +547,9 @@ module _ (z : State) (h : Well z) where
   well-due = rw (sizes-lent z (h .tidy .sizes), well-formed) refl
 
   pub well-shape : Shape (z .rec)
-  well-shape = record { l1d = h .tidy .l1d .shaped; l2 = h .tidy .l2 .shaped }
+  well-shape =
+      let a = h .tidy .l1d .shaped in let b = h .tidy .l2 .shaped in
+      record { l1dSets = a .sets; l1dWays = a .ways; l2Sets = b .sets; l2Ways = b .ways }
 
 -- ---- so checks 1 and 2 never come due along a list of calls
 pub call-step : (c : Command) (z : State) → Well z → call c z ≡ step c z

@@ -1,27 +1,27 @@
--- The commands that invalidate and write nothing: L1D lines and L2 lines are dropped. Shown: a well-formed record stays well formed. Nothing is said of
--- bytes, since a dropped dirty line loses its own.
--- Why: a slot that becomes empty keeps every other line where it was; and an L2 line is dropped only after both its halves were, so that no external L1D line
--- loses the L2 line around it.
+-- The commands that invalidate and write nothing: L1D lines and L2 lines are dropped. Shown: a well-formed record
+-- stays well formed. Nothing is said of bytes, since a dropped dirty line loses its own.
+-- Why: a slot that becomes empty keeps every other line where it was; and an L2 line is dropped only after both its
+-- halves were, so that no external L1D line loses the L2 line around it.
 use Prim.Native.Nat.{ℕ, _/_, _%_, _≤_, _<_}
 use mathlib.Core.Path.{_≡_, refl, sym, ap, _∙_}
 use mathlib.Core.Logic.{_≢_}
 use mathlib.Core.List.{List}
 use native.Mathlib.Omega.{arith}
 use lib.ListN.{getD}
 use Rattle.model.specs.Memories.{externalBase}
 use Rattle.model.specs.Lines.{l1dSetOf, emptyLine, upperHalf}
 use Rattle.model.specs.Records.{State, l2SetsOf, marBit, noL2Set, l1dLineAt, l2LineAt, withL1dLine, withL2Line}
 use Rattle.model.specs.Ways.{l1dWay, inL1d, emptyL1d, emptyL2}
 use Rattle.model.specs.Commands.{eachTouched, atL1d, atL2, dropL2, l2InvalidateBlock, l1dInvalidateBlock, l1dInvalidateAll}
 use Rattle.model.specs.Laws.{cond-elim}
 use Rattle.model.specs.declared.Line.{Line}
 use Rattle.model.specs.declared.L2Set.{L2Set}
-use Rattle.model.proofs.Level.{Valid, Free, Replaced, Sound, same-slot, emptied-line, emptied-sound}
-use Rattle.model.proofs.Invariant.{L1dPlaced, L2Placed, InL2Line, emptied-inclusion}
-use Rattle.model.proofs.Good.{layoutOf, l1dLevel, l2Level, memoryOf, Tidy, Anything, Well, l1d-hit, l1d-miss, l1d-replaced, l1d-tidy, l2-replaced, l2-tidy}
-use Rattle.model.proofs.Evict.{Clear, evicted-free, halves-none}
-use Rattle.model.proofs.ReadWrite.{Step}
-use Rattle.model.proofs.Sweeps.{each-by, step-refl, step-trans, touched-good, atL1d-good, atL2-good, unless-good}
+use Rattle.agreement.proofs.Level.{Valid, Free, Replaced, Sound, same-slot, emptied-line, emptied-sound}
+use Rattle.agreement.proofs.Invariant.{L1dPlaced, L2Placed, InL2Line, emptied-inclusion}
+use Rattle.agreement.proofs.Good.{layoutOf, l1dLevel, l2Level, memoryOf, Tidy, Anything, Well, l1d-hit, l1d-miss, l1d-replaced, l1d-tidy, l2-replaced, l2-tidy}
+use Rattle.agreement.proofs.Evict.{Clear, evicted-free, halves-none}
+use Rattle.agreement.proofs.ReadWrite.{Step}
+use Rattle.agreement.proofs.Sweeps.{each-by, step-refl, step-trans, touched-good, atL1d-good, atL2-good, unless-good}
 
 -- a well-formed state from its parts
 pub well : (z : State) → Tidy z → Sound (L1dPlaced (layoutOf (z .rec))) (l1dLevel z) → Sound (L2Placed (layoutOf (z .rec))) (l2Level z) →
@@ -92,7 +92,7 @@ emptyL2-step z h t v ht hv c =
       kept = record { mode = refl; layout = refl; l2len = refl };
     }
 
-dropL2-step : (z : State) → Well z → (t v : ℕ) → Valid (l2Level z) t v → t < l2SetsOf (z .rec) → v < 4 → Step z Anything (dropL2 t v z)
+pub dropL2-step : (z : State) → Well z → (t v : ℕ) → Valid (l2Level z) t v → t < l2SetsOf (z .rec) → v < 4 → Step z Anything (dropL2 t v z)
 unfolding dropL2
 dropL2-step z h t v k ht hv =
     let b = l2LineAt (z .rec) t v .address in

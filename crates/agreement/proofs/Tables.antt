@@ -1,7 +1,9 @@
--- The sets of a cache as the record holds them, a list of sets, said ONCE for L1D and L2 (and a cache to come): a `Kind` names the type of one set,
--- its lines and how a line of it is replaced. Shown: what is read after one line, or one set's order, was replaced; that a table of sets keeps its
--- lengths, its orders and its empty ways; and that such a change is `Replaced` of the level that the table and its bytes make.
--- Why it holds: `set` on a list changes one element (`set-cases`), once for the list of sets and once for the lines of a set.
+-- The sets of a cache as the record holds them, a list of sets, said ONCE for L1D and L2 (and a cache to come): a
+-- `Store` names the type of one set, its lines and how a line of it is replaced. Shown: what is read after one line,
+-- or one set's order, was replaced; that a table of sets keeps its lengths, its orders and its empty ways; and that
+-- such a change is `Replaced` of the level that the table and its bytes make.
+-- Why it holds: `set` on a list changes one element (`set-cases`), once for the list of sets and once for the lines
+-- of a set.
 use Prim.Native.Nat.{ℕ, zero, suc, _+_, _<_}
 use mathlib.Core.Bool.{Bool, false}
 use mathlib.Core.Path.{_≡_, refl, sym, ap, _∙_, subst}
@@ -12,17 +14,18 @@ use lib.ListN.{getD, set, length, replicate, length-set, length-replicate, getD-
 use lib.Seq.{getD-set-same, getD-set-other}
 use lib.Dec.{ltb, eqb}
 use borrow.Author.Tests.{ltb-true, ltb-false, eqb-true, eqb-false}
 use Rattle.model.specs.Basics.{anyOf}
 use Rattle.model.specs.Lines.{emptyLine, Permutation2, Permutation4, l1dPut, l2Put}
 use Rattle.model.specs.Records.{noL1dSet, noL2Set}
 use Rattle.model.specs.Laws.{bool, false-true}
 use Rattle.model.specs.declared.Line.{Line}
 use Rattle.model.specs.declared.L1dSet.{L1dSet}
 use Rattle.model.specs.declared.L2Set.{L2Set}
-use Rattle.model.proofs.Level.{Level, Valid, Other, Replaced}
+use Rattle.agreement.proofs.Level.{Level, Valid, Other, Replaced}
 
--- ---- a kind of cache: one set of it, what stands for a set past the end, a set's lines, a line replaced, when its order is a permutation
-pub record Kind : Type 1 where
+-- ---- how the record holds a cache: one set of it, what stands for a set past the end, a set's lines, a line
+-- replaced, when its order is a permutation
+pub record Store : Type 1 where
   pub OneSet : Type 0
   pub none : OneSet
   pub lines : OneSet → List Line
@@ -50,8 +53,8 @@ pub l2-put-ordered : (v : L2Set) (w : ℕ) (x : Line) → Permutation4 (v .order
 unfolding l2Put
 l2-put-ordered v w x p = p
 
-abbrev pub l1dKind : Kind
-l1dKind =
+abbrev pub l1dStore : Store
+l1dStore =
     record {
       OneSet = L1dSet;
       none = noL1dSet;
@@ -65,8 +68,8 @@ l1dKind =
       put-ordered = l1d-put-ordered;
     }
 
-abbrev pub l2Kind : Kind
-l2Kind =
+abbrev pub l2Store : Store
+l2Store =
     record {
       OneSet = L2Set;
       none = noL2Set;
@@ -80,25 +83,26 @@ l2Kind =
       put-ordered = l2-put-ordered;
     }
 
--- ---- a set, a line, the table with one line replaced; the level that a table makes, with slot s, w's bytes from `place s w` on in m
-abbrev pub setIn : (k : Kind) → List (k .OneSet) → ℕ → k .OneSet
+-- ---- a set, a line, the table with one line replaced; the level that a table makes, with slot s, w's bytes from
+-- `place s w` on in m
+abbrev pub setIn : (k : Store) → List (k .OneSet) → ℕ → k .OneSet
 setIn k xs s = getD xs s (k .none)
 
-abbrev pub lineIn : (k : Kind) → List (k .OneSet) → ℕ → ℕ → Line
+abbrev pub lineIn : (k : Store) → List (k .OneSet) → ℕ → ℕ → Line
 lineIn k xs s w = getD (k .lines (setIn k xs s)) w emptyLine
 
-abbrev pub withLine : (k : Kind) → List (k .OneSet) → ℕ → ℕ → Line → List (k .OneSet)
+abbrev pub withLine : (k : Store) → List (k .OneSet) → ℕ → ℕ → Line → List (k .OneSet)
 withLine k xs s w x = set xs s (k .put (setIn k xs s) w x)
 
-abbrev pub levelOf : (k : Kind) → List (k .OneSet) → (ℕ → ℕ → ℕ) → List ℕ → Level
+abbrev pub levelOf : (k : Store) → List (k .OneSet) → (ℕ → ℕ → ℕ) → List ℕ → Level
 levelOf k xs place m = record { line = λ s w. lineIn k xs s w; byte = λ s w i. getD m (place s w + i) 0 }
 
 -- ---- the lengths, which the arrays' types give; and the rest of a table that is well formed whatever its lines hold
-pub record Shaped (k : Kind) (xs : List (k .OneSet)) : Type 0 where
+pub record Shaped (k : Store) (xs : List (k .OneSet)) : Type 0 where
   pub sets : length xs ≡ k .sets
   pub ways : (s : ℕ) → s < k .sets → length (k .lines (setIn k xs s)) ≡ k .ways
 
-pub record Table (k : Kind) (xs : List (k .OneSet)) : Type 0 where
+pub record Table (k : Store) (xs : List (k .OneSet)) : Type 0 where
   pub shaped : Shaped k xs
   pub ordered : (s : ℕ) → s < k .sets → k .Ordered (setIn k xs s)
   pub empty : (s w : ℕ) → lineIn k xs s w .valid ≡ false → lineIn k xs s w ≡ emptyLine
@@ -118,7 +122,7 @@ set-cases (x ∷ xs) zero (suc j) a d = inr refl
 set-cases (x ∷ xs) (suc i) zero a d = inr refl
 set-cases (x ∷ xs) (suc i) (suc j) a d = ⊎-elim (λ p. inl (ap suc (p .0), p .1)) inr (set-cases xs i j a d)
 
-module _ (k : Kind) (xs : List (k .OneSet)) where
+module _ (k : Store) (xs : List (k .OneSet)) where
   -- ---- one line replaced
   module _ (s w : ℕ) (x : Line) where
     abbrev new : k .OneSet
@@ -247,7 +251,7 @@ module _ (k : Kind) (xs : List (k .OneSet)) where
       (any-none (λ (v : k .OneSet). anyOf p (k .lines v)) (k .none) (ap (λ (l : List Line). anyOf p l) (k .none-lines)) xs h s) w
 
 -- ---- a table of equal sets, all of whose lines are empty
-module _ (k : Kind) (v : k .OneSet) (n : ℕ) (all : (w : ℕ) → getD (k .lines v) w emptyLine ≡ emptyLine) where
+module _ (k : Store) (v : k .OneSet) (n : ℕ) (all : (w : ℕ) → getD (k .lines v) w emptyLine ≡ emptyLine) where
   pub fresh-line : (s w : ℕ) → lineIn k (replicate n v) s w ≡ emptyLine
   fresh-line s w =
       bool (ltb s n)

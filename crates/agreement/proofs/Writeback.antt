@@ -1,6 +1,8 @@
--- An L2 line goes out to external memory, is written back with its halves, leaves, or comes in. Shown: the state stays good, and what each step leaves.
--- Why: once L1D holds nothing of the line (its halves were taken in), the L2 bytes are right, so external memory is right after they went there, and a
--- clean line may leave. A line that comes in is right because no dirty line held it.
+-- An L2 line goes out to external memory, is written back with its halves, leaves, or comes in. Shown: the state
+-- stays good, and what each step leaves.
+-- Why: once L1D holds nothing of the line (its halves were taken in), the L2 bytes are right, so external memory is
+-- right after they went there, and a clean line may leave. A line that comes in is right because no dirty line held
+-- it.
 use Prim.Native.Nat.{ℕ, _+_, _-_, _≤_, _<_}
 use mathlib.Core.Bool.{false, cond}
 use mathlib.Core.Path.{_≡_, refl, sym, ap, _∙_}
@@ -10,21 +12,21 @@ use native.Mathlib.Omega.{arith}
 use lib.ListN.{length, getD}
 use lib.Dec.{ltb}
 use borrow.Author.Tests.{ltb-true, ltb-false}
 use Rattle.model.specs.Bytes.{stored, part}
 use Rattle.model.specs.Memories.{externalBase}
 use Rattle.model.specs.Lines.{emptyLine, lineOf}
-use Rattle.model.specs.Records.{State, state, l2SetsOf, l2Data, marBit, noL1dSet, l1dLineAt, l2LineAt, withL2Line}
+use Rattle.model.specs.Records.{State, withRecord, withExternal, l2SetsOf, l2Data, marBit, noL1dSet, l1dLineAt, l2LineAt, withL2Line}
 use Rattle.model.specs.Ways.{emptyL2}
 use Rattle.model.specs.Homes.{takeHalves, writeOutL2, writebackL2, evictL2, fillL2}
 use Rattle.model.specs.Laws.{bool, false-true, cond-elim, length-stored, length-part}
 use Rattle.model.specs.declared.Line.{Line}
 use Rattle.model.specs.declared.L1dSet.{L1dSet}
 use Rattle.model.specs.declared.Record.{Record}
-use Rattle.model.proofs.Level.{Valid, Other, Replaced, kept-valid, kept-address}
-use Rattle.model.proofs.Invariant.{Allowed, L2Placed, Invariant, invariant-same, l2-cleaned, l2-dropped, l2-filled}
-use Rattle.model.proofs.Memory.{memory-low, memory-high, copied-in, copied-out}
-use Rattle.model.proofs.Good.{layoutOf, l1dLevel, l2Level, memoryOf, Good, Kept, kept-refl, kept-trans, l2-fits, l2-rest, l2-replaced, l2-tidy}
-use Rattle.model.proofs.Evict.{Clear, l2-keeps-memory, takeHalves-good}
+use Rattle.agreement.proofs.Level.{Valid, Other, Replaced, kept-valid, kept-address}
+use Rattle.agreement.proofs.Invariant.{Allowed, L2Placed, Invariant, invariant-same, l2-cleaned, l2-dropped, l2-filled}
+use Rattle.agreement.proofs.Memory.{memory-low, memory-high, copied-in, copied-out}
+use Rattle.agreement.proofs.Good.{layoutOf, l1dLevel, l2Level, memoryOf, Good, Kept, kept-refl, kept-trans, l2-fits, l2-rest, l2-replaced, l2-tidy}
+use Rattle.agreement.proofs.Evict.{Clear, l2-keeps-memory, takeHalves-good}
 
 -- ---- an L2 line goes out if it is dirty, and stays, clean
 pub record WrittenOut (z : State) (F : Allowed) (t v : ℕ) (z′ : State) : Type 0 where
@@ -42,7 +44,7 @@ module _ (z : State) (F : Allowed) (q : Good z F) (t v : ℕ) (ht : t < l2SetsOf
 
   abbrev cleaned : State
   cleaned =
-      state (withL2Line (z .rec) t v (lineOf (l2LineAt (z .rec) t v .address) false)) (z .l1d) (z .l2)
+      withExternal (withRecord z (withL2Line (z .rec) t v (lineOf (l2LineAt (z .rec) t v .address) false)))
       (stored (z .ext) (b - externalBase) (part (z .l2) (l2Data (z .rec) t v) 128))
 
   out-dirty : Valid (l2Level z) t v → Clear z t v → WrittenOut z F t v cleaned

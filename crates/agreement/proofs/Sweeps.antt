@@ -1,8 +1,9 @@
--- The cache commands that write back, over all lines or over a block, and the flush before a mode change. Shown: each leaves the state good; after a
--- global writeback in a mode with an L2 cache L1D holds no external line, no L2 line is dirty and external memory is right; after the flush L1D
--- holds nothing and no L2 line is dirty.
--- Why: each is a loop of steps that keep the state good, and a slot that is done stays done: it is clean, and L1D holds nothing of it, so that no later
--- writeback into L2 can make it dirty again. Slots are counted k = set * ways + way, so that "before k" is one linear test.
+-- The cache commands that write back, over all lines or over a block, and the flush before a mode change. Shown: each
+-- leaves the state good; after a global writeback in a mode with an L2 cache L1D holds no external line, no L2 line
+-- is dirty and external memory is right; after the flush L1D holds nothing and no L2 line is dirty.
+-- Why: each is a loop of steps that keep the state good, and a slot that is done stays done: it is clean, and L1D
+-- holds nothing of it, so that no later writeback into L2 can make it dirty again. Slots are counted k = set * ways +
+-- way, so that "before k" is one linear test.
 use Prim.Native.Nat.{ℕ, zero, suc, _+_, _*_, _-_, _/_, _%_, _≤_, _<_}
 use mathlib.Core.Bool.{false}
 use mathlib.Core.Path.{_≡_, refl, sym, ap, _∙_}
@@ -11,26 +12,26 @@ use native.Mathlib.Omega.{arith}
 use lib.ListN.{getD}
 use lib.Dec.{eqb}
 use borrow.Author.Tests.{eqb-true, eqb-false}
 use Rattle.model.specs.Basics.{each}
 use Rattle.model.specs.Memories.{externalBase}
 use Rattle.model.specs.Lines.{l1dSetOf, emptyLine, l2Sets}
-use Rattle.model.specs.Records.{State, l2SetsOf, l2SetOf, l1dLineAt, l2LineAt}
+use Rattle.model.specs.Records.{State, l2SetsOf, mode0, l2SetOf, l1dLineAt, l2LineAt}
 use Rattle.model.specs.Ways.{l1dWay, l2Way, inL1d, inL2}
 use Rattle.model.specs.Access.{evictL1d}
 use Rattle.model.specs.Homes.{writeOutL2, writebackL2, evictL2}
 use Rattle.model.specs.Modes.{flushL2}
 use Rattle.model.specs.Commands.{linesTouched, eachTouched, eachL2, atL2, atL1d, unlessMode0, l2WritebackAll, l2WritebackInvalidateAll, l2WritebackBlock, l2WritebackInvalidateBlock, l1dWritebackInvalidateBlock}
 use Rattle.model.specs.Laws.{bool, false-true, cond-elim, no-ways}
 use Rattle.model.specs.declared.Line.{Line}
 use Rattle.model.specs.declared.Record.{Record}
-use Rattle.model.proofs.Level.{Valid, same-slot}
-use Rattle.model.proofs.Invariant.{Allowed, carry}
-use Rattle.model.proofs.Memory.{memory-high}
-use Rattle.model.proofs.Good.{l1dLevel, l2Level, Good, kept-refl, kept-trans, l1d-hit, l2-hit, l1d-bounds, l2-bounds}
-use Rattle.model.proofs.Evict.{evictL1d-good}
-use Rattle.model.proofs.Writeback.{WrittenOut, writeOutL2-good, Done, Swept, writebackL2-good, evictL2-good}
-use Rattle.model.proofs.ReadWrite.{Step}
-use Rattle.model.proofs.Flushes.{sweptL1d}
+use Rattle.agreement.proofs.Level.{Valid, same-slot}
+use Rattle.agreement.proofs.Invariant.{Allowed, carry}
+use Rattle.agreement.proofs.Memory.{memory-high}
+use Rattle.agreement.proofs.Good.{l1dLevel, l2Level, Good, kept-refl, kept-trans, l1d-hit, l2-hit, l1d-bounds, l2-bounds}
+use Rattle.agreement.proofs.Evict.{evictL1d-good}
+use Rattle.agreement.proofs.Writeback.{WrittenOut, writeOutL2-good, Done, Swept, writebackL2-good, evictL2-good}
+use Rattle.agreement.proofs.ReadWrite.{Step}
+use Rattle.agreement.proofs.Flushes.{sweptL1d}
 
 -- ---- a loop over 0 .. n - 1: what holds at first, and is carried from k to k + 1, holds at n
 pub each-by {ℓ} : {A : Type ℓ} (P : ℕ → A → Type 0) (f : ℕ → A → A) (n : ℕ) (z : A) → P 0 z →
@@ -127,7 +128,7 @@ module _ (z : State) (F : Allowed) (q : Good z F) where
 
   pub unless-good : (f : State → State) → Step z F (f z) → Step z F (unlessMode0 f z)
   unfolding unlessMode0
-  unless-good f s = cond-elim (Step z F) (eqb (l2SetsOf (z .rec)) 0) z (f z) (λ _. step-refl z F q) (λ _. s)
+  unless-good f s = cond-elim (Step z F) (mode0 (z .rec)) z (f z) (λ _. step-refl z F q) (λ _. s)
 
 evictL1d-step : (z : State) (F : Allowed) → Good z F → (s w : ℕ) → s < 128 → w < 2 → Step z F (evictL1d s w z)
 evictL1d-step z F q s w hs hw = let l = evictL1d-good z F q s w hs hw .left in record { good = l .good; kept = l .kept }

@@ -1,6 +1,7 @@
--- What a number 0 tells: an access that is not refused has a legal size, is aligned and lies in SRAM or external memory; a mode that is not refused is one
--- and fits; a MAR change that is not refused sets a bit, or no line of its range is held. Each refusal is `first (unless test n) ..`, so that one lemma
--- (`first-none`) takes them apart.
+-- What a number 0 tells: an access that is not refused has a legal size, is aligned and lies in SRAM or external
+-- memory; a mode that is not refused is one and fits; a MAR change that is not refused sets a bit, or no line of its
+-- range is held. Each refusal is `lowestDue (unless test n) ..`, so that one lemma (`lowestDue-none`) takes them
+-- apart.
 use Prim.Native.Nat.{ℕ, suc, _+_, _-_, _/_, _%_, _≤_, _<_}
 use mathlib.Core.Bool.{Bool, true, false, not, _&&_, _||_}
 use mathlib.Core.Path.{_≡_, refl, sym, _∙_, subst}
@@ -8,27 +9,18 @@ use mathlib.Core.Logic.{_≢_, _⊎_, inl, inr}
 use native.Mathlib.Omega.{arith}
 use lib.Dec.{leb, eqb}
 use borrow.Author.Tests.{lt-ltb, le-ltb, leb-true, eqb-true, eqb-false}
 use Rattle.model.specs.Bytes.{littleBytes}
 use Rattle.model.specs.Memories.{externalBase, cacheSize, isMode}
 use Rattle.model.specs.Records.{State, sramOf}
 use Rattle.model.specs.Access.{readAccess, writeAccess}
-use Rattle.model.specs.Refusals.{holdsRange, first, unless, sizeOk, placeOk, valueOk, accessDue, modeDue, marDue}
-use Rattle.model.specs.Laws.{bool, false-true, both-true, length-littleBytes}
+use Rattle.model.specs.Refusals.{holdsRange, lowestDue, unless, sizeOk, placeOk, valueOk, accessDue, modeDue, marDue}
+use Rattle.model.specs.Laws.{bool, false-true, both-true, length-littleBytes, lowestDue-none, unless-none}
 use Rattle.model.specs.declared.Record.{Record}
-use Rattle.model.proofs.Invariant.{Allowed}
-use Rattle.model.proofs.Memory.{Written}
-use Rattle.model.proofs.Good.{layoutOf, Good}
-use Rattle.model.proofs.Fetch.{AccessFits}
-use Rattle.model.proofs.ReadWrite.{ReadGood, read-good, Step, write-good}
-
--- ---- the first of two numbers is 0: its test holds, and the other number is 0
-pub first-none : (b : Bool) (n k : ℕ) → first (unless b (suc n)) k ≡ 0 → (b ≡ true) × (k ≡ 0)
-first-none true n k e = (refl, e)
-first-none false n k e = absurd (omega arith)
-
-pub unless-none : (b : Bool) (n : ℕ) → unless b (suc n) ≡ 0 → b ≡ true
-unless-none true n e = refl
-unless-none false n e = absurd (omega arith)
+use Rattle.agreement.proofs.Invariant.{Allowed}
+use Rattle.agreement.proofs.Memory.{Written}
+use Rattle.agreement.proofs.Good.{layoutOf, Good}
+use Rattle.agreement.proofs.Fetch.{AccessFits}
+use Rattle.agreement.proofs.ReadWrite.{ReadGood, read-good, Step, write-good}
 
 not-yes : (b : Bool) → not b ≡ true → b ≡ false
 not-yes true h = false-true h
@@ -56,9 +48,9 @@ pub record Accepted (s e n a : ℕ) : Type 0 where
 pub access-tells : (s e n a v : ℕ) → accessDue s e n a v ≡ 0 → Accepted s e n a
 unfolding accessDue placeOk
 access-tells s e n a v d =
-    let d₁ = first-none (sizeOk n) 2 (first (unless (eqb (a % n) 0) 4) (first (unless (placeOk s e n a) 5) (unless (valueOk n v) 6))) d in
-    let d₂ = first-none (eqb (a % n) 0) 3 (first (unless (placeOk s e n a) 5) (unless (valueOk n v) 6)) (d₁ .1) in
-    let d₃ = first-none (placeOk s e n a) 4 (unless (valueOk n v) 6) (d₂ .1) in
+    let d₁ = lowestDue-none (sizeOk n) 2 (lowestDue (unless (eqb (a % n) 0) 4) (lowestDue (unless (placeOk s e n a) 5) (unless (valueOk n v) 6))) d in
+    let d₂ = lowestDue-none (eqb (a % n) 0) 3 (lowestDue (unless (placeOk s e n a) 5) (unless (valueOk n v) 6)) (d₁ .1) in
+    let d₃ = lowestDue-none (placeOk s e n a) 4 (unless (valueOk n v) 6) (d₂ .1) in
     let z = size-elim (λ (k : ℕ). a % k ≡ 0 → (k ≡ suc (k - 1)) × (a % 64 + suc (k - 1) ≤ 64))
     (λ y. (refl, omega arith)) (λ y. (refl, omega arith)) (λ y. (refl, omega arith)) (λ y. (refl, omega arith)) n (d₁ .0) (eqb-true (a % n) 0 (d₂ .0))
     in
@@ -109,7 +101,7 @@ mode-sets m h n =
 pub mar-tells : (r : Record) (n b : ℕ) → marDue r n b ≡ 0 → (b ≡ 1) ⊎ (holdsRange n r ≡ false)
 unfolding marDue
 mar-tells r n b d =
-    let p = first-none ((eqb n 128 || eqb n 129) && leb b 1) 8 (unless (not (eqb b 0 && holdsRange n r)) 10) d in
+    let p = lowestDue-none ((eqb n 128 || eqb n 129) && leb b 1) 8 (unless (not (eqb b 0 && holdsRange n r)) 10) d in
     let l = leb-true b 1 (both-true (eqb n 128 || eqb n 129) (leb b 1) (p .0) .1) in
     let t = not-yes (eqb b 0 && holdsRange n r) (unless-none (not (eqb b 0 && holdsRange n r)) 9 (p .1)) in
     bool (eqb b 0) (λ y. inr (rw y at t)) (λ y. let y′ = eqb-false b 0 y in inl (omega arith))
