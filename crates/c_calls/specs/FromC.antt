@@ -1,0 +1,64 @@
+-- Demand 3 for lists of calls from C, what it says; `Along` proves it. C holds the record as words of memory and the
+-- three memories; what a call from C does is what the contracts of crate boundary say. So this is demand 3 for what a
+-- bench links: the answers that C is given, and the words and bytes that C holds, agree with flat memory.
+use Prim.Native.Nat.{ℕ}
+use mathlib.Core.Bool.{true}
+use mathlib.Core.Path.{_≡_}
+use mathlib.Core.Logic.{_≢_}
+use mathlib.Core.List.{List, [], _∷_}
+use lib.ListN.{length}
+use Rattle.model.specs.Records.{State, state}
+use Rattle.model.specs.Flat.{Flat, freshFlat, flatCalled}
+use Rattle.model.specs.Calls.{Reply, freshCall, Call, called}
+use Rattle.model.specs.Demand.{listed, compared, global, modeAfter, Settled}
+use Rattle.tags.specs.Words.{recordIn}
+
+-- what C holds between calls: the words of its record, and the three memories
+pub record Held : Type 0 where
+  pub words : List ℕ
+  pub l1d : List ℕ
+  pub l2 : List ℕ
+  pub ext : List ℕ
+
+abbrev pub stateOf : Held → State
+stateOf h = state (recordIn (h .words)) (h .l1d) (h .l2) (h .ext)
+
+-- what C is answered: number, server and value; of a view the bytes
+pub record Answered : Type 0 where
+  pub number : ℕ
+  pub server : ℕ
+  pub value : ℕ
+  pub bytes : List ℕ
+
+abbrev pub replyOf : Answered → Held → Reply
+replyOf x k = record { number = x .number; server = x .server; value = x .value; bytes = x .bytes; next = stateOf k }
+
+-- ---- calls from C, one after another, each answered and each leaving what C holds for the next. Of each is known what
+-- the contracts of crate boundary say, and nothing else.
+abbrev pub FromC : Call → Held → Answered → Held → Type 0
+FromC c h x k = replyOf x k ≡ called c (stateOf h)
+
+pub data Chain : List Call → Held → Type 0 where
+  done : {h : Held} → Chain [] h
+  made : {c : Call} {cs : List Call} {h : Held} (x : Answered) (k : Held) → FromC c h x k → Chain cs k → Chain (c ∷ cs) h
+
+-- ---- what agrees at one place, flat memory being in state f before the call: the number and the value that C was
+-- answered; after an accepted global writeback in a mode other than 0, C's external memory is flat memory's and no line
+-- of it is dirty in C's record
+pub record SameAt (mode : ℕ) (c : Call) (x : Answered) (k : Held) (f : Flat) : Type 0 where
+  pub number : compared c ≡ true → x .number ≡ flatCalled c f .number
+  pub value : compared c ≡ true → x .value ≡ flatCalled c f .value
+  pub settled : global c ≡ true → x .number ≡ 0 → mode ≢ 0 → Settled (stateOf k) (flatCalled c f .next)
+
+-- ---- along the whole list
+pub data AgreeFromC : ℕ → (cs : List Call) (h : Held) → Chain cs h → Flat → Type 0 where
+  whole : {mode : ℕ} {h : Held} {f : Flat} → AgreeFromC mode [] h done f
+  also : {mode : ℕ} {c : Call} {cs : List Call} {h k : Held} {x : Answered} {p : FromC c h x k} {r : Chain cs k} {f : Flat} →
+      SameAt mode c x k f → AgreeFromC (modeAfter c (replyOf x k) mode) cs k r (flatCalled c f .next) →
+      AgreeFromC mode (c ∷ cs) h (made x k p r) f
+
+-- ---- demand 3 for what C links: from an accepted fresh start, whatever words and bytes were lent to it, for every list
+abbrev pub Demand3FromC : Type 0
+Demand3FromC =
+    (d m e : List ℕ) (x : Answered) (h : Held) → replyOf x h ≡ freshCall d m e → x .number ≡ 0 →
+    (cs : List Call) → listed cs ≡ true → (r : Chain cs h) → AgreeFromC 0 cs h r (freshFlat (length m) e)
