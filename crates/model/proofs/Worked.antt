@@ -35,8 +35,8 @@ unseen c n = record { call = c; answer = n ∷ 0 ∷ 0 ∷ 0 ∷ 0 ∷ 0 ∷ [] 
 abbrev shows : ℕ → ℕ → ℕ → Place
 shows a n b = record { call = look a; answer = n ∷ 0 ∷ 0 ∷ 0 ∷ 0 ∷ b ∷ [] }
 
--- ---- the calls: one byte read at a, served by s, of value v; v written at a, served by s; a command over all lines, or
--- over a block of one word; mode m, and bit b of MAR 128, answered with n
+-- ---- the calls: one byte read at a, served by s, of value v; v written at a, served by s; a command over all lines,
+-- or over a block of one word; mode m, and bit b of MAR 128, answered with n
 abbrev reads : ℕ → ℕ → ℕ → Place
 reads a s v = same (oneCommand (command 0 1 a 0)) 0 s v
 
