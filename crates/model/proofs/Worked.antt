@@ -35,7 +35,8 @@ unseen c n = record { call = c; answer = n ∷ 0 ∷ 0 ∷ 0 ∷ 0 ∷ 0 ∷ [] 
 abbrev shows : ℕ → ℕ → ℕ → Place
 shows a n b = record { call = look a; answer = n ∷ 0 ∷ 0 ∷ 0 ∷ 0 ∷ b ∷ [] }
 
--- ---- the calls, one byte each: read, write; an L2 or L1D command over all, over one word; mode and MAR 128
+-- ---- the calls: one byte read at a, served by s, of value v; v written at a, served by s; a command over all lines,
+-- or over a block of one word; mode m, and bit b of MAR 128, answered with n
 abbrev reads : ℕ → ℕ → ℕ → Place
 reads a s v = same (oneCommand (command 0 1 a 0)) 0 s v
 
@@ -54,7 +55,7 @@ mode m n = same (oneCommand (command 10 m 0 0)) n 0 0
 abbrev mar128 : ℕ → ℕ → Place
 mar128 b n = unseen (oneCommand (command 11 128 b 0)) n
 
--- ---- a row: how many bytes of external memory there are behind its first L2 line, and a list of calls with their answers
+-- ---- a row: how many bytes of external memory lie behind its first L2 line; a list of calls with their answers
 pub record Row : Type 0 where
   pub behind : ℕ
   pub places : List Place

@@ -1,6 +1,6 @@
 -- Laws of the definitions, which callers cite in place of their text: choices and tests, parts of a memory and bytes
--- stored in it, numbers due, MAR bits, the order of use, the way that is chosen, mode 0, the lines that a block touches.
--- No definition of paper 01 stands here.
+-- stored in it, numbers due, MAR bits, the order of use, the way that is chosen, mode 0, the lines that a block
+-- touches, replies. No definition of paper 01 stands here.
 use Prim.Native.Nat.{ℕ, zero, suc, _<_, _≤_, _%_, _/_, _+_, _*_, _-_}
 use mathlib.Core.Bool.{Bool, true, false, cond, _&&_}
 use mathlib.Core.List.{List, [], map, _++_}
