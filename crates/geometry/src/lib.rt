@@ -101,15 +101,27 @@ impl L2 {
         sram_length(l2len, mode as u32) as usize
     }
 
-    // Where there are no sets (mode 0) no set is looked at, and 0 stands for it.
+    // By the constants of the modes, since a remainder by a constant needs no division. Where there are no sets (mode 0) no set is looked at, and 0 stands for it.
     pub fn set_of(sets: usize, a: u32) -> usize
         requires { ⌜ sets ≤ 512 ⌝ }
         ensures { λ r. ⌜ (sets ≢ 0 → r ≡ l2SetIn sets a) × (r < 512) ⌝ }
     {
+        let x = a as usize;
+        if sets == L2::SETS_1 {
+            return x / L2::LINE % L2::SETS_1;
+        }
+        if sets == L2::SETS_2 {
+            return x / L2::LINE % L2::SETS_2;
+        }
+        if sets == L2::SETS_3 {
+            return x / L2::LINE % L2::SETS_3;
+        }
+        if sets == L2::SETS_7 {
+            return x / L2::LINE % L2::SETS_7;
+        }
         if sets == 0 {
             return 0;
         }
-        let x = a as usize;
         x / L2::LINE % sets
     }
 

@@ -1,4 +1,4 @@
--- `blocks::block_end` meets its contract.
+-- `geometry::block_end` meets its contract.
 use mathlib.Core.Path.{refl}
 use borrow.Author.Tests.{le-leb, lt-leb}
 use borrow.Author.Needs.{needs}

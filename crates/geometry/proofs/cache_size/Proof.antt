@@ -1,4 +1,4 @@
--- `sizes::cache_size` meets its contract: each return is a case of `cacheSize`. Assumes nothing.
+-- `geometry::cache_size` meets its contract: each return is a case of `cacheSize`. Assumes nothing.
 use Rattle.model.specs.Memories.{cacheSize}
 use borrow.Author.Tests.{eq-eqb, ne-eqb}
 use lib.Dec.{eqb}

@@ -1,4 +1,4 @@
--- `sizes::is_mode` meets its contract: the tests, joined. Assumes nothing.
+-- `geometry::is_mode` meets its contract: the tests, joined. Assumes nothing.
 use mathlib.Core.Path.{refl}
 use Rattle.model.specs.Memories.{isMode}
 use Rattle.geometry.proofs.is_mode.Statement.{statement}

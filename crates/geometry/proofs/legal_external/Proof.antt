@@ -1,4 +1,4 @@
--- `sizes::legal_external` meets its contract: the tests, joined. Assumes nothing.
+-- `geometry::legal_external` meets its contract: the tests, joined. Assumes nothing.
 use mathlib.Core.Path.{refl}
 use Rattle.model.specs.Memories.{legalExternal}
 use Rattle.geometry.proofs.legal_external.Statement.{statement}

@@ -1,4 +1,4 @@
--- `sizes::legal_l2` meets its contract: the tests, joined. Assumes nothing.
+-- `geometry::legal_l2` meets its contract: the tests, joined. Assumes nothing.
 use mathlib.Core.Path.{refl}
 use Rattle.model.specs.Memories.{legalL2}
 use Rattle.geometry.proofs.legal_l2.Statement.{statement}

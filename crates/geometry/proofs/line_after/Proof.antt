@@ -1,4 +1,4 @@
--- `blocks::line_after` meets its contract: a line that a block touches has a 32-bit address.
+-- `geometry::line_after` meets its contract: a line that a block touches has a 32-bit address.
 use Prim.Native.Nat.{_<_}
 use native.Mathlib.Omega.{arith}
 use lib.ListN.{length}

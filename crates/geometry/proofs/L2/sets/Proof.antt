@@ -1,4 +1,4 @@
--- `sets::L2::sets` meets its contract: each return is a case of the definition, by the tests on its way and what its callees ensure.
+-- `geometry::L2::sets` meets its contract: each return is a case of the definition, by the tests on its way and what its callees ensure.
 use Rattle.model.specs.Memories.{cacheSize}
 use borrow.Author.Tests.{eq-eqb, ne-eqb}
 use native.Mathlib.Omega.{arith}
