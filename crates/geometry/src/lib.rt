@@ -76,22 +76,26 @@ impl L2 {
 
     pub const SETS: usize = L2::SETS_7;
 
+    // One case for each row of Table 7 of SPRU610C, in its order (L2MODE; the cache of that row; its sets).
     pub fn sets(mode: u8) -> usize
         ensures { λ r. ⌜ (r ≡ l2Sets mode) × (r ≤ 512) ⌝ }
     {
-        if mode == 1 {
-            return L2::SETS_1;
+        match mode {
+            // 0: L2 cache disabled (all SRAM mode)
+            0 => 0,
+            // 1h: 4-way cache (32K L2 cache)
+            1 => L2::SETS_1,
+            // 2h: 4-way cache (64K L2 cache)
+            2 => L2::SETS_2,
+            // 3h: 4-way cache (128K L2 cache)
+            3 => L2::SETS_3,
+            // 4h-6h: reserved
+            4 | 5 | 6 => 0,
+            // 7h: 4-way cache (256K L2 cache)
+            7 => L2::SETS_7,
+            // L2MODE has three bits
+            _ => 0,
         }
-        if mode == 2 {
-            return L2::SETS_2;
-        }
-        if mode == 3 {
-            return L2::SETS_3;
-        }
-        if mode == 7 {
-            return L2::SETS_7;
-        }
-        0
     }
 
     // What the cache leaves of L2 is SRAM.
@@ -154,23 +158,35 @@ impl L2 {
 }
 
 // ---- sizes that go by the mode, and legal lengths
-// C, the bytes of L2 that are cache; 0 for what is no mode.
+// The sizes that Table 7 of SPRU610C gives the L2 cache.
+const CACHE_32K: u32 = 32 * 1024;
+
+const CACHE_64K: u32 = 64 * 1024;
+
+const CACHE_128K: u32 = 128 * 1024;
+
+const CACHE_256K: u32 = 256 * 1024;
+
+// C, the bytes of L2 that are cache: one case for each row of Table 7 of SPRU610C, in its order (L2MODE; the cache of that row).
 pub fn cache_size(mode: u32) -> u32
     ensures { λ r. ⌜ (r ≡ cacheSize mode) × (r < 262145) ⌝ }
 {
-    if mode == 1 {
-        return 32768;
+    match mode {
+        // 0: L2 cache disabled (all SRAM mode)
+        0 => 0,
+        // 1h: 4-way cache (32K L2 cache)
+        1 => CACHE_32K,
+        // 2h: 4-way cache (64K L2 cache)
+        2 => CACHE_64K,
+        // 3h: 4-way cache (128K L2 cache)
+        3 => CACHE_128K,
+        // 4h-6h: reserved
+        4 | 5 | 6 => 0,
+        // 7h: 4-way cache (256K L2 cache)
+        7 => CACHE_256K,
+        // L2MODE has three bits
+        _ => 0,
     }
-    if mode == 2 {
-        return 65536;
-    }
-    if mode == 3 {
-        return 131072;
-    }
-    if mode == 7 {
-        return 262144;
-    }
-    0
 }
 
 // S, the bytes of L2 that are SRAM; 0 where C is above L.

@@ -1,38 +1,43 @@
--- `geometry::L2::sets` meets its contract: each return is a case of the definition, by the tests on its way and what its callees ensure.
+-- `geometry::L2::sets` meets its contract: each case of the code is a case of `cacheSize`, by 512; a number that none names has no sets.
 use Rattle.model.specs.Memories.{cacheSize}
-use borrow.Author.Tests.{eq-eqb, ne-eqb}
 use native.Mathlib.Omega.{arith}
-use mathlib.Core.Path.{refl}
+use mathlib.Core.Path.{_≡_, refl, sym}
+use borrow.Author.Tests.{ne-eqb}
 use Rattle.geometry.proofs.L2.sets.Statement.{statement}
 use Rattle.geometry.proofs.L2.sets.Tie as tie
 
 returns : tie.Need-returns
 unfolding cacheSize
-returns c = (rw (eq-eqb _ _ (c .if1 .taken)) refl, omega arith)
+returns c = (rw (c .match .keys1) refl, omega arith)
 
 returns-2 : tie.Need-returns-2
 unfolding cacheSize
-returns-2 c = (rw (ne-eqb _ _ (c .before .if1 .left), eq-eqb _ _ (c .if2 .taken)) refl, omega arith)
+returns-2 c = (rw (c .match .keys2) refl, omega arith)
 
 returns-3 : tie.Need-returns-3
 unfolding cacheSize
-returns-3 c = (rw (ne-eqb _ _ (c .before .before .if1 .left), ne-eqb _ _ (c .before .if2 .left), eq-eqb _ _ (c .if3 .taken)) refl, omega arith)
+returns-3 c = (rw (c .match .keys3) refl, omega arith)
 
 returns-4 : tie.Need-returns-4
 unfolding cacheSize
-returns-4 c =
-    let p-if3 = c .before in
-    let p-if2 = p-if3 .before in
-    let p-if1 = p-if2 .before in
-    (rw (ne-eqb _ _ (p-if1 .if1 .left), ne-eqb _ _ (p-if2 .if2 .left), ne-eqb _ _ (p-if3 .if3 .left), eq-eqb _ _ (c .if4 .taken)) refl, omega arith)
+returns-4 c = (rw (c .match .keys4) refl, omega arith)
 
 returns-5 : tie.Need-returns-5
 unfolding cacheSize
-returns-5 c =
-    let p-if3 = c .before in
-    let p-if2 = p-if3 .before in
-    let p-if1 = p-if2 .before in
-    (rw (ne-eqb _ _ (p-if1 .if1 .left), ne-eqb _ _ (p-if2 .if2 .left), ne-eqb _ _ (p-if3 .if3 .left), ne-eqb _ _ (c .if4 .left)) refl, omega arith)
+returns-5 c = (rw (c .match .keys5) refl, omega arith)
+
+returns-6 : tie.Need-returns-6
+unfolding cacheSize
+returns-6 c =
+    let m = c .before .before .args .mode in let other = c .before .match .rest in
+    (rw (ne-eqb m 1 (other .0 .0 .0 .1), ne-eqb m 2 (other .0 .0 .1), ne-eqb m 3 (other .0 .1), ne-eqb m 7 (other .1)) refl, omega arith)
+
+returns-7 : tie.Need-returns-7
+unfolding cacheSize
+returns-7 c =
+    let m = c .before .before .args .mode in let other = c .before .match .rest in
+    (rw (ne-eqb m 1 (other .0 .0 .0 .1), ne-eqb m 2 (other .0 .0 .1), ne-eqb m 3 (other .0 .1), ne-eqb m 7 (other .1)) refl, omega arith)
 
 pub sets-spec : {M : Type 1} → statement M
-sets-spec = tie.close (tie.spec returns returns-2 returns-3 returns-4 returns-5)
+sets-spec =
+    tie.close (tie.spec returns returns-2 returns-3 returns-4 returns-5 returns-6 returns-7)
