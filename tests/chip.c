@@ -1,7 +1,8 @@
 /*
  * Every call of include/c64x_chip.h, on cases whose outcome the paper gives: the worked example, C5, C6, C8, C9 and
  * C10, what each cache command does to a dirty line, each number of the refusal table with nothing changed, and short
- * runs at the ends of each length. It is compiled as C and as C++. Prints how many checks passed; exit status 1 where one failed.
+ * runs at the ends of each length. It is compiled as C and as C++. Prints how many checks passed; exit status 1 where
+ * one failed.
  */
 #include <stdio.h>
 #include <string.h>
@@ -266,8 +267,8 @@ static int is_run(uint32_t number, const char *digits)
         passed_on[i] = (uint8_t)(digits[i] - '0');
     c64x_short_run run = c64x_short_run_of(number);
     c64x_run_number back = c64x_short_run_number(passed_on, length);
-    return run.number == C64X_ACCEPTED && run.length == length && memcmp(run.digits, passed_on, sizeof passed_on) == 0 &&
-           back.number == C64X_ACCEPTED && back.run == number;
+    return run.number == C64X_ACCEPTED && run.length == length &&
+           memcmp(run.digits, passed_on, sizeof passed_on) == 0 && back.number == C64X_ACCEPTED && back.run == number;
 }
 
 /* 18, and nothing but 0 with it. */
