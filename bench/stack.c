@@ -55,6 +55,7 @@ static uint8_t *stack;
 static ucontext_t caller, callee;
 static struct call now;
 static const uint8_t *entered;
+static volatile int returned;
 static size_t most[KINDS];
 
 static uint64_t seed = 88172645463325252u;
@@ -95,11 +96,13 @@ static void call(void)
     }
 }
 
-/* What a caller needs counts from the frame that makes the call: arguments that go by the stack are in it. */
+/* What a caller needs counts from the frame that makes the call: arguments that go by the stack are in it. Something is
+   done after the call, so that the compiler makes it a call and no jump, which would leave this frame first. */
 static void on_the_other_stack(void)
 {
     entered = __builtin_frame_address(0);
     call();
+    returned = 1;
 }
 
 static size_t taken(uint8_t paint)
