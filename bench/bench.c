@@ -762,15 +762,70 @@ static void growth(struct trace *t)
     }
 }
 
+/* ---- short runs */
+
+static void same_short_runs(void)
+{
+    for (uint32_t i = 0; i < 100000; i++) {
+        uint32_t number = i < 6000 ? i : below(UINT32_MAX);
+        c64x_short_run x = c64x_short_run_of(number);
+        struct short_run y = model_short_run_of(number);
+        if (x.number != y.number || x.length != y.length || memcmp(x.digits, y.digits, sizeof x.digits) != 0)
+            differ("short run", "number, length or digits");
+        uint8_t digits[6];
+        for (int place = 0; place < 6; place++) digits[place] = (uint8_t)below(below(4) ? 8 : 10);
+        size_t length = below(7);
+        int accepted = i < 6000 && y.number == 0;
+        c64x_run_number n = c64x_short_run_number(accepted ? y.digits : digits, accepted ? y.length : length);
+        struct run_number m = model_short_run_number(accepted ? y.digits : digits, accepted ? y.length : length);
+        if (n.number != m.number || n.run != m.run || (accepted && m.run != number))
+            differ("number of a short run", "number or run");
+        if (differences) return;
+    }
+    printf("short runs: the same on both sides\n");
+}
+
+/* All runs are gone through at a time, since the clock takes longer than a call. What comes back is added up, so that
+   no call is left out. */
+static void short_runs(void)
+{
+    static struct short_run runs[C64X_SHORT_RUNS];
+    struct times library_ns = NO_TIME, c_ns = NO_TIME, library_back_ns = NO_TIME, c_back_ns = NO_TIME;
+    for (uint32_t k = 0; k < C64X_SHORT_RUNS; k++) runs[k] = model_short_run_of(k);
+    for (int i = 0; i < CALLS; i++) {
+        uint64_t by_library = 0, by_c = 0, back_by_library = 0, back_by_c = 0;
+        double at = now();
+        for (uint32_t k = 0; k < C64X_SHORT_RUNS; k++) by_library += c64x_short_run_of(k).digits[0];
+        took(&library_ns, at);
+        at = now();
+        for (uint32_t k = 0; k < C64X_SHORT_RUNS; k++) by_c += model_short_run_of(k).digits[0];
+        took(&c_ns, at);
+        at = now();
+        for (uint32_t k = 0; k < C64X_SHORT_RUNS; k++)
+            back_by_library += c64x_short_run_number(runs[k].digits, runs[k].length).run;
+        took(&library_back_ns, at);
+        at = now();
+        for (uint32_t k = 0; k < C64X_SHORT_RUNS; k++)
+            back_by_c += model_short_run_number(runs[k].digits, runs[k].length).run;
+        took(&c_back_ns, at);
+        if (by_library != by_c || back_by_library != back_by_c) differ("short runs", "sums");
+    }
+    head("short runs, all 4,681 of them, by the call");
+    row("the run of a number", &library_ns, &c_ns, C64X_SHORT_RUNS);
+    row("the number of a run", &library_back_ns, &c_back_ns, C64X_SHORT_RUNS);
+}
+
 int main(void)
 {
     struct trace t = { room(COMMANDS * 24), 0, 0 };
     same_calls(&t);
+    same_short_runs();
     if (differences) return 1;
     time_the_clock();
     classes(&t);
     directs(&t);
     growth(&t);
+    short_runs();
     if (differences) printf("\n%d results differ\n", differences);
     return differences != 0;
 }

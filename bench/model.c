@@ -663,3 +663,34 @@ uint8_t model_view(const struct record *r, const struct lent *m, uint32_t addres
     if (number == 0) memcpy(seen, address < EXTERNAL ? m->l2 + address : m->ext + (address - EXTERNAL), 64);
     return number;
 }
+
+/* ---- short runs */
+
+/* How many runs are shorter than this length. */
+static const uint32_t shorter[5] = { 0, 1, 9, 73, 585 };
+
+struct short_run model_short_run_of(uint32_t number)
+{
+    struct short_run x = { 0, 4, { 0 } };
+    if (number > 4680) {
+        x.number = 18;
+        x.length = 0;
+        return x;
+    }
+    while (number < shorter[x.length]) x.length--;
+    number -= shorter[x.length];
+    for (unsigned i = x.length; i-- > 0; number /= 8) x.digits[i] = number % 8;
+    return x;
+}
+
+struct run_number model_short_run_number(const uint8_t *digits, size_t length)
+{
+    struct run_number refused = { 18, 0 }, x = { 0, 0 };
+    if (length > 4) return refused;
+    for (size_t i = 0; i < length; i++) {
+        if (digits[i] > 7) return refused;
+        x.run = 8 * x.run + digits[i];
+    }
+    x.run += shorter[length];
+    return x;
+}

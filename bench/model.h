@@ -79,4 +79,19 @@ struct run_result model_run(struct record *r, const struct lent *m, const uint8_
 uint8_t model_view(const struct record *r, const struct lent *m, uint32_t address, uint8_t *seen, size_t seen_len);
 uint8_t model_view_number(const struct record *r, const struct lent *m, uint32_t address);
 
+/* Short runs (paper 02, U12): the run of a number, the number of a run. */
+struct short_run {
+    uint8_t number;
+    uint8_t length;
+    uint8_t digits[4];
+};
+
+struct run_number {
+    uint8_t number;
+    uint32_t run;
+};
+
+struct short_run model_short_run_of(uint32_t number);
+struct run_number model_short_run_number(const uint8_t *digits, size_t length);
+
 #endif

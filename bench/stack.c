@@ -15,7 +15,7 @@
 #define EXT_BYTES (1u << 20)
 
 /* The calls, in the order of the codes of a trace; then the others. */
-enum { FRESH = 12, RUN, VIEW, VIEW_NUMBER, KINDS };
+enum { FRESH = 12, RUN, VIEW, VIEW_NUMBER, SHORT_RUN_OF, SHORT_RUN_NUMBER, KINDS };
 
 static const char *const names[KINDS] = {
     "c64x_read",
@@ -34,6 +34,8 @@ static const char *const names[KINDS] = {
     "c64x_run",
     "c64x_view",
     "c64x_view_number",
+    "c64x_short_run_of",
+    "c64x_short_run_number",
 };
 
 /* One call with its numbers. */
@@ -47,11 +49,13 @@ struct call {
 static c64x_record record, kept;
 static uint8_t l1d[C64X_L1D_BYTES], l2[262144], ext[EXT_BYTES], seen[C64X_VIEW_BYTES];
 static uint8_t trace[65536], answers[10 * 65536];
+static const uint8_t digits[8] = { 1, 2, 3, 4, 5, 6, 7, 8 };
 static size_t l2_len, trace_len;
 static uint8_t *stack;
 static ucontext_t caller, callee;
 static struct call now;
 static const uint8_t *entered;
+static volatile int returned;
 static size_t most[KINDS];
 
 static uint64_t seed = 88172645463325252u;
@@ -86,15 +90,19 @@ static void call(void)
     case FRESH: c64x_fresh(r, LENT); break;
     case RUN: c64x_run(r, trace, trace_len, LENT, answers, sizeof answers); break;
     case VIEW: c64x_view(r, first, l2, l2_len, ext, sizeof ext, seen, sizeof seen); break;
-    default: c64x_view_number(r, first, l2, l2_len, ext, sizeof ext); break;
+    case VIEW_NUMBER: c64x_view_number(r, first, l2, l2_len, ext, sizeof ext); break;
+    case SHORT_RUN_OF: c64x_short_run_of(first); break;
+    default: c64x_short_run_number(digits, first); break;
     }
 }
 
-/* What a caller needs counts from the frame that makes the call: arguments that go by the stack are in it. */
+/* What a caller needs counts from the frame that makes the call: arguments that go by the stack are in it. Something is
+   done after the call, so that the compiler makes it a call and no jump, which would leave this frame first. */
 static void on_the_other_stack(void)
 {
     entered = __builtin_frame_address(0);
     call();
+    returned = 1;
 }
 
 static size_t taken(uint8_t paint)
@@ -218,6 +226,9 @@ int main(void)
     }
     fresh(65536);
     every_call();
+    for (uint32_t i = 0; i < C64X_SHORT_RUNS + 3; i += 73) measure(SHORT_RUN_OF, i, 0, 0);
+    measure(SHORT_RUN_OF, C64X_SHORT_RUNS - 1, 0, 0);
+    for (uint32_t i = 0; i <= sizeof digits; i++) measure(SHORT_RUN_NUMBER, i, 0, 0);
     for (int i = 0; i < 5; i++) {
         fill(modes[i]);
         every_call();

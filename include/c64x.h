@@ -44,6 +44,7 @@
  *   10  a MAR bit is to become 0 while a cache holds a line of that range
  *   11  the trace is damaged
  *   12  fewer than 10 answer bytes are left
+ *   18  no short run: its number is above 4,680, it has more than four digits, or a digit is above 7
  *
  * Where several are due, the lowest counts (only in a trace 11, then 12, come before 3 to 10). A refused call changes
  * nothing: no byte of the record and no byte of a memory. (The one exception is c64x_fresh; see there. A run that is
@@ -80,7 +81,7 @@ extern "C" {
  * up when calls are added and all the others stay as they are. Version 1 passed the record by value.
  */
 #define C64X_VERSION_MAJOR 2
-#define C64X_VERSION_MINOR 0
+#define C64X_VERSION_MINOR 1
 
 /* The stack that a call needs at most, in bytes. */
 #define C64X_STACK_BYTES 4096
@@ -97,6 +98,9 @@ extern "C" {
 #define C64X_ANSWER_BYTES 10
 /* What c64x_view shows. */
 #define C64X_VIEW_BYTES 64
+/* How many short runs there are, and the digits of the longest. */
+#define C64X_SHORT_RUNS 4681
+#define C64X_SHORT_RUN_DIGITS 4
 
 /*
  * One line of a cache. `valid`: it holds something; `dirty`: what it holds is not yet in the memory behind; `address`
@@ -168,6 +172,22 @@ typedef struct {
     uint8_t stop;
 } c64x_ran;
 
+/*
+ * A short run, as c64x_short_run_of gives it: `number` is 0 or 18, `length` says how many digits the run has (0 to 4),
+ * and the digits stand in the order in which they are carried out. Digits behind the length are 0.
+ */
+typedef struct {
+    uint8_t number;
+    uint8_t length;
+    uint8_t digits[C64X_SHORT_RUN_DIGITS];
+} c64x_short_run;
+
+/* The place of a short run in the list of all: `number` is 0 or 18, `run` is 0 to 4,680. */
+typedef struct {
+    uint8_t number;
+    uint32_t run;
+} c64x_run_number;
+
 C64X_ASSERT(sizeof(size_t) == 8, "the library is for 64 bits");
 C64X_ASSERT(sizeof(c64x_line) == 8, "c64x_line");
 C64X_ASSERT(offsetof(c64x_line, valid) == 0, "c64x_line");
@@ -199,6 +219,13 @@ C64X_ASSERT(sizeof(c64x_ran) == 24, "c64x_ran");
 C64X_ASSERT(offsetof(c64x_ran, consumed) == 0, "c64x_ran");
 C64X_ASSERT(offsetof(c64x_ran, count) == 8, "c64x_ran");
 C64X_ASSERT(offsetof(c64x_ran, stop) == 16, "c64x_ran");
+C64X_ASSERT(sizeof(c64x_short_run) == 6, "c64x_short_run");
+C64X_ASSERT(offsetof(c64x_short_run, number) == 0, "c64x_short_run");
+C64X_ASSERT(offsetof(c64x_short_run, length) == 1, "c64x_short_run");
+C64X_ASSERT(offsetof(c64x_short_run, digits) == 2, "c64x_short_run");
+C64X_ASSERT(sizeof(c64x_run_number) == 8, "c64x_run_number");
+C64X_ASSERT(offsetof(c64x_run_number, number) == 0, "c64x_run_number");
+C64X_ASSERT(offsetof(c64x_run_number, run) == 4, "c64x_run_number");
 
 /* The three memories, as every call but the view is lent them. */
 #define C64X_LENT \
@@ -284,6 +311,26 @@ uint8_t c64x_view(const c64x_record *record, uint32_t address, const uint8_t *l2
 /* The number of that view by itself. */
 uint8_t c64x_view_number(const c64x_record *record, uint32_t address, const uint8_t *l2, size_t l2_len,
                          const uint8_t *ext, size_t ext_len);
+
+/*
+ * All short runs, for a bench that wants to try every one of them. A short run is up to four commands out of eight,
+ * each written as a digit, to be carried out after MAR 128 was set to 1:
+ *
+ *    0  read one byte at 80000000h            4  L2 writeback all
+ *    1  read one byte at 80002000h            5  L2 writeback-invalidate all
+ *    2  write 1 to the byte at 80000000h      6  mode 0
+ *    3  write 2 to the byte at 80002000h      7  mode 1
+ *
+ * There are 4,681 of them, in one list: shorter ones first, those of one length by their digits, of which the first
+ * weighs most. Number 0 is the empty run, 1 to 8 are 0 to 7, 9 is 0 0, 72 is 7 7, and 4,680 is 7 7 7 7. Every run has
+ * exactly one number. Neither call carries a run out, and neither is lent a chip.
+ *
+ * c64x_short_run_of gives the run of a number, c64x_short_run_number the number of a run, which is lent as `length`
+ * digits, one in each byte. Refused: 18 only, for a number above 4,680, a run of more than four digits, or a digit
+ * above 7. With it comes the empty run (length and digits 0), or `run` 0.
+ */
+c64x_short_run c64x_short_run_of(uint32_t number);
+c64x_run_number c64x_short_run_number(const uint8_t *digits, size_t length);
 
 #undef C64X_LENT
 #undef C64X_ASSERT

@@ -32,7 +32,8 @@ enum {
     C64X_REFUSED_MAR = 9,
     C64X_REFUSED_LINE_HELD = 10,
     C64X_STOPPED_TRACE = 11,
-    C64X_STOPPED_ANSWERS = 12
+    C64X_STOPPED_ANSWERS = 12,
+    C64X_REFUSED_SHORT_RUN = 18
 };
 
 /* Who served an access. */
@@ -61,6 +62,7 @@ static inline const char *c64x_number_text(unsigned number)
     case C64X_REFUSED_LINE_HELD: return "refused: a cache holds a line of that range";
     case C64X_STOPPED_TRACE: return "stopped: the trace is damaged";
     case C64X_STOPPED_ANSWERS: return "stopped: fewer than 10 answer bytes are left";
+    case C64X_REFUSED_SHORT_RUN: return "refused: no short run has this number or these digits";
     default: return "unknown number";
     }
 }

@@ -1,7 +1,8 @@
 /*
  * Every call of include/c64x_chip.h, on cases whose outcome the paper gives: the worked example, C5, C6, C8, C9 and
- * C10, what each cache command does to a dirty line, and each number of the refusal table with nothing changed. It is
- * compiled as C and as C++. Prints how many checks passed; exit status 1 where one failed.
+ * C10, what each cache command does to a dirty line, each number of the refusal table with nothing changed, and short
+ * runs at the ends of each length. It is compiled as C and as C++. Prints how many checks passed; exit status 1 where
+ * one failed.
  */
 #include <stdio.h>
 #include <string.h>
@@ -257,12 +258,55 @@ static void refusals(void)
     CHECK(kept());
 }
 
+/* The run of this number has these digits, and they have this number. */
+static int is_run(uint32_t number, const char *digits)
+{
+    uint8_t passed_on[C64X_SHORT_RUN_DIGITS] = {0};
+    size_t length = strlen(digits);
+    for (size_t i = 0; i < length; i++)
+        passed_on[i] = (uint8_t)(digits[i] - '0');
+    c64x_short_run run = c64x_short_run_of(number);
+    c64x_run_number back = c64x_short_run_number(passed_on, length);
+    return run.number == C64X_ACCEPTED && run.length == length &&
+           memcmp(run.digits, passed_on, sizeof passed_on) == 0 && back.number == C64X_ACCEPTED && back.run == number;
+}
+
+/* 18, and nothing but 0 with it. */
+static int no_number(c64x_run_number of)
+{
+    return of.number == C64X_REFUSED_SHORT_RUN && of.run == 0;
+}
+
+static int no_run(c64x_short_run run)
+{
+    static const uint8_t none[C64X_SHORT_RUN_DIGITS] = {0};
+    return run.number == C64X_REFUSED_SHORT_RUN && run.length == 0 && memcmp(run.digits, none, sizeof none) == 0;
+}
+
+/* Shorter first, then by digits, the first weighing most: the first and the last run of each length, and some more. */
+static void short_runs(void)
+{
+    static const uint8_t five[] = {0, 0, 0, 0, 0}, eight[] = {7, 8}, high[] = {0, 0, 0, 255};
+    CHECK(is_run(0, ""));
+    CHECK(is_run(1, "0") && is_run(8, "7"));
+    CHECK(is_run(9, "00") && is_run(10, "01") && is_run(17, "10") && is_run(72, "77"));
+    CHECK(is_run(73, "000") && is_run(137, "100") && is_run(584, "777"));
+    CHECK(is_run(585, "0000") && is_run(586, "0001") && is_run(1097, "1000") && is_run(4680, "7777"));
+    CHECK(no_run(c64x_short_run_of(C64X_SHORT_RUNS)) && no_run(c64x_short_run_of(UINT32_MAX)));
+    CHECK(no_number(c64x_short_run_number(five, sizeof five)));
+    CHECK(no_number(c64x_short_run_number(eight, sizeof eight)));
+    CHECK(no_number(c64x_short_run_number(high, sizeof high)));
+    CHECK(c64x_short_run_number(eight, 1).run == 8 && c64x_short_run_number(high, 3).run == 73);
+}
+
 /* Every number and server has a text of its own; those that do not exist share one. */
 static void texts(void)
 {
     for (unsigned a = 0; a <= 13; a++)
         for (unsigned b = 0; b < a; b++)
             CHECK(strcmp(c64x_number_text(a), c64x_number_text(b)) != 0);
+    for (unsigned a = 0; a < C64X_REFUSED_SHORT_RUN; a++)
+        CHECK(strcmp(c64x_number_text(C64X_REFUSED_SHORT_RUN), c64x_number_text(a)) != 0);
     for (unsigned a = 0; a <= 5; a++)
         for (unsigned b = 0; b < a; b++)
             CHECK(strcmp(c64x_server_text(a), c64x_server_text(b)) != 0);
@@ -276,6 +320,7 @@ int main(void)
     cases();
     commands();
     refusals();
+    short_runs();
     texts();
     printf("chip: %d checks passed, %d failed\n", passed, failed);
     return failed != 0;

@@ -64,6 +64,22 @@ pub struct CRun {
     pub stop: u8,
 }
 
+/// A short run, and the number of one.
+#[repr(C)]
+#[derive(Clone, Copy, PartialEq, Eq, Debug)]
+pub struct CShortRun {
+    pub number: u8,
+    pub length: u8,
+    pub digits: [u8; 4],
+}
+
+#[repr(C)]
+#[derive(Clone, Copy, PartialEq, Eq, Debug)]
+pub struct CRunNumber {
+    pub number: u8,
+    pub run: u32,
+}
+
 const _: () = {
     assert!(size_of::<CLine>() == 8 && offset_of!(CLine, dirty) == 1);
     assert!(offset_of!(CLine, padding) == 2 && offset_of!(CLine, address) == 4);
@@ -79,6 +95,9 @@ const _: () = {
     assert!(offset_of!(CAnswer, number) == 8 && offset_of!(CAnswer, server) == 9);
     assert!(size_of::<CRun>() == 24);
     assert!(offset_of!(CRun, count) == 8 && offset_of!(CRun, stop) == 16);
+    assert!(size_of::<CShortRun>() == 6 && offset_of!(CShortRun, length) == 1);
+    assert!(offset_of!(CShortRun, digits) == 2);
+    assert!(size_of::<CRunNumber>() == 8 && offset_of!(CRunNumber, run) == 4);
 };
 
 pub const RECORD_BYTES: usize = 21_004;
@@ -257,6 +276,10 @@ extern "C" {
         ext: *const u8,
         ext_len: usize,
     ) -> u8;
+
+    fn c64x_short_run_of(number: u32) -> CShortRun;
+
+    fn c64x_short_run_number(digits: *const u8, length: usize) -> CRunNumber;
 }
 
 /// The lent memories.
@@ -355,6 +378,16 @@ pub fn view(record: &CRecord, address: u32, l2: &[u8], ext: &[u8], seen: &mut [u
 /// The number of the technician's call.
 pub fn view_number(record: &CRecord, address: u32, l2: &[u8], ext: &[u8]) -> u8 {
     unsafe { c64x_view_number(record, address, l2.as_ptr(), l2.len(), ext.as_ptr(), ext.len()) }
+}
+
+/// The short run of a number.
+pub fn short_run_of(number: u32) -> CShortRun {
+    unsafe { c64x_short_run_of(number) }
+}
+
+/// The number of a short run.
+pub fn short_run_number(digits: &[u8]) -> CRunNumber {
+    unsafe { c64x_short_run_number(digits.as_ptr(), digits.len()) }
 }
 
 // ------------------------------------------------------------- conversion

@@ -17,7 +17,7 @@ use std::time::Instant;
 
 use oracle::gen::Rng;
 
-use pair::Met;
+use pair::{Met, NUMBERS};
 use plant::{Planted, PLANTS};
 use report::report;
 use sections::{Section, SECTIONS};
@@ -29,7 +29,8 @@ compare: the calls of the boundary against the reference model
   --calls N            how many calls at least (default 1000000)
   --seed S             the seed of all that is random (default 640101)
   --bench-trace PATH   the program bench-trace, to be compared as well
-  --section NAME       only this section: records, lists, traces, refusals, views
+  --section NAME       only this section: records, lists, traces, refusals, views,
+                       short-runs
   --group K            only group K of that section
   --input K            nothing but input K of bench-trace
   --now PATH           a file that says which group is being run
@@ -164,7 +165,8 @@ fn run(arguments: &Arguments) -> Result<bool, String> {
     if !run_bench(arguments)? {
         return Ok(false);
     }
-    println!("refusals met, 0 to 12: {:?}", met.numbers);
+    let numbers = NUMBERS.map(|number| format!("{number}: {}", met.numbers[number]));
+    println!("numbers met: {}", numbers.join(", "));
     println!("servers met, 0 to 4: {:?}; modes: {:?}", met.servers, met.modes);
     println!(
         "refused calls and views with every byte of the record kept: {}; global writebacks with \
@@ -177,6 +179,7 @@ fn run(arguments: &Arguments) -> Result<bool, String> {
         faults.iter().map(|fault| fault.2).sum::<u64>(),
         faults.iter().map(|fault| fault.2).min().unwrap_or(0)
     );
+    println!("short runs carried out: {}", met.short_runs);
     let everything = arguments.section.is_none() && arguments.input.is_none();
     if everything && arguments.calls >= 200_000 && !met_everything(&met) {
         println!("something that should be met was not: {met:?}");
@@ -202,7 +205,8 @@ fn run_sections(arguments: &Arguments, met: &mut Met) -> Result<bool, String> {
         let begun = Instant::now();
         let before = met.calls;
         let mut group = arguments.group.unwrap_or(0);
-        while met.calls < until {
+        // A section that goes through all of something does so with few calls too.
+        while met.calls < until || group < section.groups {
             if !run_group(arguments, number as u64, section, group, met)? {
                 return Ok(false);
             }
@@ -212,7 +216,7 @@ fn run_sections(arguments: &Arguments, met: &mut Met) -> Result<bool, String> {
             group += 1;
         }
         println!(
-            "{:9} {:8} calls {:6.1} s  {}",
+            "{:10} {:8} calls {:6.1} s  {}",
             section.name,
             met.calls - before,
             begun.elapsed().as_secs_f64(),
@@ -269,7 +273,7 @@ fn run_bench(arguments: &Arguments) -> Result<bool, String> {
         }
     }
     println!(
-        "bench     {:8} inputs {:5.1} s  the program bench-trace, byte for byte",
+        "bench      {:8} inputs {:5.1} s  the program bench-trace, byte for byte",
         inputs.end - inputs.start,
         begun.elapsed().as_secs_f64()
     );
@@ -278,7 +282,7 @@ fn run_bench(arguments: &Arguments) -> Result<bool, String> {
 
 /// Every number, server, mode, MAR range, length class and fault came up.
 fn met_everything(met: &Met) -> bool {
-    met.numbers.iter().all(|&count| count > 50)
+    NUMBERS.iter().all(|&number| met.numbers[number] > 50)
         && met.servers.iter().all(|&count| count > 1_000)
         && [0, 1, 2, 3, 7].iter().all(|&mode| met.modes[mode] > 1_000)
         // Mode 7 needs the largest L, and would be rare without care.
@@ -290,6 +294,7 @@ fn met_everything(met: &Met) -> bool {
         && met.untouched > 10_000
         && met.written_back > 500
         && met.long_runs > 0
+        && met.short_runs == 4_681
         && met.externals.iter().all(|&count| count > 0)
         && met.possible_faults().iter().all(|&(_, _, count)| count > 0)
 }

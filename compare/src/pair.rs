@@ -8,13 +8,14 @@ use oracle::calls::{fresh_start, look, look_number};
 use oracle::flat::Flat;
 use oracle::gen::{Fault, Setup, FAULTS, LEGAL_MODES, RANGE_BYTES};
 use oracle::geometry::{external_length_is_legal, l2_length_is_legal, EXTERNAL_BASE, L1D_BYTES};
+use oracle::short_runs;
 use oracle::trace::{decode, ANSWER_BYTES};
 use oracle::wellformed::is_well_formed;
 use oracle::{Answer, Command, Record, RunResult};
 
 use crate::boundary::{
     self, byte_difference, dirty_external_line, padding_of, record_difference, record_of,
-    same_record, CAnswer, CRecord, Held, Lent,
+    same_record, CAnswer, CRecord, CRunNumber, CShortRun, Held, Lent,
 };
 use crate::now;
 use crate::plant;
@@ -49,7 +50,8 @@ pub struct Start {
 }
 
 /// One call, or a run with the same commands as single calls after it, or
-/// another record put in place of the present one on both sides.
+/// another record put in place of the present one on both sides. The last two
+/// name a short run by its number, and by its digits.
 #[derive(Clone, PartialEq, Eq, Debug)]
 pub enum Op {
     Fresh,
@@ -58,14 +60,20 @@ pub enum Op {
     Run { trace: Vec<u8>, answer_bytes: usize },
     RunAndSingleCalls { trace: Vec<u8>, answer_bytes: usize },
     View { address: u32, buffer: usize },
+    ShortRunOf(u32),
+    ShortRunNumber(Vec<u8>),
 }
+
+/// The numbers that calls give back.
+pub const NUMBERS: [usize; 14] = [0, 1, 2, 3, 4, 5, 6, 7, 8, 9, 10, 11, 12, 18];
 
 /// What was met, to see that a comparison was worth running.
 #[derive(Clone, Default, Debug)]
 pub struct Met {
     /// Calls through the boundary.
     pub calls: u64,
-    pub numbers: [u64; 13],
+    /// By number; those that no call gives back stay 0.
+    pub numbers: [u64; 19],
     pub servers: [u64; 5],
     pub modes: [u64; 8],
     /// Accesses to each MAR range with the bit 0 and with the bit 1.
@@ -83,6 +91,8 @@ pub struct Met {
     pub written_back: u64,
     /// Runs that took in more than 5,000 bytes.
     pub long_runs: u64,
+    /// Short runs that were carried out.
+    pub short_runs: u64,
     /// Lists by the length of external memory, see `count_external`.
     pub externals: [u64; 5],
     /// Records made, by fault and by mode; those of no legal mode stand last.
@@ -390,6 +400,8 @@ impl Pair<'_> {
                 self.run_and_single_calls(trace, *answer_bytes)
             }
             Op::View { address, buffer } => self.view(*address, *buffer),
+            Op::ShortRunOf(number) => self.short_run_of(*number),
+            Op::ShortRunNumber(digits) => self.short_run_number(digits),
         }
     }
 
@@ -611,6 +623,33 @@ impl Pair<'_> {
         expect(Kind::Number, "view's number", ours, number)?;
         self.met.untouched += 1;
         expect_untouched("record after a view", &self.record, &self.passed)
+    }
+
+    /// The digits behind the length are 0.
+    fn short_run_of(&mut self, number: u32) -> Result<(), Wrong> {
+        let (refusal, run) = short_runs::run_of(number);
+        let mut digits = [0; 4];
+        digits[..run.len()].copy_from_slice(run);
+        let theirs = CShortRun { number: refusal, length: run.len() as u8, digits };
+        let mut ours = boundary::short_run_of(number);
+        plant::short_run_of(&mut ours);
+        self.met.calls += 1;
+        self.met.numbers[usize::from(refusal)] += 1;
+        let kind = if ours.number != theirs.number { Kind::Number } else { Kind::Value };
+        expect(kind, "short run", ours, theirs)
+    }
+
+    /// More digits stand behind those that are lent: they are not looked at.
+    fn short_run_number(&mut self, digits: &[u8]) -> Result<(), Wrong> {
+        let (refusal, run) = short_runs::number_of(digits);
+        let theirs = CRunNumber { number: refusal, run };
+        let around = [digits, &[5, 0, 255, 7]].concat();
+        let mut ours = boundary::short_run_number(&around[..digits.len()]);
+        plant::short_run_number(&mut ours);
+        self.met.calls += 1;
+        self.met.numbers[usize::from(refusal)] += 1;
+        let kind = if ours.number != theirs.number { Kind::Number } else { Kind::Value };
+        expect(kind, "number of a short run", ours, theirs)
     }
 
     /// Every lent byte is the expected one.

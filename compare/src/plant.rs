@@ -12,7 +12,7 @@ use oracle::machine::{SERVER_L1D, SERVER_L2};
 use oracle::trace::ANSWER_BYTES;
 use oracle::Command;
 
-use crate::boundary::{CAnswer, CRecord, CRun, Lent};
+use crate::boundary::{CAnswer, CRecord, CRun, CRunNumber, CShortRun, Lent};
 use crate::pair::SMALL;
 
 /// The planted differences; `PLANTS` says what each does.
@@ -49,6 +49,12 @@ enum Plant {
     WritebackDirty,
     RunDirty,
     FlatRun,
+    FlatByte,
+    ShortRunDigit,
+    ShortRunBehind,
+    ShortRunNumber,
+    ShortRunRefused,
+    ShortRunByte,
     BenchOutput,
     BenchStatus,
 }
@@ -64,7 +70,7 @@ const fn planted(plant: Plant, name: &'static str, about: &'static str) -> Plant
     Planted { plant, name, about }
 }
 
-pub const PLANTS: [Planted; 33] = [
+pub const PLANTS: [Planted; 39] = [
     planted(Plant::ReadValue, "read-value", "a 4-byte read from L2 cache gets 1 more"),
     planted(Plant::ReadOrder, "read-order", "a read hit in L1D turns its set's order around"),
     planted(Plant::WriteNumber, "write-number", "a write refused with 6 gets 5"),
@@ -96,6 +102,12 @@ pub const PLANTS: [Planted; 33] = [
     planted(Plant::WritebackDirty, "writeback-dirty", "a global writeback leaves a line dirty"),
     planted(Plant::RunDirty, "run-dirty", "a run that ends in one leaves a line dirty"),
     planted(Plant::FlatRun, "flat-run", "a run that ends in one changes flat memory"),
+    planted(Plant::FlatByte, "flat-byte", "a 1-byte read gets 1 more by flat memory"),
+    planted(Plant::ShortRunDigit, "short-run-digit", "the last of four digits of a run is wrong"),
+    planted(Plant::ShortRunBehind, "short-run-behind", "a run of three has a digit behind them"),
+    planted(Plant::ShortRunNumber, "short-run-number", "the number of run 4,680 is 1 more"),
+    planted(Plant::ShortRunRefused, "short-run-refused", "a number comes with 18"),
+    planted(Plant::ShortRunByte, "short-run-byte", "the write of a short run goes past L2"),
     planted(Plant::BenchOutput, "bench-output", "bench-trace prints a line more after an 8"),
     planted(Plant::BenchStatus, "bench-status", "bench-trace fails after a 7"),
 ];
@@ -172,6 +184,11 @@ pub fn direct(
             *called = CAnswer { value: 0, number: 2, server: 0 };
         }
         (Plant::WritebackDirty, _) if accepted && is_global(command) => make_dirty(record),
+        (Plant::ShortRunByte, Command::Write { size: 1, address: 0x8000_2000, value: 2 })
+            if called.server == SERVER_L2 =>
+        {
+            change(lent.ext.get_mut(0x2000));
+        }
         _ => {}
     }
 }
@@ -218,11 +235,30 @@ pub fn view_number(number: &mut u8) {
     }
 }
 
+/// The short run of a number.
+pub fn short_run_of(run: &mut CShortRun) {
+    match CHOSEN.get() {
+        Some(Plant::ShortRunDigit) if run.length == 4 => change(run.digits.last_mut()),
+        Some(Plant::ShortRunBehind) if run.length == 3 => change(run.digits.last_mut()),
+        _ => {}
+    }
+}
+
+/// The number of a short run.
+pub fn short_run_number(of: &mut CRunNumber) {
+    match CHOSEN.get() {
+        Some(Plant::ShortRunNumber) if of.run == 4_680 => of.run += 1,
+        Some(Plant::ShortRunRefused) if of.number == 18 => of.run = 1,
+        _ => {}
+    }
+}
+
 /// What flat memory says of a call's answer.
 pub fn flat_answer(command: &Command, number: &mut u8, value: &mut u64) {
     match (CHOSEN.get(), command) {
         (Some(Plant::FlatNumber), _) if *number == 6 => *number = 5,
         (Some(Plant::FlatValue), Command::Read { size: 2, .. }) if *number == 0 => *value += 1,
+        (Some(Plant::FlatByte), Command::Read { size: 1, .. }) if *number == 0 => *value += 1,
         _ => {}
     }
 }

@@ -91,6 +91,8 @@ fn report_op(number: usize, op: &Op) {
         Op::View { address, buffer } => {
             println!("{number}: view of {address:#x}, buffer of {buffer} bytes");
         }
+        Op::ShortRunOf(run) => println!("{number}: short run of number {run}"),
+        Op::ShortRunNumber(digits) => println!("{number}: number of the short run {digits:?}"),
         Op::Run { trace, answer_bytes } => report_run(number, "run", trace, *answer_bytes),
         Op::RunAndSingleCalls { trace, answer_bytes } => {
             report_run(number, "run, then single calls", trace, *answer_bytes);

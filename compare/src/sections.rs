@@ -1,4 +1,4 @@
-//! What is compared: five sections, each made of groups, each group of a few
+//! What is compared: six sections, each made of groups, each group of a few
 //! lists of calls. A group is known by its section and number, and equal seeds
 //! give equal groups.
 
@@ -9,46 +9,59 @@ use oracle::gen::{
     TRACE_KINDS, WRONG_LENGTHS,
 };
 use oracle::geometry::{mode_is_legal, EXTERNAL_BASE, L2};
+use oracle::short_runs;
 use oracle::{Command, Line, Record};
 
 use crate::pair::{compare, Met, OddByte, OddPlace, Op, Start};
 use crate::shrink::Case;
 
-/// A section: its name, its share of the calls in parts of 100, what it does,
-/// and how one of its groups is run.
+/// A section: its name, its share of the calls in parts of 100, how many groups
+/// are run at least, what it does, and how one of its groups is run.
 pub struct Section {
     pub name: &'static str,
     pub share: u64,
+    pub groups: u64,
     pub about: &'static str,
     pub group: fn(&mut Rng, u64, &mut Met) -> Option<Case>,
 }
 
-pub const SECTIONS: [Section; 5] = [
+pub const SECTIONS: [Section; 6] = [
     Section {
         name: "records",
         share: 40,
+        groups: 0,
         about: "every call on random well-formed records and memories",
         group: records,
     },
     Section {
         name: "lists",
         share: 30,
+        groups: 0,
         about: "long lists from fresh, set against flat memory too",
         group: lists,
     },
     Section {
         name: "traces",
         share: 12,
+        groups: 0,
         about: "runs over valid, damaged and cut traces, and single calls",
         group: traces,
     },
     Section {
         name: "refusals",
         share: 14,
+        groups: 0,
         about: "records, bytes, lengths and numbers that are refused",
         group: refusals,
     },
-    Section { name: "views", share: 4, about: "looking behind L1D", group: views },
+    Section { name: "views", share: 4, groups: 0, about: "looking behind L1D", group: views },
+    Section {
+        name: "short-runs",
+        share: 0,
+        groups: CARRIED_OUT.1 + 16,
+        about: "short runs by number, and each of them carried out",
+        group: short_runs,
+    },
 ];
 
 /// Compares a list; a difference makes it a case.
@@ -701,4 +714,103 @@ fn views(rng: &mut Rng, group: u64, met: &mut Met) -> Option<Case> {
         ops.push(Op::View { address: 1, buffer });
     }
     check(plain(rng, setup), ops, met)
+}
+
+// ------------------------------------------------------------- short runs
+
+/// From which group on, and up to which one, short runs are carried out: 47
+/// groups of 100 are enough for all, which `main` sees to.
+const CARRIED_OUT: (u64, u64) = (2, 2 + 47);
+const RUNS_OF_A_GROUP: usize = 100;
+
+/// All numbers and all runs once, then all runs carried out; every later group
+/// asks for numbers and runs of any kind.
+fn short_runs(rng: &mut Rng, group: u64, met: &mut Met) -> Option<Case> {
+    match group {
+        0 => asked(rng, every_number(), met),
+        1 => asked(rng, every_run(), met),
+        _ if group < CARRIED_OUT.1 => {
+            let first = (group - CARRIED_OUT.0) as usize * RUNS_OF_A_GROUP;
+            let last = (first + RUNS_OF_A_GROUP).min(short_runs::list().len());
+            (first..last).find_map(|number| carried_out(rng, number, met))
+        }
+        _ => {
+            let ops = (0..500).flat_map(|_| [some_number(rng), some_run(rng)]).collect();
+            asked(rng, ops, met)
+        }
+    }
+}
+
+/// These calls are lent no chip: the smallest one is enough for them.
+fn asked(rng: &mut Rng, ops: Vec<Op>, met: &mut Met) -> Option<Case> {
+    let start = plain(rng, Setup::fresh(32_768, 128));
+    check(start, ops, met)
+}
+
+/// The numbers of all runs, many above them, and the edges of 8, 16, 31 and 32
+/// bits.
+fn every_number() -> Vec<Op> {
+    let edges = [8, 16, 31].map(|bits| 1u32 << bits);
+    let around = edges.into_iter().flat_map(|edge| [edge - 1, edge, edge + 1]);
+    // A number that is taken by its last 16 bits would be one of a run.
+    let wrapped = [65_536 + 4_680, 1 << 24, u32::MAX - 4_680, u32::MAX];
+    (0..=6_000).chain(around).chain(wrapped).map(Op::ShortRunOf).collect()
+}
+
+/// Every run, and each with one digit too high, or with one digit too many.
+fn every_run() -> Vec<Op> {
+    let mut ops = Vec::new();
+    for (number, run) in short_runs::list().iter().enumerate() {
+        ops.push(Op::ShortRunNumber(run.clone()));
+        let mut other = run.clone();
+        match other.len() {
+            4 if number % 2 == 0 => other.push(number as u8 % 8),
+            0 => other.push(8),
+            length => other[number % length] += 8,
+        }
+        ops.push(Op::ShortRunNumber(other));
+    }
+    ops
+}
+
+/// A number of a run, one just above them, or any.
+fn some_number(rng: &mut Rng) -> Op {
+    Op::ShortRunOf(match rng.below(4) {
+        0 => rng.below(4_681),
+        1 => 4_681 + rng.below(200),
+        2 => rng.next_u32() >> rng.below(32),
+        _ => rng.next_u32(),
+    })
+}
+
+/// Digits of any length up to 300, most of them short; they are digits, or 8
+/// now and then, or any bytes.
+fn some_run(rng: &mut Rng) -> Op {
+    let length = match rng.below(4) {
+        0 | 1 => rng.below(6),
+        2 => rng.below(40),
+        _ => rng.below(301),
+    };
+    let bound = rng.pick(&[8, 8, 9, 256]);
+    Op::ShortRunNumber((0..length).map(|_| rng.below(bound) as u8).collect())
+}
+
+/// The run of this number, carried out from fresh with MAR 128 set: after each
+/// command the record and all bytes are compared, and what the chip reads is
+/// set against flat memory. The two external bytes that it touches are not those
+/// that it writes there to begin with, so that a write is always seen.
+fn carried_out(rng: &mut Rng, number: usize, met: &mut Met) -> Option<Case> {
+    let mut ext = vec![0; 65_536];
+    rng.fill(&mut ext);
+    ext[0] |= 0x80;
+    ext[0x2000] |= 0x40;
+    let setup = Setup::fresh_over(65_536, ext);
+    let start = Start { setup, odd: Vec::new(), padding: rng.next_u64(), flat: true };
+    let mut ops = vec![Op::ShortRunOf(number as u32), Op::Fresh, Op::Direct(short_runs::BEFORE)];
+    for &digit in &short_runs::list()[number] {
+        ops.push(Op::Direct(short_runs::command_of(digit).expect("a digit of the list")));
+    }
+    let case = check(start, ops, met);
+    met.short_runs += u64::from(case.is_none());
+    case
 }

@@ -72,6 +72,7 @@ pub fn shrink(case: Case) -> Case {
         shrinker.make_calls_plain();
         shrinker.shorten_traces();
         shrinker.shorten_answers();
+        shrinker.drop_digits();
         shrinker.drop_odd_bytes();
         shrinker.clear_padding();
         shrinker.empty_sets();
@@ -134,7 +135,7 @@ impl Shrinker {
                 Op::Run { trace, answer_bytes } | Op::RunAndSingleCalls { trace, answer_bytes } => {
                     setup.run(trace, &mut vec![0; *answer_bytes]);
                 }
-                Op::View { .. } => {}
+                Op::View { .. } | Op::ShortRunOf(_) | Op::ShortRunNumber(_) => {}
             }
         }
         let last = ops[difference.op..].to_vec();
@@ -258,6 +259,19 @@ impl Shrinker {
                 }
             }
             op += 1;
+        }
+    }
+
+    /// Leaves out digits of short runs.
+    fn drop_digits(&mut self) {
+        for op in 0..self.case.ops.len() {
+            let Some(Op::ShortRunNumber(digits)) = self.case.ops.get(op) else { continue };
+            for place in (0..digits.len()).rev() {
+                let mut ops = self.case.ops.clone();
+                let Some(Op::ShortRunNumber(digits)) = ops.get_mut(op) else { break };
+                digits.remove(place);
+                self.try_ops(ops);
+            }
         }
     }
 

@@ -2,7 +2,7 @@
 //! memory in two levels". It is written from the sentences of that paper
 //! and the readings of its open points in docs/DECISIONS.md, not from the
 //! proved code or its definitions, for obviousness. The sentence a function carries out is quoted
-//! above it.
+//! above it. What paper 02 asks for is written in the same way from its sentences.
 
 pub mod access;
 pub mod bench;
@@ -14,6 +14,7 @@ pub mod geometry;
 pub mod machine;
 pub mod modes;
 pub mod record;
+pub mod short_runs;
 pub mod trace;
 pub mod view;
 pub mod wellformed;

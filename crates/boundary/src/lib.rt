@@ -7,10 +7,14 @@ ghost use Rattle.model.specs.Records.{state};
 ghost use Rattle.model.specs.Refusals.{lentDue, viewDue};
 ghost use Rattle.model.specs.Trace.{command};
 ghost use Rattle.model.specs.Calls.{reply, call, freshCall, ran, runCall};
+ghost use Rattle.model.specs.ShortRuns.{shortRunOf, shortRunNumber};
+ghost use Rattle.short_runs.specs.Told.{toldRun, toldNumber};
 ghost use Rattle.tags.specs.Words.{recordIn};
 ghost use Rattle.view.specs.Into.{seenAs, viewInto};
 use access::Answer;
 use calls::Ran;
+use short_runs::RunNumber;
+use short_runs::ShortRun;
 use tags::WORDS;
 
 #[no_mangle]
@@ -247,4 +251,19 @@ pub extern "C" fn c64x_view_number(words: &[u32; WORDS], address: u32, l2: &[u8]
     ensures { λ n. ⌜ n ≡ viewDue (recordIn (now (words .entry))) (now (l2 .entry)) (now (ext .entry)) address ⌝ }
 {
     view::view_due(words, l2, ext, address)
+}
+
+// ---- beside the chip: the short runs by number (02, U12)
+#[no_mangle]
+pub extern "C" fn c64x_short_run_of(number: u32) -> ShortRun
+    ensures { λ r. ⌜ toldRun r ≡ shortRunOf number ⌝ }
+{
+    short_runs::run_of(number)
+}
+
+#[no_mangle]
+pub extern "C" fn c64x_short_run_number(digits: &[u8]) -> RunNumber
+    ensures { λ r. ⌜ toldNumber r ≡ shortRunNumber (now (digits .entry)) ⌝ }
+{
+    short_runs::number_of(digits)
 }

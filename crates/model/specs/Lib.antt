@@ -18,3 +18,4 @@ pub mod Stays
 pub mod Traces
 pub mod Laws
 pub mod Opened
+pub mod ShortRuns
