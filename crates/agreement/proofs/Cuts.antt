@@ -13,7 +13,7 @@ use lib.ListN.{length, drop, length-drop}
 use lib.Seq.{drop-append-le, drop-drop}
 use borrow.Author.Tests.{lt-ltb, le-ltb, le-leb}
 use Rattle.model.specs.Records.{State}
-use Rattle.model.specs.Trace.{Decoded, decode}
+use Rattle.model.specs.Trace.{Decoded, decode, Whole, none, one}
 use Rattle.model.specs.Calls.{call, runCall, commandAt, after, commands}
 use Rattle.model.specs.Traces.{carriedFrom, carried, Piece, pieceCommands, allCommands}
 use Rattle.model.specs.declared.Command.{Command}
@@ -21,11 +21,6 @@ use Rattle.agreement.proofs.Good.{Well}
 use Rattle.agreement.proofs.Reading.{decode-stable}
 use Rattle.agreement.proofs.Stays.{after-well}
 use Rattle.agreement.proofs.TraceAgreement.{run-calls}
-
--- ---- a trace of whole commands
-pub data Whole : List ℕ → List Command → Type 0 where
-  none : Whole [] []
-  one : {t : List ℕ} {cs : List Command} → decode t .ok ≡ true → Whole (drop (decode t .used) t) cs → Whole t (decode t .found ∷ cs)
 
 whole-more : (t : List ℕ) (d : Decoded) (cs : List Command) → decode t ≡ d → d .ok ≡ true → Whole (drop (d .used) t) cs → Whole t (d .found ∷ cs)
 whole-more t d cs e h w = subst (λ (x : Decoded). x .ok ≡ true → Whole (drop (x .used) t) cs → Whole t (x .found ∷ cs)) e (λ k w′. one k w′) h w
@@ -75,7 +70,7 @@ whole-carried {t} {cs} w room f = whole-from w t room (length t) 0 0 refl (omega
 
 -- ---- a trace of whole commands in pieces, cut at command boundaries, each piece with answer bytes for its commands
 pub data WholePieces : List Piece → List Command → Type 0 where
-  none : WholePieces [] []
+  no-pieces : WholePieces [] []
   piece : {p : Piece} {ps : List Piece} {cs ds : List Command} → Whole (p .trace) cs → length cs * 10 ≤ length (p .answers) → WholePieces ps ds →
       WholePieces (p ∷ ps) (cs ++ ds)
 
@@ -91,12 +86,12 @@ runAll (p ∷ ps) z = runAll ps (runCall (p .trace) (p .answers) z .next)
 -- they carry out the commands of the whole
 pub pieces-carried : {ps : List Piece} {cs : List Command} → WholePieces ps cs → allCommands ps ≡ cs
 unfolding allCommands
-pieces-carried none = refl
+pieces-carried no-pieces = refl
 pieces-carried (piece {p} {ps} {cs} {ds} w f r) = let a = whole-carried w (length (p .answers)) f in let b = pieces-carried r in rw (a, b) refl
 
 pub pieces-whole : {ps : List Piece} {cs : List Command} → WholePieces ps cs → Whole (joined ps) cs
 unfolding joined
-pieces-whole none = none
+pieces-whole no-pieces = none
 pieces-whole (piece {p} {ps} {cs} {ds} w f r) = whole-append w (joined ps) ds (pieces-whole r)
 
 after-append : (cs ds : List Command) (z : State) → after (commands (cs ++ ds)) z ≡ after (commands ds) (after (commands cs) z)

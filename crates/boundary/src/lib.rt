@@ -8,6 +8,8 @@ ghost use Rattle.model.specs.Refusals.{lentDue, viewDue};
 ghost use Rattle.model.specs.Trace.{command};
 ghost use Rattle.model.specs.Calls.{reply, call, freshCall, ran, runCall};
 ghost use Rattle.model.specs.ShortRuns.{shortRunOf, shortRunNumber};
+ghost use Rattle.model.specs.Writing.{writeCommand};
+ghost use Rattle.trace_writer.specs.Told.{told};
 ghost use Rattle.short_runs.specs.Told.{toldRun, toldNumber};
 ghost use Rattle.tags.specs.Words.{recordIn};
 ghost use Rattle.view.specs.Into.{seenAs, viewInto};
@@ -16,6 +18,7 @@ use calls::Ran;
 use short_runs::RunNumber;
 use short_runs::ShortRun;
 use tags::WORDS;
+use trace_writer::Put;
 
 #[no_mangle]
 pub extern "C" fn c64x_read(
@@ -266,4 +269,19 @@ pub extern "C" fn c64x_short_run_number(digits: &[u8]) -> RunNumber
     ensures { λ r. ⌜ toldNumber r ≡ shortRunNumber (now (digits .entry)) ⌝ }
 {
     short_runs::number_of(digits)
+}
+
+// ---- beside the chip: writing traces (02, U7). One command behind a point of a lent output; a write has its size first, its address second.
+#[no_mangle]
+pub extern "C" fn c64x_put_command(
+    out: &mut [u8],
+    at: usize,
+    code: u32,
+    first: u64,
+    second: u64,
+    value: u64,
+) -> Put
+    ensures { λ r. ⌜ told r (now (out .exit)) ≡ writeCommand (now (out .entry)) at (command code first second value) ⌝ }
+{
+    trace_writer::put_command(out, at, code, first, second, value)
 }

@@ -22,7 +22,7 @@ const DAMAGED: Decoded = Decoded {
 };
 
 // How many numbers follow a code byte; 4: there is no such code.
-fn numbers_behind(code: u8) -> u8
+pub fn numbers_behind(code: u8) -> u8
     ensures { λ r. ⌜ r ≡ numbersBehind code ⌝ }
 {
     match code {

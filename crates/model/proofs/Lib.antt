@@ -1,3 +1,4 @@
 pub mod Worked
 pub mod ShortRuns
 pub mod Offsets
+pub mod Writing

@@ -19,3 +19,4 @@ pub mod Traces
 pub mod Laws
 pub mod Opened
 pub mod ShortRuns
+pub mod Writing

@@ -1,6 +1,7 @@
 -- Paper 01, "Trace": numbers, commands, their codes.
 use Prim.Native.Nat.{ℕ, suc, _+_, _*_, _-_}
 use mathlib.Core.Bool.{Bool, true, false, cond, _||_, _&&_}
+use mathlib.Core.Path.{_≡_}
 use mathlib.Core.List.{List, [], _∷_}
 use lib.ListN.{drop}
 use lib.Dec.{ltb, leb, eqb}
@@ -91,3 +92,9 @@ decodeAfter c bs =
 unfoldable pub decode : List ℕ → Decoded
 decode [] = damaged
 decode (c ∷ bs) = decodeAfter c bs
+
+-- ---- a trace of whole commands, which the reader accepts to its end: these commands
+pub data Whole : List ℕ → List Command → Type 0 where
+  none : Whole [] []
+  one : {t : List ℕ} {cs : List Command} → decode t .ok ≡ true → Whole (drop (decode t .used) t) cs →
+      Whole t (decode t .found ∷ cs)
