@@ -721,6 +721,91 @@ static void directs(struct trace *t)
     }
 }
 
+/* ---- writing a trace */
+
+/* A command as it is given to be written. */
+struct given {
+    uint32_t code;
+    uint64_t first;
+    uint64_t second;
+    uint64_t value;
+};
+
+static struct given givens[COMMANDS];
+
+/* Random commands, most of them right, at points in and around a short output: both sides do the same. */
+static void same_puts(void)
+{
+    static const uint32_t codes[4] = { 12, 255, 256, UINT32_MAX };
+    size_t by[3] = { 0 };
+    for (int i = 0; i < 400000; i++) {
+        uint8_t out[48], out_by_c[48];
+        for (size_t k = 0; k < sizeof out; k++) out[k] = out_by_c[k] = (uint8_t)below(256);
+        uint64_t n[3];
+        for (int k = 0; k < 3; k++) n[k] = ((uint64_t)below(UINT32_MAX) << 32 | below(UINT32_MAX)) >> below(64);
+        uint32_t code = below(8) ? below(12) : codes[below(4)];
+        for (int k = 0; k < 2; k++)
+            if (below(4)) n[k] &= UINT32_MAX;
+        size_t len = below(sizeof out + 1), at = below(8) ? below((uint32_t)len + 2) : SIZE_MAX - below(30);
+        c64x_put x = c64x_put_command(out, len, at, code, n[0], n[1], n[2]);
+        struct put_result y = model_put(out_by_c, len, at, code, n[0], n[1], n[2]);
+        if (x.number != y.number || x.at != y.at) differ("random command", "number or point");
+        if (memcmp(out, out_by_c, sizeof out) != 0) differ("random command", "output");
+        by[y.number == 0 ? 0 : y.number == 11 ? 1 : 2]++;
+        if (differences) return;
+    }
+    printf("%zu random commands written, %zu refused with 11, %zu with 16: the same on both sides\n", by[0], by[1],
+           by[2]);
+}
+
+/* All of the commands, one after another into one output, by each side in turn. */
+static void writing_row(const char *name, size_t len)
+{
+    struct times library_ns = NO_TIME, c_ns = NO_TIME;
+    uint8_t *out = room(COMMANDS * 24), *out_by_c = room(COMMANDS * 24);
+    for (int i = 0; i < RUNS; i++) {
+        c64x_put x = { 0, 0 };
+        struct put_result y = { 0, 0 };
+        double at = now();
+        for (const struct given *g = givens; g < givens + COMMANDS; g++)
+            x = c64x_put_command(out, len, x.at, g->code, g->first, g->second, g->value);
+        took(&library_ns, at);
+        at = now();
+        for (const struct given *g = givens; g < givens + COMMANDS; g++)
+            y = model_put(out_by_c, len, y.at, g->code, g->first, g->second, g->value);
+        took(&c_ns, at);
+        if (x.at != y.at || x.number != y.number) differ(name, "point or number");
+    }
+    if (memcmp(out, out_by_c, COMMANDS * 24) != 0) differ(name, "output");
+    free(out);
+    free(out_by_c);
+    row(name, &library_ns, &c_ns, COMMANDS);
+}
+
+static void writing(void)
+{
+    size_t len = COMMANDS * 24;
+    head("writing a trace, by the command");
+    for (int i = 0; i < COMMANDS; i++) givens[i] = (struct given){ 2, 0, 0, 0 };
+    writing_row("c64x_put_command, no number (1 byte)", len);
+    for (int i = 0; i < COMMANDS; i++) givens[i] = (struct given){ 10, (uint64_t)(i % 4), 0, 0 };
+    writing_row("c64x_put_command, mode (2 bytes)", len);
+    for (int i = 0; i < COMMANDS; i++) givens[i] = (struct given){ 0, 4, EXTERNAL + 4 * below(16384), 0 };
+    writing_row("c64x_put_command, read (7 bytes)", len);
+    for (int i = 0; i < COMMANDS; i++)
+        givens[i] = (struct given){ 1, 8, EXTERNAL + 8 * below(8192), (uint64_t)(below(1u << 30) + (1u << 30)) << 32 };
+    writing_row("c64x_put_command, write of 8 bytes (16 or 17 bytes)", len);
+    for (int i = 0; i < COMMANDS; i++) {
+        uint32_t kind = below(16), size = 1u << below(4), a = EXTERNAL + 8 * below(8192);
+        givens[i] = (struct given){ kind < 8, size, a, some_value(size) };
+        if (kind >= 13) givens[i] = (struct given){ 2 + below(10), a, below(200), 0 };
+    }
+    writing_row("c64x_put_command, a mix of all", len);
+    writing_row("c64x_put_command, refused with 16", 0);
+    for (int i = 0; i < COMMANDS; i++) givens[i].code += 12;
+    writing_row("c64x_put_command, refused with 11", len);
+}
+
 /* ---- cost against L and E */
 
 static void fresh_start(const char *name)
@@ -821,9 +906,12 @@ int main(void)
     same_calls(&t);
     same_short_runs();
     if (differences) return 1;
+    same_puts();
+    if (differences) return 1;
     time_the_clock();
     classes(&t);
     directs(&t);
+    writing();
     growth(&t);
     short_runs();
     if (differences) printf("\n%d results differ\n", differences);

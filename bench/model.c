@@ -647,6 +647,49 @@ struct run_result model_run(struct record *r, const struct lent *m, const uint8_
     return x;
 }
 
+/* ---- writing a trace */
+
+static inline uint8_t *put_number(uint8_t *p, uint64_t v)
+{
+    for (; v >= 128; v >>= 7) *p++ = (uint8_t)(v | 128);
+    *p++ = (uint8_t)v;
+    return p;
+}
+
+static inline uint8_t *put_numbers(uint8_t *p, unsigned n, uint64_t first, uint64_t second, uint64_t value)
+{
+    if (n > 0) p = put_number(p, first);
+    if (n > 1) p = put_number(p, second);
+    if (n > 2) p = put_number(p, value);
+    return p;
+}
+
+/* With room for the longest command it is made in place; near the end elsewhere first, since it may not fit. */
+struct put_result model_put(uint8_t *out, size_t out_len, size_t at, uint32_t code, uint64_t first, uint64_t second,
+                            uint64_t value)
+{
+    static const uint8_t numbers[12] = { 2, 3, 0, 0, 2, 2, 2, 2, 2, 0, 1, 2 };
+    struct put_result x = { at, 11 };
+    if (code > 11) return x;
+    unsigned n = numbers[code];
+    if ((n > 0 && first > UINT32_MAX) || (n > 1 && second > UINT32_MAX)) return x;
+    x.number = 16;
+    if (at >= out_len) return x;
+    if (out_len - at >= 21) {
+        out[at] = (uint8_t)code;
+        x.at = (size_t)(put_numbers(out + at + 1, n, first, second, value) - out);
+    } else {
+        uint8_t made[21];
+        made[0] = (uint8_t)code;
+        size_t length = (size_t)(put_numbers(made + 1, n, first, second, value) - made);
+        if (length > out_len - at) return x;
+        memcpy(out + at, made, length);
+        x.at = at + length;
+    }
+    x.number = 0;
+    return x;
+}
+
 /* ---- looking behind L1D */
 
 uint8_t model_view_number(const struct record *r, const struct lent *m, uint32_t address)

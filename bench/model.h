@@ -75,6 +75,15 @@ struct answer model_call(struct record *r, const struct lent *m, const struct co
 struct run_result model_run(struct record *r, const struct lent *m, const uint8_t *trace, size_t trace_len,
                             uint8_t *answers, size_t answers_len);
 
+struct put_result {
+    size_t at;
+    uint8_t number;
+};
+
+/* One command of a trace into the output, behind `at`. */
+struct put_result model_put(uint8_t *out, size_t out_len, size_t at, uint32_t code, uint64_t first, uint64_t second,
+                            uint64_t value);
+
 /* The 64 bytes behind L1D into `seen`; the number. And the number alone. */
 uint8_t model_view(const struct record *r, const struct lent *m, uint32_t address, uint8_t *seen, size_t seen_len);
 uint8_t model_view_number(const struct record *r, const struct lent *m, uint32_t address);

@@ -15,7 +15,7 @@
 #define EXT_BYTES (1u << 20)
 
 /* The calls, in the order of the codes of a trace; then the others. */
-enum { FRESH = 12, RUN, VIEW, VIEW_NUMBER, SHORT_RUN_OF, SHORT_RUN_NUMBER, KINDS };
+enum { FRESH = 12, RUN, VIEW, VIEW_NUMBER, SHORT_RUN_OF, SHORT_RUN_NUMBER, PUT, KINDS };
 
 static const char *const names[KINDS] = {
     "c64x_read",
@@ -36,6 +36,7 @@ static const char *const names[KINDS] = {
     "c64x_view_number",
     "c64x_short_run_of",
     "c64x_short_run_number",
+    "c64x_put_command",
 };
 
 /* One call with its numbers. */
@@ -92,7 +93,9 @@ static void call(void)
     case VIEW: c64x_view(r, first, l2, l2_len, ext, sizeof ext, seen, sizeof seen); break;
     case VIEW_NUMBER: c64x_view_number(r, first, l2, l2_len, ext, sizeof ext); break;
     case SHORT_RUN_OF: c64x_short_run_of(first); break;
-    default: c64x_short_run_number(digits, first); break;
+    case SHORT_RUN_NUMBER: c64x_short_run_number(digits, first); break;
+    /* the code is that of a write, whose command is the longest */
+    default: c64x_put_command(trace, sizeof trace, 0, 1, first, second, now.value); break;
     }
 }
 
@@ -184,6 +187,7 @@ static void every_call(void)
         { 11, 128, 1, 0 }, { 11, 128, 0, 0 }, { 11, 129, 0, 0 }, { 11, 7, 0, 0 },
         { FRESH, 0, 0, 0 }, { VIEW, EXTERNAL + 64, 0, 0 }, { VIEW, 64, 0, 0 }, { VIEW, 4, 0, 0 },
         { VIEW_NUMBER, EXTERNAL + 64, 0, 0 }, { VIEW_NUMBER, 4, 0, 0 },
+        { PUT, 4, EXTERNAL, 5 }, { PUT, UINT32_MAX, UINT32_MAX, UINT64_MAX },
     };
     for (size_t i = 0; i < sizeof calls / sizeof calls[0]; i++) {
         measure(calls[i].kind, calls[i].first, calls[i].second, calls[i].value);

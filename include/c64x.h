@@ -42,8 +42,9 @@
  *    8  the mode is not 0, 1, 2, 3 or 7, or its cache is larger than L2
  *    9  the MAR is not 128 or 129, or the bit is above 1
  *   10  a MAR bit is to become 0 while a cache holds a line of that range
- *   11  the trace is damaged
+ *   11  the trace is damaged; of a command to be written: a code that traces lack, or a number that is too wide
  *   12  fewer than 10 answer bytes are left
+ *   16  fewer bytes of the output are left than the command has
  *   18  no short run: its number is above 4,680, it has more than four digits, or a digit is above 7
  *
  * Where several are due, the lowest counts (only in a trace 11, then 12, come before 3 to 10). A refused call changes
@@ -81,7 +82,7 @@ extern "C" {
  * up when calls are added and all the others stay as they are. Version 1 passed the record by value.
  */
 #define C64X_VERSION_MAJOR 2
-#define C64X_VERSION_MINOR 1
+#define C64X_VERSION_MINOR 2
 
 /* The stack that a call needs at most, in bytes. */
 #define C64X_STACK_BYTES 4096
@@ -101,6 +102,8 @@ extern "C" {
 /* How many short runs there are, and the digits of the longest. */
 #define C64X_SHORT_RUNS 4681
 #define C64X_SHORT_RUN_DIGITS 4
+/* The longest command of a trace: a code, two numbers of 32 bits and one of 64. */
+#define C64X_COMMAND_BYTES 21
 
 /*
  * One line of a cache. `valid`: it holds something; `dirty`: what it holds is not yet in the memory behind; `address`
@@ -188,6 +191,15 @@ typedef struct {
     uint32_t run;
 } c64x_run_number;
 
+/*
+ * What c64x_put_command returns: the place behind the command in the output (where it was refused, the place that was
+ * given), and 0, 11 or 16.
+ */
+typedef struct {
+    size_t at;
+    uint8_t number;
+} c64x_put;
+
 C64X_ASSERT(sizeof(size_t) == 8, "the library is for 64 bits");
 C64X_ASSERT(sizeof(c64x_line) == 8, "c64x_line");
 C64X_ASSERT(offsetof(c64x_line, valid) == 0, "c64x_line");
@@ -226,6 +238,9 @@ C64X_ASSERT(offsetof(c64x_short_run, digits) == 2, "c64x_short_run");
 C64X_ASSERT(sizeof(c64x_run_number) == 8, "c64x_run_number");
 C64X_ASSERT(offsetof(c64x_run_number, number) == 0, "c64x_run_number");
 C64X_ASSERT(offsetof(c64x_run_number, run) == 4, "c64x_run_number");
+C64X_ASSERT(sizeof(c64x_put) == 16, "c64x_put");
+C64X_ASSERT(offsetof(c64x_put, at) == 0, "c64x_put");
+C64X_ASSERT(offsetof(c64x_put, number) == 8, "c64x_put");
 
 /* The three memories, as every call but the view is lent them. */
 #define C64X_LENT \
@@ -298,6 +313,24 @@ c64x_answer c64x_change_mar(c64x_record *record, uint32_t mar, uint32_t bit, C64
  */
 c64x_ran c64x_run(c64x_record *record, const uint8_t *trace, size_t trace_len, C64X_LENT, uint8_t *answers,
                   size_t answers_len);
+
+/*
+ * Writing a trace: puts one command into the output, from its byte `at` on, in the form that c64x_run reads. The
+ * numbers come in the order of the table above: `first`, `second`, then the value of a write, whose size is `first` and
+ * whose address is `second`. A number that the code does not take is not looked at. To write a trace, begin with `at` 0
+ * and hand on the `at` that comes back; at the end it is the length of the trace.
+ *
+ *   uint8_t trace[64];
+ *   c64x_put put = c64x_put_command(trace, sizeof trace, 0, 11, 128, 1, 0);                      MAR 128 on
+ *   put = c64x_put_command(trace, sizeof trace, put.at, 1, 4, C64X_EXTERNAL_BASE, 5);            write 4 bytes
+ *
+ * Refused: 11 for a code that is not in the table, or for a number of the command that is too wide: above FFFFFFFFh;
+ * only the value of a write may have 64 bits. Then 16, where the command has more bytes than are left, also for an `at`
+ * behind the end. A refused command changes no byte, and `at` comes back as it was. No more is asked of the numbers: a
+ * read of 3 bytes is a command, which c64x_run answers with 3. Bytes before `at` and behind the command never change.
+ */
+c64x_put c64x_put_command(uint8_t *out, size_t out_len, size_t at, uint32_t code, uint64_t first, uint64_t second,
+                          uint64_t value);
 
 /*
  * Looking behind the caches: the 64 bytes that SRAM or external memory itself has at a multiple of 64, whatever the

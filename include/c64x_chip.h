@@ -33,6 +33,7 @@ enum {
     C64X_REFUSED_LINE_HELD = 10,
     C64X_STOPPED_TRACE = 11,
     C64X_STOPPED_ANSWERS = 12,
+    C64X_REFUSED_ROOM = 16,
     C64X_REFUSED_SHORT_RUN = 18
 };
 
@@ -62,6 +63,7 @@ static inline const char *c64x_number_text(unsigned number)
     case C64X_REFUSED_LINE_HELD: return "refused: a cache holds a line of that range";
     case C64X_STOPPED_TRACE: return "stopped: the trace is damaged";
     case C64X_STOPPED_ANSWERS: return "stopped: fewer than 10 answer bytes are left";
+    case C64X_REFUSED_ROOM: return "refused: too few bytes of the output are left for the command";
     case C64X_REFUSED_SHORT_RUN: return "refused: no short run has this number or these digits";
     default: return "unknown number";
     }
@@ -177,6 +179,45 @@ static inline c64x_ran c64x_chip_run(c64x_chip *chip, const uint8_t *trace, size
                                      size_t answers_len)
 {
     return c64x_run(&chip->record, trace, trace_len, C64X_CHIP_LENT(chip), answers, answers_len);
+}
+
+/* The codes of a trace. */
+enum {
+    C64X_CODE_READ = 0,
+    C64X_CODE_WRITE = 1,
+    C64X_CODE_L2_WRITEBACK_ALL = 2,
+    C64X_CODE_L2_WRITEBACK_INVALIDATE_ALL = 3,
+    C64X_CODE_L2_WRITEBACK_BLOCK = 4,
+    C64X_CODE_L2_WRITEBACK_INVALIDATE_BLOCK = 5,
+    C64X_CODE_L2_INVALIDATE_BLOCK = 6,
+    C64X_CODE_L1D_WRITEBACK_INVALIDATE_BLOCK = 7,
+    C64X_CODE_L1D_INVALIDATE_BLOCK = 8,
+    C64X_CODE_L1D_INVALIDATE_ALL = 9,
+    C64X_CODE_MODE = 10,
+    C64X_CODE_MAR = 11
+};
+
+/* A trace that is being written: where it goes, how many bytes there are, and how many are written already. */
+typedef struct {
+    uint8_t *out;
+    size_t out_len;
+    size_t at;
+} c64x_trace_writer;
+
+static inline void c64x_trace_start(c64x_trace_writer *writer, uint8_t *out, size_t out_len)
+{
+    writer->out = out;
+    writer->out_len = out_len;
+    writer->at = 0;
+}
+
+/* Puts one more command behind those that are written. Returns 0, or 11 or 16, and then nothing has changed. */
+static inline uint8_t c64x_trace_put(c64x_trace_writer *writer, uint32_t code, uint64_t first, uint64_t second,
+                                     uint64_t value)
+{
+    c64x_put put = c64x_put_command(writer->out, writer->out_len, writer->at, code, first, second, value);
+    writer->at = put.at;
+    return put.number;
 }
 
 /* Answer number `index` of a run, counted from 0, out of the answer bytes. */

@@ -1,8 +1,8 @@
 /*
  * Every call of include/c64x_chip.h, on cases whose outcome the paper gives: the worked example, C5, C6, C8, C9 and
  * C10, what each cache command does to a dirty line, each number of the refusal table with nothing changed, and short
- * runs at the ends of each length. It is compiled as C and as C++. Prints how many checks passed; exit status 1 where
- * one failed.
+ * runs at the ends of each length; the trace of the worked example, C3 and C4 are written through c64x_put_command. It
+ * is compiled as C and as C++. Prints how many checks passed; exit status 1 where one failed.
  */
 #include <stdio.h>
 #include <string.h>
@@ -299,6 +299,61 @@ static void short_runs(void)
     CHECK(c64x_short_run_number(eight, 1).run == 8 && c64x_short_run_number(high, 3).run == 73);
 }
 
+/* What was put stands in the output, and is the whole of it. */
+static int holds(const c64x_trace_writer *writer, const uint8_t *bytes, size_t length)
+{
+    return writer->at == length && memcmp(writer->out, bytes, length) == 0;
+}
+
+/* The worked example is written as the paper prints it, C3 and C4 as numbers of commands; then 11 and 16, with nothing
+   changed. */
+static void writing(void)
+{
+    static const uint8_t example[] = {0x0B, 0x80, 0x01, 0x01, 0x01, 0x04, 0x80, 0x80, 0x80, 0x80, 0x08, 0x05, 0x00,
+                                      0x04, 0x80, 0x80, 0x80, 0x80, 0x08, 0x00, 0x04, 0x80, 0x80, 0x80, 0x80, 0x08,
+                                      0x0A, 0x04};
+    static const uint8_t numbers[] = {0x0A, 0xAC, 0x02, 0x0A, 0x7F, 0x04, 0x80, 0x80, 0x80, 0x80, 0x08, 0x00};
+    static const uint8_t longest[] = {0x01, 0xFF, 0xFF, 0xFF, 0xFF, 0x0F, 0xFF, 0xFF, 0xFF, 0xFF, 0x0F,
+                                      0xFF, 0xFF, 0xFF, 0xFF, 0xFF, 0xFF, 0xFF, 0xFF, 0xFF, 0x01};
+    uint8_t out[28], before[28];
+    c64x_trace_writer writer;
+
+    c64x_trace_start(&writer, out, sizeof out);
+    CHECK(c64x_trace_put(&writer, C64X_CODE_MAR, 128, 1, 0) == C64X_ACCEPTED);
+    CHECK(c64x_trace_put(&writer, C64X_CODE_WRITE, 4, EXT, 5) == C64X_ACCEPTED);
+    CHECK(c64x_trace_put(&writer, C64X_CODE_READ, 4, EXT, 0) == C64X_ACCEPTED);
+    CHECK(c64x_trace_put(&writer, C64X_CODE_READ, 4, EXT, UINT64_MAX) == C64X_ACCEPTED);
+    CHECK(c64x_trace_put(&writer, C64X_CODE_MODE, 4, UINT64_MAX, UINT64_MAX) == C64X_ACCEPTED);
+    CHECK(holds(&writer, example, sizeof example));
+
+    c64x_trace_start(&writer, out, sizeof out);
+    CHECK(c64x_trace_put(&writer, C64X_CODE_MODE, 300, 0, 0) == C64X_ACCEPTED);
+    CHECK(c64x_trace_put(&writer, C64X_CODE_MODE, 127, 0, 0) == C64X_ACCEPTED);
+    CHECK(c64x_trace_put(&writer, C64X_CODE_L2_WRITEBACK_BLOCK, 0x80000000, 0, 0) == C64X_ACCEPTED);
+    CHECK(holds(&writer, numbers, sizeof numbers));
+    c64x_trace_start(&writer, out, sizeof out);
+    CHECK(c64x_trace_put(&writer, C64X_CODE_WRITE, UINT32_MAX, UINT32_MAX, UINT64_MAX) == C64X_ACCEPTED);
+    CHECK(holds(&writer, longest, sizeof longest) && sizeof longest == C64X_COMMAND_BYTES);
+
+    memset(out, 0xEE, sizeof out);
+    memset(before, 0xEE, sizeof before);
+    c64x_trace_start(&writer, out, 6);
+    CHECK(c64x_trace_put(&writer, 12, 0, 0, 0) == C64X_STOPPED_TRACE);
+    CHECK(c64x_trace_put(&writer, 256, 0, 0, 0) == C64X_STOPPED_TRACE);
+    CHECK(c64x_trace_put(&writer, C64X_CODE_READ, 4, UINT64_C(0x100000000), 0) == C64X_STOPPED_TRACE);
+    CHECK(c64x_trace_put(&writer, C64X_CODE_READ, 4, EXT, 0) == C64X_REFUSED_ROOM);
+    CHECK(writer.at == 0 && memcmp(out, before, sizeof out) == 0);
+    /* 11 comes before 16; a place behind the end leaves no byte */
+    writer.at = SIZE_MAX;
+    CHECK(c64x_trace_put(&writer, C64X_CODE_L2_WRITEBACK_ALL, 0, 0, 0) == C64X_REFUSED_ROOM);
+    CHECK(c64x_trace_put(&writer, 12, 0, 0, 0) == C64X_STOPPED_TRACE);
+    CHECK(writer.at == SIZE_MAX && memcmp(out, before, sizeof out) == 0);
+    /* the last byte of the output is a byte of it */
+    writer.at = 5;
+    CHECK(c64x_trace_put(&writer, C64X_CODE_L1D_INVALIDATE_ALL, 0, 0, 0) == C64X_ACCEPTED);
+    CHECK(writer.at == 6 && out[4] == 0xEE && out[5] == 0x09 && out[6] == 0xEE);
+}
+
 /* Every number and server has a text of its own; those that do not exist share one. */
 static void texts(void)
 {
@@ -310,6 +365,8 @@ static void texts(void)
     for (unsigned a = 0; a <= 5; a++)
         for (unsigned b = 0; b < a; b++)
             CHECK(strcmp(c64x_server_text(a), c64x_server_text(b)) != 0);
+    for (unsigned a = 0; a <= 13; a++)
+        CHECK(strcmp(c64x_number_text(a), c64x_number_text(C64X_REFUSED_ROOM)) != 0);
     CHECK(strcmp(c64x_number_text(13), c64x_number_text(255)) == 0);
     CHECK(strcmp(c64x_server_text(5), c64x_server_text(255)) == 0);
 }
@@ -321,6 +378,7 @@ int main(void)
     commands();
     refusals();
     short_runs();
+    writing();
     texts();
     printf("chip: %d checks passed, %d failed\n", passed, failed);
     return failed != 0;

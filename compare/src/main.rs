@@ -9,6 +9,7 @@ mod plant;
 mod report;
 mod sections;
 mod shrink;
+mod writing;
 
 use std::panic;
 use std::path::PathBuf;
@@ -20,7 +21,7 @@ use oracle::gen::Rng;
 use pair::{Met, NUMBERS};
 use plant::{Planted, PLANTS};
 use report::report;
-use sections::{Section, SECTIONS};
+use sections::{Group, Section, SECTIONS};
 use shrink::shrink;
 
 const HELP: &str = "\
@@ -30,7 +31,7 @@ compare: the calls of the boundary against the reference model
   --seed S             the seed of all that is random (default 640101)
   --bench-trace PATH   the program bench-trace, to be compared as well
   --section NAME       only this section: records, lists, traces, refusals, views,
-                       short-runs
+                       short-runs, writing
   --group K            only group K of that section
   --input K            nothing but input K of bench-trace
   --now PATH           a file that says which group is being run
@@ -173,6 +174,10 @@ fn run(arguments: &Arguments) -> Result<bool, String> {
          nothing left dirty: {}; memories set against flat memory: {} after calls, {} after runs",
         met.untouched, met.written_back, met.flat_memories, met.flat_runs
     );
+    println!(
+        "commands written: {}, refused with 11: {}, with 16: {}",
+        met.puts[0], met.puts[1], met.puts[2]
+    );
     let faults = met.possible_faults();
     println!(
         "ill-formed records made: {}; of each fault in each mode: {} at least",
@@ -243,9 +248,17 @@ fn run_group(
     now::enter(arguments.now.as_deref(), place.clone())?;
     let salt = (number + 1) << 48 | group;
     let mut rng = Rng::new(seed ^ salt.wrapping_mul(0xD129_0D3B_3C5E_9A35));
-    let Some(case) = (section.group)(&mut rng, group, met) else { return Ok(true) };
-    println!("DIFFERENCE in {place}");
-    report(&shrink(case));
+    match section.group {
+        Group::Calls(run) => {
+            let Some(case) = run(&mut rng, group, met) else { return Ok(true) };
+            println!("DIFFERENCE in {place}");
+            report(&shrink(case));
+        }
+        Group::Words(run) => {
+            let Some(words) = run(&mut rng, group, met) else { return Ok(true) };
+            println!("DIFFERENCE in {place}\n{words}");
+        }
+    }
     Ok(false)
 }
 
@@ -293,6 +306,7 @@ fn met_everything(met: &Met) -> bool {
         && met.flat_runs > 50
         && met.untouched > 10_000
         && met.written_back > 500
+        && met.puts.iter().all(|&count| count > 1_000)
         && met.long_runs > 0
         && met.short_runs == 4_681
         && met.externals.iter().all(|&count| count > 0)

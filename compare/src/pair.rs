@@ -74,6 +74,8 @@ pub struct Met {
     pub calls: u64,
     /// By number; those that no call gives back stay 0.
     pub numbers: [u64; 19],
+    /// Commands that were written, and those refused with 11 and with 16.
+    pub puts: [u64; 3],
     pub servers: [u64; 5],
     pub modes: [u64; 8],
     /// Accesses to each MAR range with the bit 0 and with the bit 1.

@@ -10,6 +10,7 @@ use oracle::flat::Flat;
 use oracle::geometry::L1d;
 use oracle::machine::{SERVER_L1D, SERVER_L2};
 use oracle::trace::ANSWER_BYTES;
+use oracle::writer::Put;
 use oracle::Command;
 
 use crate::boundary::{CAnswer, CRecord, CRun, CRunNumber, CShortRun, Lent};
@@ -55,6 +56,11 @@ enum Plant {
     ShortRunNumber,
     ShortRunRefused,
     ShortRunByte,
+    PutByte,
+    PutPoint,
+    PutOrder,
+    PutRun,
+    PutAgain,
     BenchOutput,
     BenchStatus,
 }
@@ -70,7 +76,7 @@ const fn planted(plant: Plant, name: &'static str, about: &'static str) -> Plant
     Planted { plant, name, about }
 }
 
-pub const PLANTS: [Planted; 39] = [
+pub const PLANTS: [Planted; 44] = [
     planted(Plant::ReadValue, "read-value", "a 4-byte read from L2 cache gets 1 more"),
     planted(Plant::ReadOrder, "read-order", "a read hit in L1D turns its set's order around"),
     planted(Plant::WriteNumber, "write-number", "a write refused with 6 gets 5"),
@@ -108,6 +114,11 @@ pub const PLANTS: [Planted; 39] = [
     planted(Plant::ShortRunNumber, "short-run-number", "the number of run 4,680 is 1 more"),
     planted(Plant::ShortRunRefused, "short-run-refused", "a number comes with 18"),
     planted(Plant::ShortRunByte, "short-run-byte", "the write of a short run goes past L2"),
+    planted(Plant::PutByte, "put-byte", "a command refused with 16 leaves a byte behind"),
+    planted(Plant::PutPoint, "put-point", "the point behind a mode change is one more"),
+    planted(Plant::PutOrder, "put-order", "16 comes before 11 where no byte is left"),
+    planted(Plant::PutRun, "put-run", "a run over two commands put has one answer more"),
+    planted(Plant::PutAgain, "put-again", "a trace that ends in 09 is another written again"),
     planted(Plant::BenchOutput, "bench-output", "bench-trace prints a line more after an 8"),
     planted(Plant::BenchStatus, "bench-status", "bench-trace fails after a 7"),
 ];
@@ -284,6 +295,29 @@ pub fn flat_end(flat: &mut Flat) {
         Some(Plant::FlatSram) => change(flat.sram.last_mut()),
         _ => {}
     }
+}
+
+/// What putting a command at a point gave back, and the output after it.
+pub fn put(code: u32, at: usize, out: &mut [u8], put: &mut Put) {
+    match CHOSEN.get() {
+        Some(Plant::PutByte) if put.number == 16 => change(out.get_mut(at)),
+        Some(Plant::PutPoint) if put.number == 0 && code == 10 => put.at += 1,
+        Some(Plant::PutOrder) if put.number == 11 && at >= out.len() => put.number = 16,
+        _ => {}
+    }
+}
+
+/// What a run over commands that were put gave back.
+pub fn put_run(run: &mut CRun) {
+    if CHOSEN.get() == Some(&Plant::PutRun) && run.count >= 2 {
+        run.count += 1;
+    }
+}
+
+/// Whether a trace that was written again is the same.
+pub fn same_again(written: &[u8], trace: &[u8]) -> bool {
+    let other = CHOSEN.get() == Some(&Plant::PutAgain) && trace.last() == Some(&9);
+    written == trace && !other
 }
 
 /// What bench-trace printed, and how it ended.

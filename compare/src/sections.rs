@@ -1,4 +1,4 @@
-//! What is compared: six sections, each made of groups, each group of a few
+//! What is compared: seven sections, each made of groups, each group of a few
 //! lists of calls. A group is known by its section and number, and equal seeds
 //! give equal groups.
 
@@ -14,6 +14,7 @@ use oracle::{Command, Line, Record};
 
 use crate::pair::{compare, Met, OddByte, OddPlace, Op, Start};
 use crate::shrink::Case;
+use crate::writing;
 
 /// A section: its name, its share of the calls in parts of 100, how many groups
 /// are run at least, what it does, and how one of its groups is run.
@@ -22,45 +23,66 @@ pub struct Section {
     pub share: u64,
     pub groups: u64,
     pub about: &'static str,
-    pub group: fn(&mut Rng, u64, &mut Met) -> Option<Case>,
+    pub group: Group,
 }
 
-pub const SECTIONS: [Section; 6] = [
+/// How a group is run. Calls on a chip give a case, which is made smaller by
+/// whoever asked; a section with cases of its own gives words.
+pub enum Group {
+    Calls(fn(&mut Rng, u64, &mut Met) -> Option<Case>),
+    Words(fn(&mut Rng, u64, &mut Met) -> Option<String>),
+}
+
+pub const SECTIONS: [Section; 7] = [
     Section {
         name: "records",
         share: 40,
         groups: 0,
         about: "every call on random well-formed records and memories",
-        group: records,
+        group: Group::Calls(records),
     },
     Section {
         name: "lists",
         share: 30,
         groups: 0,
         about: "long lists from fresh, set against flat memory too",
-        group: lists,
+        group: Group::Calls(lists),
     },
     Section {
         name: "traces",
         share: 12,
         groups: 0,
         about: "runs over valid, damaged and cut traces, and single calls",
-        group: traces,
+        group: Group::Calls(traces),
     },
     Section {
         name: "refusals",
         share: 14,
         groups: 0,
         about: "records, bytes, lengths and numbers that are refused",
-        group: refusals,
+        group: Group::Calls(refusals),
     },
-    Section { name: "views", share: 4, groups: 0, about: "looking behind L1D", group: views },
+    Section {
+        name: "views",
+        share: 4,
+        groups: 0,
+        about: "looking behind L1D",
+        group: Group::Calls(views),
+    },
     Section {
         name: "short-runs",
         share: 0,
         groups: CARRIED_OUT.1 + 16,
         about: "short runs by number, and each of them carried out",
-        group: short_runs,
+        group: Group::Calls(short_runs),
+    },
+    // Beside the hundred of the calls on a chip: these take next to no time.
+    Section {
+        name: "writing",
+        share: 30,
+        groups: 0,
+        about: "commands written into outputs, and read back",
+        group: Group::Words(writing::group),
     },
 ];
 

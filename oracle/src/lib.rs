@@ -18,6 +18,7 @@ pub mod short_runs;
 pub mod trace;
 pub mod view;
 pub mod wellformed;
+pub mod writer;
 
 pub use calls::Answer;
 pub use record::{L1dSet, L2Set, Line, Record};
