@@ -1,4 +1,5 @@
--- An access put together from its parts: a hit, a miss, past the caches; the number due. One law for each way through the code, over plain records and lists.
+-- An access put together from its parts: a hit, a miss, past the caches; the number due. One law for each way through
+-- the code, over plain records and lists.
 use Prim.Native.Nat.{ℕ, _+_, _-_, _%_, _≤_, _<_}
 use mathlib.Core.Bool.{Bool, true, false, cond}
 use mathlib.Core.Path.{_≡_, refl, sym, ap, _∙_}

@@ -1,5 +1,6 @@
-// An access on lent words: each function is the step of paper 01 itself, and all are total: they say what they do for every content of the words. Nothing here sees a word:
-// lines, orders and bits are reached through crate tags, bytes through crate memory.
+// An access on lent words: each function is the step of paper 01 itself, and all are total: they say what they do for
+// every content of the words. Nothing here sees a word: lines, orders and bits are reached through crate tags, bytes
+// through crate memory.
 ghost use mathlib.Core.Bool.{true, false, cond};
 ghost use mathlib.Core.Logic.{_≢_};
 ghost use mathlib.Core.Path.{_≡_};
@@ -16,7 +17,7 @@ ghost use Rattle.model.specs.Homes.{memoryPart, putMemory};
 ghost use Rattle.model.specs.Access.{access, cacheable, l1dBytes, evictL1d, putL1d, readHit, writeHit, readMiss, writeMiss};
 ghost use Rattle.model.specs.Refusals.{sizeOk};
 ghost use Rattle.model.specs.Calls.{reply, step};
-ghost use Rattle.tags.specs.Words.{recordWords, recordIn};
+ghost use Rattle.tags.specs.Words.{recordWords, recordIn, stateIn};
 ghost use Rattle.tags.specs.Sizes.{Lent};
 ghost use Rattle.access.specs.Serving.{answered};
 use geometry::L1d;
@@ -37,9 +38,10 @@ pub struct Answer {
 pub fn read_way(tags: &mut [u32], i: usize, w: usize, a: u32, n: u32, l1d: &[u8]) -> u64
     requires { ⌜ ((i < 128) × (w < 2)) × (length (now tags) ≡ recordWords) ⌝ }
     requires { ⌜ (i ≡ l1dSetOf a) × (sizeOk n ≡ true) ⌝ }
-    ensures { λ r. ⌜ ((m e : List ℕ) → r ≡ little (l1dBytes w a n (state (recordIn (now (tags .entry))) (now (l1d .entry)) m e))) ⌝ }
-    ensures { λ _. ⌜ ((m e : List ℕ) → state (recordIn (now (tags .exit))) (now (l1d .entry)) m e
-        ≡ useL1d (l1dSetOf a) w (state (recordIn (now (tags .entry))) (now (l1d .entry)) m e)) ⌝ }
+    ensures { λ r. ⌜ ((m e : List ℕ) → r
+        ≡ little (l1dBytes w a n (stateIn (now (tags .entry)) (now (l1d .entry)) m e))) ⌝ }
+    ensures { λ _. ⌜ ((m e : List ℕ) → stateIn (now (tags .exit)) (now (l1d .entry)) m e
+        ≡ useL1d (l1dSetOf a) w (stateIn (now (tags .entry)) (now (l1d .entry)) m e)) ⌝ }
 {
     tags::l1d_use(tags, i, w);
     memory::load(l1d, L1d::data_at(i, w) + L1d::offset_of(a), n)
@@ -49,8 +51,8 @@ pub fn read_way(tags: &mut [u32], i: usize, w: usize, a: u32, n: u32, l1d: &[u8]
 pub fn write_way(tags: &mut [u32], i: usize, w: usize, a: u32, n: u32, v: u64, l1d: &mut [u8])
     requires { ⌜ ((i < 128) × (w < 2)) × (length (now tags) ≡ recordWords) ⌝ }
     requires { ⌜ (i ≡ l1dSetOf a) × (sizeOk n ≡ true) ⌝ }
-    ensures { λ _. ⌜ ((m e : List ℕ) → state (recordIn (now (tags .exit))) (now (l1d .exit)) m e
-        ≡ useL1d (l1dSetOf a) w (putL1d w a (littleBytes v n) (state (recordIn (now (tags .entry))) (now (l1d .entry)) m e))) ⌝ }
+    ensures { λ _. ⌜ ((m e : List ℕ) → stateIn (now (tags .exit)) (now (l1d .exit)) m e
+        ≡ useL1d (l1dSetOf a) w (putL1d w a (littleBytes v n) (stateIn (now (tags .entry)) (now (l1d .entry)) m e))) ⌝ }
 {
     memory::store(l1d, L1d::data_at(i, w) + L1d::offset_of(a), n, v);
     let y = tags::l1d_line(tags, i, w);
@@ -62,10 +64,10 @@ pub fn write_way(tags: &mut [u32], i: usize, w: usize, a: u32, n: u32, v: u64, l
 pub fn hit(tags: &mut [u32], i: usize, w: usize, c: Command, l1d: &mut [u8]) -> u64
     requires { ⌜ ((i < 128) × (w < 2)) × (length (now tags) ≡ recordWords) ⌝ }
     requires { ⌜ (i ≡ l1dSetOf (c .second)) × (sizeOk (c .first) ≡ true) ⌝ }
-    ensures { λ r. ⌜ ((m e : List ℕ) → w ≡ l1dWay (state (recordIn (now (tags .entry))) (now (l1d .entry)) m e) (c .second) →
-        reply 0 1 r (state (recordIn (now (tags .exit))) (now (l1d .exit)) m e)
-        ≡ answered c (readHit (c .first) (c .second) (state (recordIn (now (tags .entry))) (now (l1d .entry)) m e))
-        (writeHit (c .second) (littleBytes (c .value) (c .first)) (state (recordIn (now (tags .entry))) (now (l1d .entry)) m e))) ⌝ }
+    ensures { λ r. ⌜ ((m e : List ℕ) → w ≡ l1dWay (stateIn (now (tags .entry)) (now (l1d .entry)) m e) (c .second) →
+        reply 0 1 r (stateIn (now (tags .exit)) (now (l1d .exit)) m e)
+        ≡ answered c (readHit (c .first) (c .second) (stateIn (now (tags .entry)) (now (l1d .entry)) m e))
+        (writeHit (c .second) (littleBytes (c .value) (c .first)) (stateIn (now (tags .entry)) (now (l1d .entry)) m e))) ⌝ }
 {
     if c.code == 1 {
         write_way(tags, i, w, c.second, c.first, c.value, l1d);
@@ -74,8 +76,8 @@ pub fn hit(tags: &mut [u32], i: usize, w: usize, c: Command, l1d: &mut [u8]) -> 
     read_way(tags, i, w, c.second, c.first, l1d)
 }
 
-// ---- a miss
-// A read miss chooses a way of L1D set i; a dirty line there is written back to its home and the way emptied. A write miss chooses none.
+// ---- a miss A read miss chooses a way of L1D set i; a dirty line there is written back to its home and the way
+// emptied. A write miss chooses none.
 pub fn free_way(
     tags: &mut [u32],
     sram: usize,
@@ -89,9 +91,9 @@ pub fn free_way(
     requires { ⌜ i < 128 ⌝ }
     requires { ⌜ Lent sram sets (now tags) ⌝ }
     ensures { λ r. ⌜ (r < 2) × (write ≡ false → r ≡ l1dVictim (l1dSetAt (recordIn (now (tags .entry))) i)) ⌝ }
-    ensures { λ _. ⌜ state (recordIn (now (tags .exit))) (now (l1d .entry)) (now (l2 .exit)) (now (ext .exit))
-        ≡ cond write (state (recordIn (now (tags .entry))) (now (l1d .entry)) (now (l2 .entry)) (now (ext .entry)))
-        (evictL1d i (l1dVictim (l1dSetAt (recordIn (now (tags .entry))) i)) (state (recordIn (now (tags .entry))) (now (l1d .entry)) (now (l2 .entry)) (now (ext .entry)))) ⌝ }
+    ensures { λ _. ⌜ stateIn (now (tags .exit)) (now (l1d .entry)) (now (l2 .exit)) (now (ext .exit))
+        ≡ cond write (stateIn (now (tags .entry)) (now (l1d .entry)) (now (l2 .entry)) (now (ext .entry)))
+        (evictL1d i (l1dVictim (l1dSetAt (recordIn (now (tags .entry))) i)) (stateIn (now (tags .entry)) (now (l1d .entry)) (now (l2 .entry)) (now (ext .entry)))) ⌝ }
 {
     if write {
         return 0;
@@ -114,9 +116,9 @@ pub fn miss(
 ) -> Answer
     requires { ⌜ (i < 128) × ((i ≡ l1dSetOf (c .second)) × (sizeOk (c .first) ≡ true)) ⌝ }
     requires { ⌜ Lent sram sets (now tags) ⌝ }
-    ensures { λ r. ⌜ reply (r .number) (r .server) (r .value) (state (recordIn (now (tags .exit))) (now (l1d .exit)) (now (l2 .exit)) (now (ext .exit)))
-        ≡ answered c (readMiss (c .first) (c .second) (state (recordIn (now (tags .entry))) (now (l1d .entry)) (now (l2 .entry)) (now (ext .entry))))
-        (writeMiss (c .second) (littleBytes (c .value) (c .first)) (state (recordIn (now (tags .entry))) (now (l1d .entry)) (now (l2 .entry)) (now (ext .entry)))) ⌝ }
+    ensures { λ r. ⌜ reply (r .number) (r .server) (r .value) (stateIn (now (tags .exit)) (now (l1d .exit)) (now (l2 .exit)) (now (ext .exit)))
+        ≡ answered c (readMiss (c .first) (c .second) (stateIn (now (tags .entry)) (now (l1d .entry)) (now (l2 .entry)) (now (ext .entry))))
+        (writeMiss (c .second) (littleBytes (c .value) (c .first)) (stateIn (now (tags .entry)) (now (l1d .entry)) (now (l2 .entry)) (now (ext .entry)))) ⌝ }
 {
     let write = c.code == 1;
     let w = free_way(tags, sram, sets, i, write, l1d, l2, ext);
@@ -138,8 +140,8 @@ pub fn miss(
     }
 }
 
-// ---- the whole
-// Both bits are read first: the tests then choose between values and not between loads, which the whole loop is faster for.
+// ---- the whole Both bits are read first: the tests then choose between values and not between loads, which the
+// whole loop is faster for.
 pub fn is_cacheable(tags: &[u32], a: u32) -> bool
     requires { ⌜ length (now tags) ≡ recordWords ⌝ }
     ensures { λ r. ⌜ r ≡ cacheable (recordIn (now (tags .entry))) a ⌝ }
@@ -191,8 +193,8 @@ pub fn access(
 ) -> Answer
     requires { ⌜ c .code < 2 ⌝ }
     requires { ⌜ Lent sram sets (now tags) ⌝ }
-    ensures { λ r. ⌜ reply (r .number) (r .server) (r .value) (state (recordIn (now (tags .exit))) (now (l1d .exit)) (now (l2 .exit)) (now (ext .exit)))
-        ≡ step c (state (recordIn (now (tags .entry))) (now (l1d .entry)) (now (l2 .entry)) (now (ext .entry))) ⌝ }
+    ensures { λ r. ⌜ reply (r .number) (r .server) (r .value) (stateIn (now (tags .exit)) (now (l1d .exit)) (now (l2 .exit)) (now (ext .exit)))
+        ≡ step c (stateIn (now (tags .entry)) (now (l1d .entry)) (now (l2 .entry)) (now (ext .entry))) ⌝ }
     ensures refused { λ r. ⌜ (r .number ≢ 0 → now (tags .exit) ≡ now (tags .entry)) ⌝ }
 {
     let due = refusals::access_due(

@@ -1,17 +1,17 @@
-// The calls for C. A record is the caller's own, lent where it stands: `c64x_record *` of include/c64x.h, seen as words. A lent memory is a pointer and a length.
-// None requires anything: every content of the record and of a memory, every length and every number meets a check. The contracts equate the answer, the record
-// that the words stand for and every lent byte with paper 01's definitions; a refused command changes no word.
+// The calls for C. A record is the caller's own, lent where it stands: `c64x_record *` of include/c64x.h, seen as
+// words. A lent memory is a pointer and a length. None requires anything: every content of the record and of a
+// memory, every length and every number meets a check. The contracts equate the answer, the record that the words
+// stand for and every lent byte with paper 01's definitions; a refused command changes no word.
 ghost use mathlib.Core.Logic.{_≢_};
 ghost use mathlib.Core.Path.{_≡_};
-ghost use Rattle.model.specs.Records.{state};
 ghost use Rattle.model.specs.Refusals.{lentDue, viewDue};
 ghost use Rattle.model.specs.Trace.{command};
-ghost use Rattle.model.specs.Calls.{reply, call, freshCall, ran, runCall};
+ghost use Rattle.model.specs.Calls.{reply, oneCommand, freshStart, called, ran, runCall};
 ghost use Rattle.model.specs.ShortRuns.{shortRunOf, shortRunNumber};
 ghost use Rattle.model.specs.Writing.{writeCommand};
 ghost use Rattle.trace_writer.specs.Told.{told};
 ghost use Rattle.short_runs.specs.Told.{toldRun, toldNumber};
-ghost use Rattle.tags.specs.Words.{recordIn};
+ghost use Rattle.tags.specs.Words.{recordIn, stateIn};
 ghost use Rattle.view.specs.Into.{seenAs, viewInto};
 use access::Answer;
 use calls::Ran;
@@ -29,8 +29,8 @@ pub extern "C" fn c64x_read(
     l2: &mut [u8],
     ext: &mut [u8],
 ) -> Answer
-    ensures { λ x. ⌜ reply (x .number) (x .server) (x .value) (state (recordIn (now (words .exit))) (now (l1d .exit)) (now (l2 .exit)) (now (ext .exit)))
-        ≡ call (command 0 size address 0) (state (recordIn (now (words .entry))) (now (l1d .entry)) (now (l2 .entry)) (now (ext .entry))) ⌝ }
+    ensures { λ x. ⌜ reply (x .number) (x .server) (x .value) (stateIn (now (words .exit)) (now (l1d .exit)) (now (l2 .exit)) (now (ext .exit)))
+        ≡ called (oneCommand (command 0 size address 0)) (stateIn (now (words .entry)) (now (l1d .entry)) (now (l2 .entry)) (now (ext .entry))) ⌝ }
     ensures refused { λ x. ⌜ (x .number ≢ 0 → now (words .exit) ≡ now (words .entry)) ⌝ }
 {
     calls::carry_out(words, 0, size, address, 0, l1d, l2, ext)
@@ -46,8 +46,8 @@ pub extern "C" fn c64x_write(
     l2: &mut [u8],
     ext: &mut [u8],
 ) -> Answer
-    ensures { λ x. ⌜ reply (x .number) (x .server) (x .value) (state (recordIn (now (words .exit))) (now (l1d .exit)) (now (l2 .exit)) (now (ext .exit)))
-        ≡ call (command 1 size address value) (state (recordIn (now (words .entry))) (now (l1d .entry)) (now (l2 .entry)) (now (ext .entry))) ⌝ }
+    ensures { λ x. ⌜ reply (x .number) (x .server) (x .value) (stateIn (now (words .exit)) (now (l1d .exit)) (now (l2 .exit)) (now (ext .exit)))
+        ≡ called (oneCommand (command 1 size address value)) (stateIn (now (words .entry)) (now (l1d .entry)) (now (l2 .entry)) (now (ext .entry))) ⌝ }
     ensures refused { λ x. ⌜ (x .number ≢ 0 → now (words .exit) ≡ now (words .entry)) ⌝ }
 {
     calls::carry_out(words, 1, size, address, value, l1d, l2, ext)
@@ -60,8 +60,8 @@ pub extern "C" fn c64x_l2_writeback_all(
     l2: &mut [u8],
     ext: &mut [u8],
 ) -> Answer
-    ensures { λ x. ⌜ reply (x .number) (x .server) (x .value) (state (recordIn (now (words .exit))) (now (l1d .exit)) (now (l2 .exit)) (now (ext .exit)))
-        ≡ call (command 2 0 0 0) (state (recordIn (now (words .entry))) (now (l1d .entry)) (now (l2 .entry)) (now (ext .entry))) ⌝ }
+    ensures { λ x. ⌜ reply (x .number) (x .server) (x .value) (stateIn (now (words .exit)) (now (l1d .exit)) (now (l2 .exit)) (now (ext .exit)))
+        ≡ called (oneCommand (command 2 0 0 0)) (stateIn (now (words .entry)) (now (l1d .entry)) (now (l2 .entry)) (now (ext .entry))) ⌝ }
     ensures refused { λ x. ⌜ (x .number ≢ 0 → now (words .exit) ≡ now (words .entry)) ⌝ }
 {
     calls::carry_out(words, 2, 0, 0, 0, l1d, l2, ext)
@@ -74,8 +74,8 @@ pub extern "C" fn c64x_l2_writeback_invalidate_all(
     l2: &mut [u8],
     ext: &mut [u8],
 ) -> Answer
-    ensures { λ x. ⌜ reply (x .number) (x .server) (x .value) (state (recordIn (now (words .exit))) (now (l1d .exit)) (now (l2 .exit)) (now (ext .exit)))
-        ≡ call (command 3 0 0 0) (state (recordIn (now (words .entry))) (now (l1d .entry)) (now (l2 .entry)) (now (ext .entry))) ⌝ }
+    ensures { λ x. ⌜ reply (x .number) (x .server) (x .value) (stateIn (now (words .exit)) (now (l1d .exit)) (now (l2 .exit)) (now (ext .exit)))
+        ≡ called (oneCommand (command 3 0 0 0)) (stateIn (now (words .entry)) (now (l1d .entry)) (now (l2 .entry)) (now (ext .entry))) ⌝ }
     ensures refused { λ x. ⌜ (x .number ≢ 0 → now (words .exit) ≡ now (words .entry)) ⌝ }
 {
     calls::carry_out(words, 3, 0, 0, 0, l1d, l2, ext)
@@ -90,8 +90,8 @@ pub extern "C" fn c64x_l2_writeback_block(
     l2: &mut [u8],
     ext: &mut [u8],
 ) -> Answer
-    ensures { λ x. ⌜ reply (x .number) (x .server) (x .value) (state (recordIn (now (words .exit))) (now (l1d .exit)) (now (l2 .exit)) (now (ext .exit)))
-        ≡ call (command 4 base count 0) (state (recordIn (now (words .entry))) (now (l1d .entry)) (now (l2 .entry)) (now (ext .entry))) ⌝ }
+    ensures { λ x. ⌜ reply (x .number) (x .server) (x .value) (stateIn (now (words .exit)) (now (l1d .exit)) (now (l2 .exit)) (now (ext .exit)))
+        ≡ called (oneCommand (command 4 base count 0)) (stateIn (now (words .entry)) (now (l1d .entry)) (now (l2 .entry)) (now (ext .entry))) ⌝ }
     ensures refused { λ x. ⌜ (x .number ≢ 0 → now (words .exit) ≡ now (words .entry)) ⌝ }
 {
     calls::carry_out(words, 4, base, count, 0, l1d, l2, ext)
@@ -106,8 +106,8 @@ pub extern "C" fn c64x_l2_writeback_invalidate_block(
     l2: &mut [u8],
     ext: &mut [u8],
 ) -> Answer
-    ensures { λ x. ⌜ reply (x .number) (x .server) (x .value) (state (recordIn (now (words .exit))) (now (l1d .exit)) (now (l2 .exit)) (now (ext .exit)))
-        ≡ call (command 5 base count 0) (state (recordIn (now (words .entry))) (now (l1d .entry)) (now (l2 .entry)) (now (ext .entry))) ⌝ }
+    ensures { λ x. ⌜ reply (x .number) (x .server) (x .value) (stateIn (now (words .exit)) (now (l1d .exit)) (now (l2 .exit)) (now (ext .exit)))
+        ≡ called (oneCommand (command 5 base count 0)) (stateIn (now (words .entry)) (now (l1d .entry)) (now (l2 .entry)) (now (ext .entry))) ⌝ }
     ensures refused { λ x. ⌜ (x .number ≢ 0 → now (words .exit) ≡ now (words .entry)) ⌝ }
 {
     calls::carry_out(words, 5, base, count, 0, l1d, l2, ext)
@@ -122,8 +122,8 @@ pub extern "C" fn c64x_l2_invalidate_block(
     l2: &mut [u8],
     ext: &mut [u8],
 ) -> Answer
-    ensures { λ x. ⌜ reply (x .number) (x .server) (x .value) (state (recordIn (now (words .exit))) (now (l1d .exit)) (now (l2 .exit)) (now (ext .exit)))
-        ≡ call (command 6 base count 0) (state (recordIn (now (words .entry))) (now (l1d .entry)) (now (l2 .entry)) (now (ext .entry))) ⌝ }
+    ensures { λ x. ⌜ reply (x .number) (x .server) (x .value) (stateIn (now (words .exit)) (now (l1d .exit)) (now (l2 .exit)) (now (ext .exit)))
+        ≡ called (oneCommand (command 6 base count 0)) (stateIn (now (words .entry)) (now (l1d .entry)) (now (l2 .entry)) (now (ext .entry))) ⌝ }
     ensures refused { λ x. ⌜ (x .number ≢ 0 → now (words .exit) ≡ now (words .entry)) ⌝ }
 {
     calls::carry_out(words, 6, base, count, 0, l1d, l2, ext)
@@ -138,8 +138,8 @@ pub extern "C" fn c64x_l1d_writeback_invalidate_block(
     l2: &mut [u8],
     ext: &mut [u8],
 ) -> Answer
-    ensures { λ x. ⌜ reply (x .number) (x .server) (x .value) (state (recordIn (now (words .exit))) (now (l1d .exit)) (now (l2 .exit)) (now (ext .exit)))
-        ≡ call (command 7 base count 0) (state (recordIn (now (words .entry))) (now (l1d .entry)) (now (l2 .entry)) (now (ext .entry))) ⌝ }
+    ensures { λ x. ⌜ reply (x .number) (x .server) (x .value) (stateIn (now (words .exit)) (now (l1d .exit)) (now (l2 .exit)) (now (ext .exit)))
+        ≡ called (oneCommand (command 7 base count 0)) (stateIn (now (words .entry)) (now (l1d .entry)) (now (l2 .entry)) (now (ext .entry))) ⌝ }
     ensures refused { λ x. ⌜ (x .number ≢ 0 → now (words .exit) ≡ now (words .entry)) ⌝ }
 {
     calls::carry_out(words, 7, base, count, 0, l1d, l2, ext)
@@ -154,8 +154,8 @@ pub extern "C" fn c64x_l1d_invalidate_block(
     l2: &mut [u8],
     ext: &mut [u8],
 ) -> Answer
-    ensures { λ x. ⌜ reply (x .number) (x .server) (x .value) (state (recordIn (now (words .exit))) (now (l1d .exit)) (now (l2 .exit)) (now (ext .exit)))
-        ≡ call (command 8 base count 0) (state (recordIn (now (words .entry))) (now (l1d .entry)) (now (l2 .entry)) (now (ext .entry))) ⌝ }
+    ensures { λ x. ⌜ reply (x .number) (x .server) (x .value) (stateIn (now (words .exit)) (now (l1d .exit)) (now (l2 .exit)) (now (ext .exit)))
+        ≡ called (oneCommand (command 8 base count 0)) (stateIn (now (words .entry)) (now (l1d .entry)) (now (l2 .entry)) (now (ext .entry))) ⌝ }
     ensures refused { λ x. ⌜ (x .number ≢ 0 → now (words .exit) ≡ now (words .entry)) ⌝ }
 {
     calls::carry_out(words, 8, base, count, 0, l1d, l2, ext)
@@ -168,8 +168,8 @@ pub extern "C" fn c64x_l1d_invalidate_all(
     l2: &mut [u8],
     ext: &mut [u8],
 ) -> Answer
-    ensures { λ x. ⌜ reply (x .number) (x .server) (x .value) (state (recordIn (now (words .exit))) (now (l1d .exit)) (now (l2 .exit)) (now (ext .exit)))
-        ≡ call (command 9 0 0 0) (state (recordIn (now (words .entry))) (now (l1d .entry)) (now (l2 .entry)) (now (ext .entry))) ⌝ }
+    ensures { λ x. ⌜ reply (x .number) (x .server) (x .value) (stateIn (now (words .exit)) (now (l1d .exit)) (now (l2 .exit)) (now (ext .exit)))
+        ≡ called (oneCommand (command 9 0 0 0)) (stateIn (now (words .entry)) (now (l1d .entry)) (now (l2 .entry)) (now (ext .entry))) ⌝ }
     ensures refused { λ x. ⌜ (x .number ≢ 0 → now (words .exit) ≡ now (words .entry)) ⌝ }
 {
     calls::carry_out(words, 9, 0, 0, 0, l1d, l2, ext)
@@ -183,8 +183,8 @@ pub extern "C" fn c64x_change_mode(
     l2: &mut [u8],
     ext: &mut [u8],
 ) -> Answer
-    ensures { λ x. ⌜ reply (x .number) (x .server) (x .value) (state (recordIn (now (words .exit))) (now (l1d .exit)) (now (l2 .exit)) (now (ext .exit)))
-        ≡ call (command 10 mode 0 0) (state (recordIn (now (words .entry))) (now (l1d .entry)) (now (l2 .entry)) (now (ext .entry))) ⌝ }
+    ensures { λ x. ⌜ reply (x .number) (x .server) (x .value) (stateIn (now (words .exit)) (now (l1d .exit)) (now (l2 .exit)) (now (ext .exit)))
+        ≡ called (oneCommand (command 10 mode 0 0)) (stateIn (now (words .entry)) (now (l1d .entry)) (now (l2 .entry)) (now (ext .entry))) ⌝ }
     ensures refused { λ x. ⌜ (x .number ≢ 0 → now (words .exit) ≡ now (words .entry)) ⌝ }
 {
     calls::carry_out(words, 10, mode, 0, 0, l1d, l2, ext)
@@ -199,8 +199,8 @@ pub extern "C" fn c64x_change_mar(
     l2: &mut [u8],
     ext: &mut [u8],
 ) -> Answer
-    ensures { λ x. ⌜ reply (x .number) (x .server) (x .value) (state (recordIn (now (words .exit))) (now (l1d .exit)) (now (l2 .exit)) (now (ext .exit)))
-        ≡ call (command 11 mar bit 0) (state (recordIn (now (words .entry))) (now (l1d .entry)) (now (l2 .entry)) (now (ext .entry))) ⌝ }
+    ensures { λ x. ⌜ reply (x .number) (x .server) (x .value) (stateIn (now (words .exit)) (now (l1d .exit)) (now (l2 .exit)) (now (ext .exit)))
+        ≡ called (oneCommand (command 11 mar bit 0)) (stateIn (now (words .entry)) (now (l1d .entry)) (now (l2 .entry)) (now (ext .entry))) ⌝ }
     ensures refused { λ x. ⌜ (x .number ≢ 0 → now (words .exit) ≡ now (words .entry)) ⌝ }
 {
     calls::carry_out(words, 11, mar, bit, 0, l1d, l2, ext)
@@ -213,8 +213,8 @@ pub extern "C" fn c64x_fresh(
     l2: &mut [u8],
     ext: &mut [u8],
 ) -> Answer
-    ensures { λ x. ⌜ reply (x .number) (x .server) (x .value) (state (recordIn (now (words .exit))) (now (l1d .exit)) (now (l2 .exit)) (now (ext .exit)))
-        ≡ freshCall (now (l1d .entry)) (now (l2 .entry)) (now (ext .entry)) ⌝ }
+    ensures { λ x. ⌜ reply (x .number) (x .server) (x .value) (stateIn (now (words .exit)) (now (l1d .exit)) (now (l2 .exit)) (now (ext .exit)))
+        ≡ called freshStart (stateIn (now (words .entry)) (now (l1d .entry)) (now (l2 .entry)) (now (ext .entry))) ⌝ }
 {
     calls::fresh(words, l1d, l2, ext)
 }
@@ -228,9 +228,10 @@ pub extern "C" fn c64x_run(
     ext: &mut [u8],
     answers: &mut [u8],
 ) -> Ran
-    ensures { λ x. ⌜ ran (state (recordIn (now (words .exit))) (now (l1d .exit)) (now (l2 .exit)) (now (ext .exit))) (x .consumed) (x .count) (x .stop) (now (answers .exit))
-        ≡ runCall (now (trace .entry)) (now (answers .entry)) (state (recordIn (now (words .entry))) (now (l1d .entry)) (now (l2 .entry)) (now (ext .entry))) ⌝ }
-    ensures refused { λ _. ⌜ (lentDue (state (recordIn (now (words .entry))) (now (l1d .entry)) (now (l2 .entry)) (now (ext .entry))) ≢ 0 → now (words .exit) ≡ now (words .entry)) ⌝ }
+    ensures { λ x. ⌜ ran (stateIn (now (words .exit)) (now (l1d .exit)) (now (l2 .exit)) (now (ext .exit))) (x .consumed) (x .count) (x .stop) (now (answers .exit))
+        ≡ runCall (now (trace .entry)) (now (answers .entry)) (stateIn (now (words .entry)) (now (l1d .entry)) (now (l2 .entry)) (now (ext .entry))) ⌝ }
+    ensures refused { λ _. ⌜ (lentDue (stateIn (now (words .entry)) (now (l1d .entry)) (now (l2 .entry)) (now (ext .entry))) ≢ 0 → now (words .exit)
+        ≡ now (words .entry)) ⌝ }
 {
     calls::run_trace(words, trace, l1d, l2, ext, answers)
 }
@@ -271,7 +272,8 @@ pub extern "C" fn c64x_short_run_number(digits: &[u8]) -> RunNumber
     short_runs::number_of(digits)
 }
 
-// ---- beside the chip: writing traces (02, U7). One command behind a point of a lent output; a write has its size first, its address second.
+// ---- beside the chip: writing traces (02, U7). One command behind a point of a lent output; a write has its size
+// first, its address second.
 #[no_mangle]
 pub extern "C" fn c64x_put_command(
     out: &mut [u8],
@@ -281,7 +283,8 @@ pub extern "C" fn c64x_put_command(
     second: u64,
     value: u64,
 ) -> Put
-    ensures { λ r. ⌜ told r (now (out .exit)) ≡ writeCommand (now (out .entry)) at (command code first second value) ⌝ }
+    ensures { λ r. ⌜ told r (now (out .exit))
+        ≡ writeCommand (now (out .entry)) at (command code first second value) ⌝ }
 {
     trace_writer::put_command(out, at, code, first, second, value)
 }

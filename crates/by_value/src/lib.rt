@@ -1,16 +1,18 @@
-// The exported calls of paper 01 in Rattle. The record goes in and comes back by value, with its sets in arrays of set structs; each call puts it into words,
-// makes the call on the words, and takes it out again. None requires anything. The contracts equate the answer, the record and every lent byte with paper 01's
-// definitions (model/specs/Calls).
+// The exported calls of paper 01 in Rattle. The record goes in and comes back by value, with its sets in arrays of
+// set structs; each call puts it into words, makes the call on the words, and takes it out again. None requires
+// anything. The contracts equate the answer, the record and every lent byte with paper 01's definitions
+// (model/specs/Calls).
 ghost use mathlib.Core.Path.{_≡_};
 ghost use Rattle.model.specs.Records.{state};
 ghost use Rattle.model.specs.Refusals.{viewDue};
 ghost use Rattle.model.specs.Trace.{command};
-ghost use Rattle.model.specs.Calls.{call, freshCall, runCall, viewCall};
+ghost use Rattle.model.specs.Calls.{oneCommand, called, freshCall, runCall, viewCall};
 ghost use Rattle.by_value.specs.Called.{calledAs, ranAs};
 use model::Record;
 use tags::WORDS;
 
-// What a call returns: the number of its refusal (0: accepted), the server and the value of an access, and the record after it.
+// What a call returns: the number of its refusal (0: accepted), the server and the value of an access, and the record
+// after it.
 pub struct Called {
     pub number: u8,
     pub server: u8,
@@ -18,7 +20,8 @@ pub struct Called {
     pub record: Record,
 }
 
-// What a run returns: the record, the bytes of the trace that were consumed, the count of answers, and why it stopped (0: at the end).
+// What a run returns: the record, the bytes of the trace that were consumed, the count of answers, and why it stopped
+// (0: at the end).
 pub struct RunResult {
     pub record: Record,
     pub consumed: usize,
@@ -38,7 +41,7 @@ pub fn one_command(
     ext: &mut [u8],
 ) -> Called
     ensures { λ x. ⌜ calledAs x (now (l1d .exit)) (now (l2 .exit)) (now (ext .exit))
-        ≡ call (command code first second value) (state r (now (l1d .entry)) (now (l2 .entry)) (now (ext .entry))) ⌝ }
+        ≡ called (oneCommand (command code first second value)) (state r (now (l1d .entry)) (now (l2 .entry)) (now (ext .entry))) ⌝ }
 {
     let mut tags = [0u32; WORDS];
     packing::pack(r, &mut tags);
@@ -109,151 +112,4 @@ pub fn view_number(r: Record, l2: &[u8], ext: &[u8], address: u32) -> u8
     let mut tags = [0u32; WORDS];
     packing::pack(r, &mut tags);
     view::view_due(&tags, l2, ext, address)
-}
-
-// ---- each command as a call of its own: its operands in the places that the definitions give them, and 0 in those that the command does not have
-pub fn read(
-    r: Record,
-    size: u32,
-    address: u32,
-    l1d: &mut [u8],
-    l2: &mut [u8],
-    ext: &mut [u8],
-) -> Called
-    ensures { λ x. ⌜ calledAs x (now (l1d .exit)) (now (l2 .exit)) (now (ext .exit))
-        ≡ call (command 0 size address 0) (state r (now (l1d .entry)) (now (l2 .entry)) (now (ext .entry))) ⌝ }
-{
-    one_command(r, 0, size, address, 0, l1d, l2, ext)
-}
-
-pub fn write(
-    r: Record,
-    size: u32,
-    address: u32,
-    value: u64,
-    l1d: &mut [u8],
-    l2: &mut [u8],
-    ext: &mut [u8],
-) -> Called
-    ensures { λ x. ⌜ calledAs x (now (l1d .exit)) (now (l2 .exit)) (now (ext .exit))
-        ≡ call (command 1 size address value) (state r (now (l1d .entry)) (now (l2 .entry)) (now (ext .entry))) ⌝ }
-{
-    one_command(r, 1, size, address, value, l1d, l2, ext)
-}
-
-pub fn l2_writeback_all(r: Record, l1d: &mut [u8], l2: &mut [u8], ext: &mut [u8]) -> Called
-    ensures { λ x. ⌜ calledAs x (now (l1d .exit)) (now (l2 .exit)) (now (ext .exit))
-        ≡ call (command 2 0 0 0) (state r (now (l1d .entry)) (now (l2 .entry)) (now (ext .entry))) ⌝ }
-{
-    one_command(r, 2, 0, 0, 0, l1d, l2, ext)
-}
-
-pub fn l2_writeback_invalidate_all(
-    r: Record,
-    l1d: &mut [u8],
-    l2: &mut [u8],
-    ext: &mut [u8],
-) -> Called
-    ensures { λ x. ⌜ calledAs x (now (l1d .exit)) (now (l2 .exit)) (now (ext .exit))
-        ≡ call (command 3 0 0 0) (state r (now (l1d .entry)) (now (l2 .entry)) (now (ext .entry))) ⌝ }
-{
-    one_command(r, 3, 0, 0, 0, l1d, l2, ext)
-}
-
-pub fn l2_writeback_block(
-    r: Record,
-    base: u32,
-    count: u32,
-    l1d: &mut [u8],
-    l2: &mut [u8],
-    ext: &mut [u8],
-) -> Called
-    ensures { λ x. ⌜ calledAs x (now (l1d .exit)) (now (l2 .exit)) (now (ext .exit))
-        ≡ call (command 4 base count 0) (state r (now (l1d .entry)) (now (l2 .entry)) (now (ext .entry))) ⌝ }
-{
-    one_command(r, 4, base, count, 0, l1d, l2, ext)
-}
-
-pub fn l2_writeback_invalidate_block(
-    r: Record,
-    base: u32,
-    count: u32,
-    l1d: &mut [u8],
-    l2: &mut [u8],
-    ext: &mut [u8],
-) -> Called
-    ensures { λ x. ⌜ calledAs x (now (l1d .exit)) (now (l2 .exit)) (now (ext .exit))
-        ≡ call (command 5 base count 0) (state r (now (l1d .entry)) (now (l2 .entry)) (now (ext .entry))) ⌝ }
-{
-    one_command(r, 5, base, count, 0, l1d, l2, ext)
-}
-
-pub fn l2_invalidate_block(
-    r: Record,
-    base: u32,
-    count: u32,
-    l1d: &mut [u8],
-    l2: &mut [u8],
-    ext: &mut [u8],
-) -> Called
-    ensures { λ x. ⌜ calledAs x (now (l1d .exit)) (now (l2 .exit)) (now (ext .exit))
-        ≡ call (command 6 base count 0) (state r (now (l1d .entry)) (now (l2 .entry)) (now (ext .entry))) ⌝ }
-{
-    one_command(r, 6, base, count, 0, l1d, l2, ext)
-}
-
-pub fn l1d_writeback_invalidate_block(
-    r: Record,
-    base: u32,
-    count: u32,
-    l1d: &mut [u8],
-    l2: &mut [u8],
-    ext: &mut [u8],
-) -> Called
-    ensures { λ x. ⌜ calledAs x (now (l1d .exit)) (now (l2 .exit)) (now (ext .exit))
-        ≡ call (command 7 base count 0) (state r (now (l1d .entry)) (now (l2 .entry)) (now (ext .entry))) ⌝ }
-{
-    one_command(r, 7, base, count, 0, l1d, l2, ext)
-}
-
-pub fn l1d_invalidate_block(
-    r: Record,
-    base: u32,
-    count: u32,
-    l1d: &mut [u8],
-    l2: &mut [u8],
-    ext: &mut [u8],
-) -> Called
-    ensures { λ x. ⌜ calledAs x (now (l1d .exit)) (now (l2 .exit)) (now (ext .exit))
-        ≡ call (command 8 base count 0) (state r (now (l1d .entry)) (now (l2 .entry)) (now (ext .entry))) ⌝ }
-{
-    one_command(r, 8, base, count, 0, l1d, l2, ext)
-}
-
-pub fn l1d_invalidate_all(r: Record, l1d: &mut [u8], l2: &mut [u8], ext: &mut [u8]) -> Called
-    ensures { λ x. ⌜ calledAs x (now (l1d .exit)) (now (l2 .exit)) (now (ext .exit))
-        ≡ call (command 9 0 0 0) (state r (now (l1d .entry)) (now (l2 .entry)) (now (ext .entry))) ⌝ }
-{
-    one_command(r, 9, 0, 0, 0, l1d, l2, ext)
-}
-
-pub fn change_mode(r: Record, mode: u32, l1d: &mut [u8], l2: &mut [u8], ext: &mut [u8]) -> Called
-    ensures { λ x. ⌜ calledAs x (now (l1d .exit)) (now (l2 .exit)) (now (ext .exit))
-        ≡ call (command 10 mode 0 0) (state r (now (l1d .entry)) (now (l2 .entry)) (now (ext .entry))) ⌝ }
-{
-    one_command(r, 10, mode, 0, 0, l1d, l2, ext)
-}
-
-pub fn change_mar(
-    r: Record,
-    mar: u32,
-    bit: u32,
-    l1d: &mut [u8],
-    l2: &mut [u8],
-    ext: &mut [u8],
-) -> Called
-    ensures { λ x. ⌜ calledAs x (now (l1d .exit)) (now (l2 .exit)) (now (ext .exit))
-        ≡ call (command 11 mar bit 0) (state r (now (l1d .entry)) (now (l2 .entry)) (now (ext .entry))) ⌝ }
-{
-    one_command(r, 11, mar, bit, 0, l1d, l2, ext)
 }

@@ -57,7 +57,8 @@ pub data AgreeFromC : ℕ → (cs : List Call) (h : Held) → Chain cs h → Fla
       SameAt mode c x k f → AgreeFromC (modeAfter c (replyOf x k) mode) cs k r (flatCalled c f .next) →
       AgreeFromC mode (c ∷ cs) h (made x k p r) f
 
--- ---- demand 3 for what C links: from an accepted fresh start, whatever words and bytes were lent to it, for every list
+-- ---- demand 3 for what C links: from an accepted fresh start, whatever words and bytes were lent to it, for every
+-- list
 abbrev pub Demand3FromC : Type 0
 Demand3FromC =
     (d m e : List ℕ) (x : Answered) (h : Held) → replyOf x h ≡ freshCall d m e → x .number ≡ 0 →

@@ -1,4 +1,5 @@
--- The checks followed by the loop are the calls of paper 01: refused by check 1 or 2 with all as it was, or the step of the one command, or the run.
+-- The checks followed by the loop are the calls of paper 01: refused by check 1 or 2 with all as it was, or the step
+-- of the one command, or the run.
 use Prim.Native.Nat.{ℕ}
 use mathlib.Core.List.{List}
 use mathlib.Core.Path.{_≡_, refl, sym, _∙_}

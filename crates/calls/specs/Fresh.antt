@@ -1,4 +1,5 @@
--- A fresh start as the code makes it is that of paper 01: both memories cleared from their first byte on, or all as it was.
+-- A fresh start as the code makes it is that of paper 01: both memories cleared from their first byte on, or all as
+-- it was.
 use Prim.Native.Nat.{ℕ, _-_, _%_, _≤_}
 use mathlib.Core.Bool.{true, false, _&&_}
 use mathlib.Core.List.{List}

@@ -1,14 +1,14 @@
-// The calls of paper 01 on a record that is lent as words: the fresh start, any command, the run over a trace. Every content of the words, every number that a
-// caller can pass and every length of a lent buffer meets a check, and a refused call leaves every word and every byte as it was. The contracts equate the
-// answer, the record and every lent byte with paper 01's definitions (model/specs/Calls).
+// The calls of paper 01 on a record that is lent as words: the fresh start, any command, the run over a trace. Every
+// content of the words, every number that a caller can pass and every length of a lent buffer meets a check, and a
+// refused call leaves every word and every byte as it was. The contracts equate the answer, the record and every lent
+// byte with paper 01's definitions (model/specs/Calls).
 ghost use mathlib.Core.Logic.{_≢_};
 ghost use mathlib.Core.Path.{_≡_};
 ghost use lib.ListN.{length};
-ghost use Rattle.model.specs.Records.{state};
 ghost use Rattle.model.specs.Refusals.{lentDue};
 ghost use Rattle.model.specs.Trace.{command};
-ghost use Rattle.model.specs.Calls.{reply, call, freshOk, freshCall, ran, runCall};
-ghost use Rattle.tags.specs.Words.{recordWords, recordIn};
+ghost use Rattle.model.specs.Calls.{reply, oneCommand, freshStart, called, freshOk, ran, runCall};
+ghost use Rattle.tags.specs.Words.{recordWords, stateIn};
 use access::Answer;
 use geometry::L1d;
 use geometry::L2;
@@ -54,8 +54,8 @@ pub fn carry_out(
     ext: &mut [u8],
 ) -> Answer
     requires { ⌜ length (now tags) ≡ recordWords ⌝ }
-    ensures { λ x. ⌜ reply (x .number) (x .server) (x .value) (state (recordIn (now (tags .exit))) (now (l1d .exit)) (now (l2 .exit)) (now (ext .exit)))
-        ≡ call (command code first second value) (state (recordIn (now (tags .entry))) (now (l1d .entry)) (now (l2 .entry)) (now (ext .entry))) ⌝ }
+    ensures { λ x. ⌜ reply (x .number) (x .server) (x .value) (stateIn (now (tags .exit)) (now (l1d .exit)) (now (l2 .exit)) (now (ext .exit)))
+        ≡ called (oneCommand (command code first second value)) (stateIn (now (tags .entry)) (now (l1d .entry)) (now (l2 .entry)) (now (ext .entry))) ⌝ }
     ensures refused { λ x. ⌜ (x .number ≢ 0 → now (tags .exit) ≡ now (tags .entry)) ⌝ }
 {
     let due = record_check::lent_due(tags, l1d, l2, ext);
@@ -84,8 +84,8 @@ fn fresh_ok(l1d: &[u8], l2: &[u8], ext: &[u8]) -> bool
 // A fresh start: L and E are the lengths that are lent. What the words held before is not looked at.
 pub fn fresh(tags: &mut [u32], l1d: &mut [u8], l2: &mut [u8], ext: &mut [u8]) -> Answer
     requires { ⌜ length (now tags) ≡ recordWords ⌝ }
-    ensures { λ x. ⌜ reply (x .number) (x .server) (x .value) (state (recordIn (now (tags .exit))) (now (l1d .exit)) (now (l2 .exit)) (now (ext .exit)))
-        ≡ freshCall (now (l1d .entry)) (now (l2 .entry)) (now (ext .entry)) ⌝ }
+    ensures { λ x. ⌜ reply (x .number) (x .server) (x .value) (stateIn (now (tags .exit)) (now (l1d .exit)) (now (l2 .exit)) (now (ext .exit)))
+        ≡ called freshStart (stateIn (now (tags .entry)) (now (l1d .entry)) (now (l2 .entry)) (now (ext .entry))) ⌝ }
 {
     if !fresh_ok(l1d, l2, ext) {
         packing::write_fresh(tags, SMALLEST_L2, SMALLEST_EXTERNAL);
@@ -99,7 +99,8 @@ pub fn fresh(tags: &mut [u32], l1d: &mut [u8], l2: &mut [u8], ext: &mut [u8]) ->
     numbered(0)
 }
 
-// What a run returns: the bytes of the trace that were consumed, the count of answers, and why it stopped (0: at the end). C is given it as it stands.
+// What a run returns: the bytes of the trace that were consumed, the count of answers, and why it stopped (0: at the
+// end). C is given it as it stands.
 #[repr(C)]
 pub struct Ran {
     pub consumed: usize,
@@ -117,9 +118,10 @@ pub fn run_trace(
     answers: &mut [u8],
 ) -> Ran
     requires { ⌜ length (now tags) ≡ recordWords ⌝ }
-    ensures { λ x. ⌜ ran (state (recordIn (now (tags .exit))) (now (l1d .exit)) (now (l2 .exit)) (now (ext .exit))) (x .consumed) (x .count) (x .stop) (now (answers .exit))
-        ≡ runCall (now (trace .entry)) (now (answers .entry)) (state (recordIn (now (tags .entry))) (now (l1d .entry)) (now (l2 .entry)) (now (ext .entry))) ⌝ }
-    ensures refused { λ _. ⌜ (lentDue (state (recordIn (now (tags .entry))) (now (l1d .entry)) (now (l2 .entry)) (now (ext .entry))) ≢ 0 → now (tags .exit) ≡ now (tags .entry)) ⌝ }
+    ensures { λ x. ⌜ ran (stateIn (now (tags .exit)) (now (l1d .exit)) (now (l2 .exit)) (now (ext .exit))) (x .consumed) (x .count) (x .stop) (now (answers .exit))
+        ≡ runCall (now (trace .entry)) (now (answers .entry)) (stateIn (now (tags .entry)) (now (l1d .entry)) (now (l2 .entry)) (now (ext .entry))) ⌝ }
+    ensures refused { λ _. ⌜ (lentDue (stateIn (now (tags .entry)) (now (l1d .entry)) (now (l2 .entry)) (now (ext .entry))) ≢ 0 → now (tags .exit)
+        ≡ now (tags .entry)) ⌝ }
 {
     let due = record_check::lent_due(tags, l1d, l2, ext);
     if due != 0 {

@@ -1,4 +1,5 @@
--- Every command that is neither a read nor a write, by its code: the number due, the state after it, and both together as a step of paper 01.
+-- Every command that is neither a read nor a write, by its code: the number due, the state after it, and both
+-- together as a step of paper 01.
 use Prim.Native.Nat.{ℕ, suc, _/_, _%_, _≤_, _<_}
 use mathlib.Core.Bool.{false, not, _&&_, _||_}
 use mathlib.Core.Path.{_≡_, refl, sym, ap, _∙_}

@@ -1,5 +1,5 @@
-// Every command that is neither a read nor a write, on lent words: the number due (`commandDue` of paper 01's definitions), what an accepted one does
-// (`commandState`), and both together (`step`).
+// Every command that is neither a read nor a write, on lent words: the number due (`commandDue` of paper 01's
+// definitions), what an accepted one does (`commandState`), and both together (`step`).
 ghost use mathlib.Core.Logic.{_≢_};
 ghost use mathlib.Core.Path.{_≡_};
 ghost use mathlib.Core.List.{List};
@@ -7,14 +7,14 @@ ghost use Prim.Native.Nat.{ℕ, _<_, _≤_};
 ghost use lib.ListN.{length};
 ghost use Rattle.model.specs.Records.{state};
 ghost use Rattle.model.specs.Calls.{reply, commandDue, commandState, step};
-ghost use Rattle.tags.specs.Words.{recordWords, recordIn};
+ghost use Rattle.tags.specs.Words.{recordWords, recordIn, stateIn};
 ghost use Rattle.tags.specs.Sizes.{Lent};
 use model::Command;
 
 // The number that is due, 0 where none is; the memories, whatever they are, do not matter.
 pub fn command_due(tags: &[u32], c: Command) -> u8
     requires { ⌜ (2 ≤ c .code) × (length (now tags) ≡ recordWords) ⌝ }
-    ensures { λ n. ⌜ ((d m e : List ℕ) → n ≡ commandDue c (state (recordIn (now (tags .entry))) d m e)) ⌝ }
+    ensures { λ n. ⌜ ((d m e : List ℕ) → n ≡ commandDue c (stateIn (now (tags .entry)) d m e)) ⌝ }
 {
     if c.code < 4 {
         return 0;
@@ -46,7 +46,8 @@ pub fn sweep(
 )
     requires { ⌜ (2 ≤ c .code) × (c .code < 10) ⌝ }
     requires { ⌜ Lent sram sets (now tags) ⌝ }
-    ensures { λ _. ⌜ state (recordIn (now (tags .exit))) (now (l1d .entry)) (now (l2 .exit)) (now (ext .exit)) ≡ commandState c (state (recordIn (now (tags .entry))) (now (l1d .entry)) (now (l2 .entry)) (now (ext .entry))) ⌝ }
+    ensures { λ _. ⌜ stateIn (now (tags .exit)) (now (l1d .entry)) (now (l2 .exit)) (now (ext .exit))
+        ≡ commandState c (stateIn (now (tags .entry)) (now (l1d .entry)) (now (l2 .entry)) (now (ext .entry))) ⌝ }
 {
     if c.code < 4 {
         l2_commands::l2_all(tags, sram, sets, c.code, l1d, l2, ext);
@@ -75,7 +76,8 @@ pub fn change(
 )
     requires { ⌜ (10 ≤ c .code) × ((d m e : List ℕ) → commandDue c (state (recordIn (now tags)) d m e) ≡ 0) ⌝ }
     requires { ⌜ Lent sram sets (now tags) ⌝ }
-    ensures { λ _. ⌜ state (recordIn (now (tags .exit))) (now (l1d .entry)) (now (l2 .exit)) (now (ext .exit)) ≡ commandState c (state (recordIn (now (tags .entry))) (now (l1d .entry)) (now (l2 .entry)) (now (ext .entry))) ⌝ }
+    ensures { λ _. ⌜ stateIn (now (tags .exit)) (now (l1d .entry)) (now (l2 .exit)) (now (ext .exit))
+        ≡ commandState c (stateIn (now (tags .entry)) (now (l1d .entry)) (now (l2 .entry)) (now (ext .entry))) ⌝ }
 {
     if c.code == 10 {
         modes::change_mode(tags, sram, sets, c.first as u8, l1d, l2, ext);
@@ -96,7 +98,8 @@ pub fn execute(
 ) -> u8
     requires { ⌜ 2 ≤ c .code ⌝ }
     requires { ⌜ Lent sram sets (now tags) ⌝ }
-    ensures { λ n. ⌜ reply n 0 0 (state (recordIn (now (tags .exit))) (now (l1d .entry)) (now (l2 .exit)) (now (ext .exit))) ≡ step c (state (recordIn (now (tags .entry))) (now (l1d .entry)) (now (l2 .entry)) (now (ext .entry))) ⌝ }
+    ensures { λ n. ⌜ reply n 0 0 (stateIn (now (tags .exit)) (now (l1d .entry)) (now (l2 .exit)) (now (ext .exit)))
+        ≡ step c (stateIn (now (tags .entry)) (now (l1d .entry)) (now (l2 .entry)) (now (ext .entry))) ⌝ }
     ensures refused { λ n. ⌜ (n ≢ 0 → now (tags .exit) ≡ now (tags .entry)) ⌝ }
 {
     let due = command_due(tags, c);

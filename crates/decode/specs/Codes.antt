@@ -1,5 +1,6 @@
--- The command at a place of a trace, as the code comes to it: how many numbers follow the code byte, then number by number. What is known once the code byte,
--- one number, two, three were read is a record each; every end of the reading is one law over the record that it has reached.
+-- The command at a place of a trace, as the code comes to it: how many numbers follow the code byte, then number by
+-- number. What is known once the code byte, one number, two, three were read is a record each; every end of the
+-- reading is one law over the record that it has reached.
 use Prim.Native.Nat.{ℕ, suc, _+_, _-_, _≤_, _<_}
 use mathlib.Core.Bool.{Bool, true, false, cond, _||_, _&&_}
 use mathlib.Core.List.{List}
@@ -108,7 +109,8 @@ after-numbers c bs = go (eqb c 1) (eqb c 0 || ((leb 4 c && leb c 8) || eqb c 11)
     go false false false true = refl
     go false false false false = refl
 
--- ---- what is known: the code byte at `at` of the trace t, and n numbers follow it; no place of the trace is too far for 64 bits
+-- ---- what is known: the code byte at `at` of the trace t, and n numbers follow it; no place of the trace is too far
+-- for 64 bits
 pub record Coded (t : List ℕ) (at n : ℕ) : Type 0 where
   pub short : length t < 18446744073709551616
   pub inside : at < length t

@@ -1,6 +1,7 @@
-// Executes every exported call of crate by_value: a list of calls from a fresh start with L = E = 65,536 and external memory zero, then a run over a trace. It
-// prints what each answers: number, server and value; of a view its number, how many bytes it has, and two of them; of the run bytes consumed, count and stop
-// number, then each answer. What it has to print is told by the reference model (compare/examples/each_call.rs).
+// Executes every exported call of crate by_value: a list of calls from a fresh start with L = E = 65,536 and external
+// memory zero, then a run over a trace. It prints what each answers: number, server and value; of a view its number,
+// how many bytes it has, and two of them; of the run bytes consumed, count and stop number, then each answer. What it
+// has to print is told by the reference model (compare/examples/each_call.rs).
 use by_value::Called;
 use model::Record;
 
@@ -51,40 +52,40 @@ fn one(
     ext: &mut [u8; 65536],
 ) -> Record {
     if code == 0 {
-        return told(by_value::read(r, a, b, l1d, l2, ext));
+        return told(command_calls::read(r, a, b, l1d, l2, ext));
     }
     if code == 1 {
-        return told(by_value::write(r, a, b, wide32(v), l1d, l2, ext));
+        return told(command_calls::write(r, a, b, wide32(v), l1d, l2, ext));
     }
     if code == 2 {
-        return told(by_value::l2_writeback_all(r, l1d, l2, ext));
+        return told(command_calls::l2_writeback_all(r, l1d, l2, ext));
     }
     if code == 3 {
-        return told(by_value::l2_writeback_invalidate_all(r, l1d, l2, ext));
+        return told(command_calls::l2_writeback_invalidate_all(r, l1d, l2, ext));
     }
     if code == 4 {
-        return told(by_value::l2_writeback_block(r, a, b, l1d, l2, ext));
+        return told(command_calls::l2_writeback_block(r, a, b, l1d, l2, ext));
     }
     if code == 5 {
-        return told(by_value::l2_writeback_invalidate_block(r, a, b, l1d, l2, ext));
+        return told(command_calls::l2_writeback_invalidate_block(r, a, b, l1d, l2, ext));
     }
     if code == 6 {
-        return told(by_value::l2_invalidate_block(r, a, b, l1d, l2, ext));
+        return told(command_calls::l2_invalidate_block(r, a, b, l1d, l2, ext));
     }
     if code == 7 {
-        return told(by_value::l1d_writeback_invalidate_block(r, a, b, l1d, l2, ext));
+        return told(command_calls::l1d_writeback_invalidate_block(r, a, b, l1d, l2, ext));
     }
     if code == 8 {
-        return told(by_value::l1d_invalidate_block(r, a, b, l1d, l2, ext));
+        return told(command_calls::l1d_invalidate_block(r, a, b, l1d, l2, ext));
     }
     if code == 9 {
-        return told(by_value::l1d_invalidate_all(r, l1d, l2, ext));
+        return told(command_calls::l1d_invalidate_all(r, l1d, l2, ext));
     }
     if code == 10 {
-        return told(by_value::change_mode(r, a, l1d, l2, ext));
+        return told(command_calls::change_mode(r, a, l1d, l2, ext));
     }
     if code == 11 {
-        return told(by_value::change_mar(r, a, b, l1d, l2, ext));
+        return told(command_calls::change_mar(r, a, b, l1d, l2, ext));
     }
     seen(r, l2, ext, a);
     r

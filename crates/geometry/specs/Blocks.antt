@@ -1,5 +1,5 @@
--- Arithmetic of blocks: the lines that a block touches have 32-bit addresses. The line length is a variable, so that a quotient by it is no
--- linear term; the laws of quotients say what is needed.
+-- Arithmetic of blocks: the lines that a block touches have 32-bit addresses. The line length is a variable, so that
+-- a quotient by it is no linear term; the laws of quotients say what is needed.
 use Prim.Native.Nat.{ℕ, _+_, _*_, _-_, _/_, _≤_, _<_}
 use mathlib.Core.Path.{_≡_, refl}
 use mathlib.Core.Logic.{_≢_}

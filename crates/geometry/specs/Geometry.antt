@@ -1,11 +1,12 @@
--- Arithmetic of the L2 cache's geometry: the cache size is 512 bytes for each set, and a way's place among all ways is bounded. A product of
--- the way and the number of sets is no linear term; with the way by cases it is.
+-- Arithmetic of the L2 cache's geometry: the cache size is 512 bytes for each set, and a way's place among all ways
+-- is bounded. A product of the way and the number of sets is no linear term; with the way by cases it is.
 use Prim.Native.Nat.{ℕ, zero, suc, _+_, _*_, _≤_, _<_}
 use mathlib.Core.Bool.{not}
 use mathlib.Core.Path.{_≡_, refl}
+use mathlib.Core.Logic.{_≢_}
 use native.Mathlib.Omega.{arith}
 use lib.Dec.{ltb, leb, eqb}
-use borrow.Author.Tests.{ltb-true, ltb-false, le-leb, lt-leb}
+use borrow.Author.Tests.{ne-eqb, ltb-true, ltb-false, le-leb, lt-leb}
 use Rattle.model.specs.Memories.{cacheSize}
 use Rattle.model.specs.Lines.{l2Sets}
 use Rattle.model.specs.Laws.{bool}
@@ -33,3 +34,8 @@ below-not a b =
     bool (ltb a b)
     (λ e. let h = ltb-true a b e in rw (e, lt-leb b a h) refl)
     (λ e. let h = ltb-false a b e in rw (e, le-leb b a h) refl)
+
+-- a number that is none of the modes with a cache has none
+pub no-cache : (m : ℕ) → m ≢ 1 → m ≢ 2 → m ≢ 3 → m ≢ 7 → cacheSize m ≡ 0
+unfolding cacheSize
+no-cache m a b c d = rw (ne-eqb m 1 a, ne-eqb m 2 b, ne-eqb m 3 c, ne-eqb m 7 d) refl

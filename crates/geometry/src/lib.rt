@@ -1,6 +1,7 @@
-// The geometry of both caches and what follows from it: line length, ways and sets, the set and the data place of a line, the sizes that go
-// by the mode, legal lengths, where an address lies, and the lines that a block touches (paper 01, "Memories lent by the caller", "Lines and the
-// record", "Cache commands"). Every function is total: no caller has to know that a record is well formed.
+// The geometry of both caches and what follows from it: line length, ways and sets, the set and the data place of a
+// line, the sizes that go by the mode, legal lengths, where an address lies, and the lines that a block touches
+// (paper 01, "Memories lent by the caller", "Lines and the record", "Cache commands"). Every function is total: no
+// caller has to know that a record is well formed.
 ghost use mathlib.Core.Path.{_≡_};
 ghost use mathlib.Core.Logic.{_≢_};
 ghost use mathlib.Core.Bool.{not};
@@ -65,7 +66,8 @@ impl L2 {
     // The bytes of one set.
     pub const SET_BYTES: u32 = (L2::WAYS * L2::LINE) as u32;
 
-    // The number of sets is a constant of each mode: the cache size by the bytes of a set. The record has room for as many as mode 7 uses.
+    // The number of sets is a constant of each mode: the cache size by the bytes of a set. The record has room for as
+    // many as mode 7 uses.
     pub const SETS_1: usize = 64;
 
     pub const SETS_2: usize = 128;
@@ -105,7 +107,8 @@ impl L2 {
         sram_length(l2len, mode as u32) as usize
     }
 
-    // By the constants of the modes, since a remainder by a constant needs no division. Where there are no sets (mode 0) no set is looked at, and 0 stands for it.
+    // By the constants of the modes, since a remainder by a constant needs no division. Where there are no sets (mode
+    // 0) no set is looked at, and 0 stands for it.
     pub fn set_of(sets: usize, a: u32) -> usize
         requires { ⌜ sets ≤ 512 ⌝ }
         ensures { λ r. ⌜ (sets ≢ 0 → r ≡ l2SetIn sets a) × (r < 512) ⌝ }
@@ -167,7 +170,8 @@ const CACHE_128K: u32 = 128 * 1024;
 
 const CACHE_256K: u32 = 256 * 1024;
 
-// C, the bytes of L2 that are cache: one case for each row of Table 7 of SPRU610C, in its order (L2MODE; the cache of that row).
+// C, the bytes of L2 that are cache: one case for each row of Table 7 of SPRU610C, in its order (L2MODE; the cache of
+// that row).
 pub fn cache_size(mode: u32) -> u32
     ensures { λ r. ⌜ (r ≡ cacheSize mode) × (r < 262145) ⌝ }
 {

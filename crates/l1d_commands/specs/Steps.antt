@@ -1,4 +1,5 @@
--- The step that a code asks for at one way of L1D, and the ways through the code of one line as the cases of the definitions.
+-- The step that a code asks for at one way of L1D, and the ways through the code of one line as the cases of the
+-- definitions.
 use Prim.Native.Nat.{ℕ}
 use mathlib.Core.Bool.{cond}
 use mathlib.Core.Path.{_≡_}
@@ -12,7 +13,8 @@ use Rattle.model.specs.Laws.{bool}
 use Rattle.tags.specs.Sizes.{same-empty-l1d, same-writeback-l1d, same-evict-l1d}
 use Rattle.sweeps.specs.Fixed.{Fixed}
 
--- ---- the definition of paper 01 that a code asks for at a way of L1D: 7 writeback-invalidate, 10 what a mode change does, else invalidate
+-- ---- the definition of paper 01 that a code asks for at a way of L1D: 7 writeback-invalidate, 10 what a mode change
+-- does, else invalidate
 unfoldable pub l1dOperation : ℕ → ℕ → ℕ → State → State
 l1dOperation code = cond (eqb code 7) evictL1d (cond (eqb code 10) writebackL1d emptyL1d)
 

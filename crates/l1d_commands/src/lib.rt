@@ -1,11 +1,11 @@
-// The L1D cache commands on lent words: what is done to one line, to the lines of a block, to all lines. `code` is the trace's; 10 stands for what a mode change does.
-// Each contract is the definition of paper 01 that the code asks for (`l1dOperation`), at one way, at the line of an address, at each line.
+// The L1D cache commands on lent words: what is done to one line, to the lines of a block, to all lines. `code` is
+// the trace's; 10 stands for what a mode change does. Each contract is the definition of paper 01 that the code asks
+// for (`l1dOperation`), at one way, at the line of an address, at each line.
 ghost use mathlib.Core.Path.{_≡_};
 ghost use Prim.Native.Nat.{_<_, _/_, _%_};
 ghost use Rattle.model.specs.Basics.{each};
-ghost use Rattle.model.specs.Records.{state};
 ghost use Rattle.model.specs.Commands.{atL1d, eachTouched};
-ghost use Rattle.tags.specs.Words.{recordIn};
+ghost use Rattle.tags.specs.Words.{stateIn};
 ghost use Rattle.tags.specs.Sizes.{Lent};
 ghost use Rattle.l1d_commands.specs.Steps.{l1dOperation};
 use geometry::L1d;
@@ -24,7 +24,8 @@ pub fn l1d_operate(
 )
     requires { ⌜ (s < 128) × (w < 2) ⌝ }
     requires { ⌜ Lent sram sets (now tags) ⌝ }
-    ensures { λ _. ⌜ state (recordIn (now (tags .exit))) (now (l1d .entry)) (now (l2 .exit)) (now (ext .exit)) ≡ l1dOperation code s w (state (recordIn (now (tags .entry))) (now (l1d .entry)) (now (l2 .entry)) (now (ext .entry))) ⌝ }
+    ensures { λ _. ⌜ stateIn (now (tags .exit)) (now (l1d .entry)) (now (l2 .exit)) (now (ext .exit))
+        ≡ l1dOperation code s w (stateIn (now (tags .entry)) (now (l1d .entry)) (now (l2 .entry)) (now (ext .entry))) ⌝ }
 {
     if code == 7 {
         l1d_writeback::evict_l1d(tags, sram, sets, s, w, l1d, l2, ext);
@@ -49,7 +50,8 @@ pub fn l1d_touched(
     ext: &mut [u8],
 )
     requires { ⌜ Lent sram sets (now tags) ⌝ }
-    ensures { λ _. ⌜ state (recordIn (now (tags .exit))) (now (l1d .entry)) (now (l2 .exit)) (now (ext .exit)) ≡ atL1d (l1dOperation code) a (state (recordIn (now (tags .entry))) (now (l1d .entry)) (now (l2 .entry)) (now (ext .entry))) ⌝ }
+    ensures { λ _. ⌜ stateIn (now (tags .exit)) (now (l1d .entry)) (now (l2 .exit)) (now (ext .exit))
+        ≡ atL1d (l1dOperation code) a (stateIn (now (tags .entry)) (now (l1d .entry)) (now (l2 .entry)) (now (ext .entry))) ⌝ }
 {
     let s = L1d::set_of(a);
     let w = tags::l1d_find(tags, s, L1d::line_of(a));
@@ -72,7 +74,8 @@ pub fn l1d_block(
     ext: &mut [u8],
 )
     requires { ⌜ Lent sram sets (now tags) ⌝ }
-    ensures { λ _. ⌜ state (recordIn (now (tags .exit))) (now (l1d .entry)) (now (l2 .exit)) (now (ext .exit)) ≡ eachTouched 64 (atL1d (l1dOperation code)) base count (state (recordIn (now (tags .entry))) (now (l1d .entry)) (now (l2 .entry)) (now (ext .entry))) ⌝ }
+    ensures { λ _. ⌜ stateIn (now (tags .exit)) (now (l1d .entry)) (now (l2 .exit)) (now (ext .exit))
+        ≡ eachTouched 64 (atL1d (l1dOperation code)) base count (stateIn (now (tags .entry)) (now (l1d .entry)) (now (l2 .entry)) (now (ext .entry))) ⌝ }
 {
     let n = geometry::lines_touched(L1d::LINE, base, count);
     for k in 0..n {
@@ -92,7 +95,8 @@ pub fn l1d_all(
     ext: &mut [u8],
 )
     requires { ⌜ Lent sram sets (now tags) ⌝ }
-    ensures { λ _. ⌜ state (recordIn (now (tags .exit))) (now (l1d .entry)) (now (l2 .exit)) (now (ext .exit)) ≡ each (λ k. l1dOperation code (k / 2) (k % 2)) 256 (state (recordIn (now (tags .entry))) (now (l1d .entry)) (now (l2 .entry)) (now (ext .entry))) ⌝ }
+    ensures { λ _. ⌜ stateIn (now (tags .exit)) (now (l1d .entry)) (now (l2 .exit)) (now (ext .exit))
+        ≡ each (λ k. l1dOperation code (k / 2) (k % 2)) 256 (stateIn (now (tags .entry)) (now (l1d .entry)) (now (l2 .entry)) (now (ext .entry))) ⌝ }
 {
     for k in 0..L1d::LINES {
         let s = k / L1d::WAYS;

@@ -1,4 +1,5 @@
--- A line goes home: the ways through the code are the cases of the definitions. Over plain records and states; the hypotheses are what the callees ensure and the tests.
+-- A line goes home: the ways through the code are the cases of the definitions. Over plain records and states; the
+-- hypotheses are what the callees ensure and the tests.
 use Rattle.tags.specs.Home.{home-sram, home-external, home-l2}
 use Prim.Native.Nat.{ℕ, _+_, _-_, _%_, _≤_, _<_}
 use mathlib.Core.Bool.{true, false, _&&_}

@@ -1,18 +1,19 @@
-// A line leaves L1D: on lent words, each function is the step of paper 01 itself. All are total: they say what they do for every content of the words.
+// A line leaves L1D: on lent words, each function is the step of paper 01 itself. All are total: they say what they
+// do for every content of the words.
 ghost use mathlib.Core.Bool.{_&&_};
 ghost use mathlib.Core.Path.{_≡_};
 ghost use Prim.Native.Nat.{_<_};
 ghost use Rattle.model.specs.Bytes.{part};
-ghost use Rattle.model.specs.Records.{state};
 ghost use Rattle.model.specs.Homes.{putHome};
 ghost use Rattle.model.specs.Access.{writebackL1d, evictL1d};
-ghost use Rattle.tags.specs.Words.{recordIn};
+ghost use Rattle.tags.specs.Words.{stateIn};
 ghost use Rattle.tags.specs.Sizes.{Lent};
 use geometry::L1d;
 use geometry::L2;
 use model::Line;
 
-// The 64 bytes of L1D at `from` go into the part of the lent memory that begins at the home of line a: SRAM, external memory in mode 0, else the L2 line, made dirty.
+// The 64 bytes of L1D at `from` go into the part of the lent memory that begins at the home of line a: SRAM, external
+// memory in mode 0, else the L2 line, made dirty.
 pub fn put_home(
     tags: &mut [u32],
     sram: usize,
@@ -24,8 +25,8 @@ pub fn put_home(
     ext: &mut [u8],
 )
     requires { ⌜ Lent sram sets (now tags) ⌝ }
-    ensures { λ _. ⌜ state (recordIn (now (tags .exit))) (now (l1d .entry)) (now (l2 .exit)) (now (ext .exit))
-        ≡ putHome a (part (now (l1d .entry)) from 64) (state (recordIn (now (tags .entry))) (now (l1d .entry)) (now (l2 .entry)) (now (ext .entry))) ⌝ }
+    ensures { λ _. ⌜ stateIn (now (tags .exit)) (now (l1d .entry)) (now (l2 .exit)) (now (ext .exit))
+        ≡ putHome a (part (now (l1d .entry)) from 64) (stateIn (now (tags .entry)) (now (l1d .entry)) (now (l2 .entry)) (now (ext .entry))) ⌝ }
 {
     if !geometry::is_external(a) {
         memory::move64(l2, geometry::place_of(a), l1d, from);
@@ -70,8 +71,8 @@ pub fn writeback_l1d(
 )
     requires { ⌜ (i < 128) × (w < 2) ⌝ }
     requires { ⌜ Lent sram sets (now tags) ⌝ }
-    ensures { λ _. ⌜ state (recordIn (now (tags .exit))) (now (l1d .entry)) (now (l2 .exit)) (now (ext .exit))
-        ≡ writebackL1d i w (state (recordIn (now (tags .entry))) (now (l1d .entry)) (now (l2 .entry)) (now (ext .entry))) ⌝ }
+    ensures { λ _. ⌜ stateIn (now (tags .exit)) (now (l1d .entry)) (now (l2 .exit)) (now (ext .exit))
+        ≡ writebackL1d i w (stateIn (now (tags .entry)) (now (l1d .entry)) (now (l2 .entry)) (now (ext .entry))) ⌝ }
 {
     let x = tags::l1d_line(tags, i, w);
     if !goes_home(x) {
@@ -89,7 +90,8 @@ pub fn writeback_l1d(
     );
 }
 
-// .. and the way emptied. The test stands here and not in a call of `writeback_l1d`, so that a clean line costs no call.
+// .. and the way emptied. The test stands here and not in a call of `writeback_l1d`, so that a clean line costs no
+// call.
 pub fn evict_l1d(
     tags: &mut [u32],
     sram: usize,
@@ -102,8 +104,8 @@ pub fn evict_l1d(
 )
     requires { ⌜ (i < 128) × (w < 2) ⌝ }
     requires { ⌜ Lent sram sets (now tags) ⌝ }
-    ensures { λ _. ⌜ state (recordIn (now (tags .exit))) (now (l1d .entry)) (now (l2 .exit)) (now (ext .exit))
-        ≡ evictL1d i w (state (recordIn (now (tags .entry))) (now (l1d .entry)) (now (l2 .entry)) (now (ext .entry))) ⌝ }
+    ensures { λ _. ⌜ stateIn (now (tags .exit)) (now (l1d .entry)) (now (l2 .exit)) (now (ext .exit))
+        ≡ evictL1d i w (stateIn (now (tags .entry)) (now (l1d .entry)) (now (l2 .entry)) (now (ext .entry))) ⌝ }
 {
     let x = tags::l1d_line(tags, i, w);
     if goes_home(x) {

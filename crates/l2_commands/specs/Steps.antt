@@ -1,4 +1,5 @@
--- The step that a code asks for at one way of L2, and the ways through the code of one line as the cases of the definitions.
+-- The step that a code asks for at one way of L2, and the ways through the code of one line as the cases of the
+-- definitions.
 use Prim.Native.Nat.{ℕ, _*_, _/_, _%_}
 use mathlib.Core.Bool.{false, cond, _||_}
 use mathlib.Core.Path.{_≡_, refl, sym, ap, _∙_}
@@ -20,7 +21,8 @@ use Rattle.model.specs.declared.L2Set.{L2Set}
 use Rattle.tags.specs.Sizes.{same-write-out-l2, same-writeback-l2, same-evict-l2}
 use Rattle.sweeps.specs.Fixed.{Fixed, drop-l2}
 
--- ---- the definition of paper 01 that a code asks for at a way of L2: 6 block invalidate, 10 what a mode change does, 2 and 4 writeback, else writeback-invalidate
+-- ---- the definition of paper 01 that a code asks for at a way of L2: 6 block invalidate, 10 what a mode change
+-- does, 2 and 4 writeback, else writeback-invalidate
 unfoldable pub l2Operation : ℕ → ℕ → ℕ → State → State
 l2Operation code = cond (eqb code 6) dropL2 (cond (eqb code 10) writeOutL2 (cond (eqb code 2 || eqb code 4) writebackL2 evictL2))
 

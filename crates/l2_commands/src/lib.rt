@@ -1,5 +1,6 @@
-// The L2 cache commands on lent words: what is done to one line, to the lines of a block, to all lines. `code` is the trace's; 10 stands for what a mode change does.
-// Each contract is the definition of paper 01 that the code asks for (`l2Operation`), at one way, at the line of an address, at each line.
+// The L2 cache commands on lent words: what is done to one line, to the lines of a block, to all lines. `code` is the
+// trace's; 10 stands for what a mode change does. Each contract is the definition of paper 01 that the code asks for
+// (`l2Operation`), at one way, at the line of an address, at each line.
 ghost use mathlib.Core.Bool.{true};
 ghost use mathlib.Core.Path.{_≡_};
 ghost use mathlib.Core.Logic.{_≢_};
@@ -7,10 +8,9 @@ ghost use mathlib.Core.List.{List};
 ghost use Prim.Native.Nat.{ℕ, _<_};
 ghost use lib.ListN.{length};
 ghost use Rattle.model.specs.Lines.{emptyLine};
-ghost use Rattle.model.specs.Records.{state};
 ghost use Rattle.model.specs.Ways.{emptyL1d};
 ghost use Rattle.model.specs.Commands.{atL1d, atL2, dropL2, eachTouched, eachL2, unlessMode0};
-ghost use Rattle.tags.specs.Words.{recordWords, recordIn};
+ghost use Rattle.tags.specs.Words.{recordWords, stateIn};
 ghost use Rattle.tags.specs.Sizes.{Lent};
 ghost use Rattle.l2_commands.specs.Steps.{l2Operation};
 use geometry::L1d;
@@ -20,7 +20,8 @@ use model::Line;
 // The half at b, if L1D holds it, leaves L1D unwritten.
 pub fn drop_half(tags: &mut [u32], b: u32)
     requires { ⌜ length (now tags) ≡ recordWords ⌝ }
-    ensures { λ _. ⌜ ((d m e : List ℕ) → state (recordIn (now (tags .exit))) d m e ≡ atL1d emptyL1d b (state (recordIn (now (tags .entry))) d m e)) ⌝ }
+    ensures { λ _. ⌜ ((d m e : List ℕ) → stateIn (now (tags .exit)) d m e
+        ≡ atL1d emptyL1d b (stateIn (now (tags .entry)) d m e)) ⌝ }
 {
     let i = L1d::set_of(b);
     let w = tags::l1d_find(tags, i, L1d::line_of(b));
@@ -33,7 +34,8 @@ pub fn drop_half(tags: &mut [u32], b: u32)
 // Line and halves become invalid, nothing is written.
 pub fn drop_l2(tags: &mut [u32], t: usize, v: usize)
     requires { ⌜ ((t < 512) × (v < 4)) × (length (now tags) ≡ recordWords) ⌝ }
-    ensures { λ _. ⌜ ((d m e : List ℕ) → state (recordIn (now (tags .exit))) d m e ≡ dropL2 t v (state (recordIn (now (tags .entry))) d m e)) ⌝ }
+    ensures { λ _. ⌜ ((d m e : List ℕ) → stateIn (now (tags .exit)) d m e
+        ≡ dropL2 t v (stateIn (now (tags .entry)) d m e)) ⌝ }
 {
     let x = tags::l2_line(tags, t, v);
     drop_half(tags, x.address);
@@ -55,7 +57,8 @@ pub fn l2_operate(
 )
     requires { ⌜ (t < 512) × (v < 4) ⌝ }
     requires { ⌜ Lent sram sets (now tags) ⌝ }
-    ensures { λ _. ⌜ state (recordIn (now (tags .exit))) (now (l1d .entry)) (now (l2 .exit)) (now (ext .exit)) ≡ l2Operation code t v (state (recordIn (now (tags .entry))) (now (l1d .entry)) (now (l2 .entry)) (now (ext .entry))) ⌝ }
+    ensures { λ _. ⌜ stateIn (now (tags .exit)) (now (l1d .entry)) (now (l2 .exit)) (now (ext .exit))
+        ≡ l2Operation code t v (stateIn (now (tags .entry)) (now (l1d .entry)) (now (l2 .entry)) (now (ext .entry))) ⌝ }
 {
     if code == 6 {
         drop_l2(tags, t, v);
@@ -88,7 +91,8 @@ pub fn l2_touched(
 )
     requires { ⌜ sets ≢ 0 ⌝ }
     requires { ⌜ Lent sram sets (now tags) ⌝ }
-    ensures { λ _. ⌜ state (recordIn (now (tags .exit))) (now (l1d .entry)) (now (l2 .exit)) (now (ext .exit)) ≡ atL2 (l2Operation code) a (state (recordIn (now (tags .entry))) (now (l1d .entry)) (now (l2 .entry)) (now (ext .entry))) ⌝ }
+    ensures { λ _. ⌜ stateIn (now (tags .exit)) (now (l1d .entry)) (now (l2 .exit)) (now (ext .exit))
+        ≡ atL2 (l2Operation code) a (stateIn (now (tags .entry)) (now (l1d .entry)) (now (l2 .entry)) (now (ext .entry))) ⌝ }
 {
     let t = L2::set_of(sets, a);
     let v = tags::l2_find(tags, t, L2::line_of(a));
@@ -111,7 +115,8 @@ pub fn l2_block(
     ext: &mut [u8],
 )
     requires { ⌜ Lent sram sets (now tags) ⌝ }
-    ensures { λ _. ⌜ state (recordIn (now (tags .exit))) (now (l1d .entry)) (now (l2 .exit)) (now (ext .exit)) ≡ unlessMode0 (eachTouched 128 (atL2 (l2Operation code)) base count) (state (recordIn (now (tags .entry))) (now (l1d .entry)) (now (l2 .entry)) (now (ext .entry))) ⌝ }
+    ensures { λ _. ⌜ stateIn (now (tags .exit)) (now (l1d .entry)) (now (l2 .exit)) (now (ext .exit))
+        ≡ unlessMode0 (eachTouched 128 (atL2 (l2Operation code)) base count) (stateIn (now (tags .entry)) (now (l1d .entry)) (now (l2 .entry)) (now (ext .entry))) ⌝ }
 {
     if sets == 0 {
         return;
@@ -136,8 +141,8 @@ pub fn is_empty(x: Line) -> bool
     x.address == 0
 }
 
-// Each way in use, set by set and way by way; there is none in mode 0. An empty way is passed over: only block invalidate, which is no command over all lines, would
-// look for halves there.
+// Each way in use, set by set and way by way; there is none in mode 0. An empty way is passed over: only block
+// invalidate, which is no command over all lines, would look for halves there.
 pub fn l2_all(
     tags: &mut [u32],
     sram: usize,
@@ -149,7 +154,8 @@ pub fn l2_all(
 )
     requires { ⌜ code ≢ 6 ⌝ }
     requires { ⌜ Lent sram sets (now tags) ⌝ }
-    ensures { λ _. ⌜ state (recordIn (now (tags .exit))) (now (l1d .entry)) (now (l2 .exit)) (now (ext .exit)) ≡ eachL2 (l2Operation code) (state (recordIn (now (tags .entry))) (now (l1d .entry)) (now (l2 .entry)) (now (ext .entry))) ⌝ }
+    ensures { λ _. ⌜ stateIn (now (tags .exit)) (now (l1d .entry)) (now (l2 .exit)) (now (ext .exit))
+        ≡ eachL2 (l2Operation code) (stateIn (now (tags .entry)) (now (l1d .entry)) (now (l2 .entry)) (now (ext .entry))) ⌝ }
 {
     let n = sets * L2::WAYS;
     for k in 0..n {

@@ -1,5 +1,6 @@
--- What lies behind L1D for an access, from what the calls in each function ensure: the line that L2 finds or brings, the way of L1D filled from it, and
--- the bytes of a write that go there. One law for each way through the code, over plain records and lists.
+-- What lies behind L1D for an access, from what the calls in each function ensure: the line that L2 finds or brings,
+-- the way of L1D filled from it, and the bytes of a write that go there. One law for each way through the code, over
+-- plain records and lists.
 use Prim.Native.Nat.{ℕ, _+_, _-_, _%_, _≤_, _<_}
 use mathlib.Core.Bool.{Bool, true, false}
 use mathlib.Core.Path.{_≡_, refl, sym, ap, _∙_}

@@ -1,23 +1,24 @@
-// What lies behind L1D for an access (paper 01, "CPU reads and writes"): L2 finds or fetches the line, a way of L1D is filled from it, the bytes of a write
-// go there. Each function is the step of paper 01 itself, and all are total: they say what they do for every content of the record.
+// What lies behind L1D for an access (paper 01, "CPU reads and writes"): L2 finds or fetches the line, a way of L1D
+// is filled from it, the bytes of a write go there. Each function is the step of paper 01 itself, and all are total:
+// they say what they do for every content of the record.
 ghost use mathlib.Core.Bool.{true, false};
 ghost use mathlib.Core.Path.{_≡_};
 ghost use mathlib.Core.List.{List};
 ghost use Prim.Native.Nat.{ℕ, _<_};
 ghost use Rattle.model.specs.Bytes.{littleBytes};
 ghost use Rattle.model.specs.Lines.{l1dSetOf};
-ghost use Rattle.model.specs.Records.{state};
 ghost use Rattle.model.specs.Homes.{bringL2, fetchL2};
 ghost use Rattle.model.specs.Access.{fillL1d, writeHome};
 ghost use Rattle.model.specs.Refusals.{sizeOk};
-ghost use Rattle.tags.specs.Words.{recordIn};
+ghost use Rattle.tags.specs.Words.{recordIn, stateIn};
 ghost use Rattle.tags.specs.Sizes.{Lent};
 ghost use Rattle.l2_fetch.specs.Fetching.{Serves, Found};
 use geometry::L1d;
 use geometry::L2;
 use model::Command;
 
-// What lies behind L1D for an address: whether the L2 cache is its home, and then the set and the way that have its line; and who serves it.
+// What lies behind L1D for an address: whether the L2 cache is its home, and then the set and the way that have its
+// line; and who serves it.
 pub struct Fetched {
     pub homed: bool,
     pub set: usize,
@@ -40,8 +41,8 @@ pub fn bring_l2(
 )
     requires { ⌜ (t < 512) × (v < 4) ⌝ }
     requires { ⌜ Lent sram sets (now tags) ⌝ }
-    ensures { λ _. ⌜ state (recordIn (now (tags .exit))) (now (l1d .entry)) (now (l2 .exit)) (now (ext .exit))
-        ≡ bringL2 t v b (state (recordIn (now (tags .entry))) (now (l1d .entry)) (now (l2 .entry)) (now (ext .entry))) ⌝ }
+    ensures { λ _. ⌜ stateIn (now (tags .exit)) (now (l1d .entry)) (now (l2 .exit)) (now (ext .exit))
+        ≡ bringL2 t v b (stateIn (now (tags .entry)) (now (l1d .entry)) (now (l2 .entry)) (now (ext .entry))) ⌝ }
 {
     l2_writeback::evict_l2(tags, sram, sets, t, v, l1d, l2, ext);
     memory::move128(
@@ -54,7 +55,8 @@ pub fn bring_l2(
     tags::l2_use(tags, t, v);
 }
 
-// A fetch or write miss that finds its L2 line uses that way; if it doesn't, the line is brought into the way that is chosen. Where L2 is not the home nothing is done.
+// A fetch or write miss that finds its L2 line uses that way; if it doesn't, the line is brought into the way that is
+// chosen. Where L2 is not the home nothing is done.
 pub fn fetch_l2(
     tags: &mut [u32],
     sram: usize,
@@ -65,9 +67,9 @@ pub fn fetch_l2(
     ext: &mut [u8],
 ) -> Fetched
     requires { ⌜ Lent sram sets (now tags) ⌝ }
-    ensures { λ h. ⌜ Serves h a (state (recordIn (now (tags .entry))) (now (l1d .entry)) (now (l2 .entry)) (now (ext .entry))) ⌝ }
-    ensures { λ _. ⌜ state (recordIn (now (tags .exit))) (now (l1d .entry)) (now (l2 .exit)) (now (ext .exit))
-        ≡ fetchL2 a (state (recordIn (now (tags .entry))) (now (l1d .entry)) (now (l2 .entry)) (now (ext .entry))) ⌝ }
+    ensures { λ h. ⌜ Serves h a (stateIn (now (tags .entry)) (now (l1d .entry)) (now (l2 .entry)) (now (ext .entry))) ⌝ }
+    ensures { λ _. ⌜ stateIn (now (tags .exit)) (now (l1d .entry)) (now (l2 .exit)) (now (ext .exit))
+        ≡ fetchL2 a (stateIn (now (tags .entry)) (now (l1d .entry)) (now (l2 .entry)) (now (ext .entry))) ⌝ }
 {
     if !geometry::is_external(a) {
         return Fetched {
@@ -124,8 +126,8 @@ pub fn fill_l1d(
     requires { ⌜ ((i < 128) × (w < 2)) × (i ≡ l1dSetOf a) ⌝ }
     requires { ⌜ Lent sram sets (now tags) ⌝ }
     requires { ⌜ Found h a (recordIn (now tags)) ⌝ }
-    ensures { λ _. ⌜ state (recordIn (now (tags .exit))) (now (l1d .exit)) (now (l2 .entry)) (now (ext .entry))
-        ≡ fillL1d w (h .way) a (state (recordIn (now (tags .entry))) (now (l1d .entry)) (now (l2 .entry)) (now (ext .entry))) ⌝ }
+    ensures { λ _. ⌜ stateIn (now (tags .exit)) (now (l1d .exit)) (now (l2 .entry)) (now (ext .entry))
+        ≡ fillL1d w (h .way) a (stateIn (now (tags .entry)) (now (l1d .entry)) (now (l2 .entry)) (now (ext .entry))) ⌝ }
 {
     let b = L1d::line_of(a);
     let to = L1d::data_at(i, w);
@@ -161,8 +163,8 @@ pub fn write_home(
     requires { ⌜ sizeOk n ≡ true ⌝ }
     requires { ⌜ Lent sram sets (now tags) ⌝ }
     requires { ⌜ Found h a (recordIn (now tags)) ⌝ }
-    ensures { λ _. ⌜ ((d : List ℕ) → state (recordIn (now (tags .exit))) d (now (l2 .exit)) (now (ext .exit))
-        ≡ writeHome (h .way) a (littleBytes v n) (state (recordIn (now (tags .entry))) d (now (l2 .entry)) (now (ext .entry)))) ⌝ }
+    ensures { λ _. ⌜ ((d : List ℕ) → stateIn (now (tags .exit)) d (now (l2 .exit)) (now (ext .exit))
+        ≡ writeHome (h .way) a (littleBytes v n) (stateIn (now (tags .entry)) d (now (l2 .entry)) (now (ext .entry)))) ⌝ }
 {
     if h.homed {
         memory::store(

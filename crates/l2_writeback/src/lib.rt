@@ -1,10 +1,10 @@
-// A line leaves L2: on lent words, each function is the step of paper 01 itself. All are total: they say what they do for every content of the words.
+// A line leaves L2: on lent words, each function is the step of paper 01 itself. All are total: they say what they do
+// for every content of the words.
 ghost use mathlib.Core.Path.{_≡_};
 ghost use mathlib.Core.List.{List};
 ghost use Prim.Native.Nat.{ℕ, _<_};
-ghost use Rattle.model.specs.Records.{state};
 ghost use Rattle.model.specs.Homes.{takeHalf, writeOutL2, writebackL2, evictL2};
-ghost use Rattle.tags.specs.Words.{recordIn};
+ghost use Rattle.tags.specs.Words.{stateIn};
 ghost use Rattle.tags.specs.Sizes.{Lent};
 use geometry::L1d;
 use geometry::L2;
@@ -22,8 +22,8 @@ pub fn take_half(
 )
     requires { ⌜ (t < 512) × (v < 4) ⌝ }
     requires { ⌜ Lent sram sets (now tags) ⌝ }
-    ensures { λ _. ⌜ ((e : List ℕ) → state (recordIn (now (tags .exit))) (now (l1d .entry)) (now (l2 .exit)) e
-        ≡ takeHalf t v b (state (recordIn (now (tags .entry))) (now (l1d .entry)) (now (l2 .entry)) e)) ⌝ }
+    ensures { λ _. ⌜ ((e : List ℕ) → stateIn (now (tags .exit)) (now (l1d .entry)) (now (l2 .exit)) e
+        ≡ takeHalf t v b (stateIn (now (tags .entry)) (now (l1d .entry)) (now (l2 .entry)) e)) ⌝ }
 {
     let i = L1d::set_of(b);
     let w = tags::l1d_find(tags, i, L1d::line_of(b));
@@ -58,8 +58,8 @@ pub fn write_out_l2(
 )
     requires { ⌜ (t < 512) × (v < 4) ⌝ }
     requires { ⌜ Lent sram sets (now tags) ⌝ }
-    ensures { λ _. ⌜ ((d : List ℕ) → state (recordIn (now (tags .exit))) d (now (l2 .entry)) (now (ext .exit))
-        ≡ writeOutL2 t v (state (recordIn (now (tags .entry))) d (now (l2 .entry)) (now (ext .entry)))) ⌝ }
+    ensures { λ _. ⌜ ((d : List ℕ) → stateIn (now (tags .exit)) d (now (l2 .entry)) (now (ext .exit))
+        ≡ writeOutL2 t v (stateIn (now (tags .entry)) d (now (l2 .entry)) (now (ext .entry)))) ⌝ }
 {
     let x = tags::l2_line(tags, t, v);
     if !x.valid {
@@ -90,8 +90,8 @@ pub fn writeback_l2(
 )
     requires { ⌜ (t < 512) × (v < 4) ⌝ }
     requires { ⌜ Lent sram sets (now tags) ⌝ }
-    ensures { λ _. ⌜ state (recordIn (now (tags .exit))) (now (l1d .entry)) (now (l2 .exit)) (now (ext .exit))
-        ≡ writebackL2 t v (state (recordIn (now (tags .entry))) (now (l1d .entry)) (now (l2 .entry)) (now (ext .entry))) ⌝ }
+    ensures { λ _. ⌜ stateIn (now (tags .exit)) (now (l1d .entry)) (now (l2 .exit)) (now (ext .exit))
+        ≡ writebackL2 t v (stateIn (now (tags .entry)) (now (l1d .entry)) (now (l2 .entry)) (now (ext .entry))) ⌝ }
 {
     let x = tags::l2_line(tags, t, v);
     if !x.valid {
@@ -115,8 +115,8 @@ pub fn evict_l2(
 )
     requires { ⌜ (t < 512) × (v < 4) ⌝ }
     requires { ⌜ Lent sram sets (now tags) ⌝ }
-    ensures { λ _. ⌜ state (recordIn (now (tags .exit))) (now (l1d .entry)) (now (l2 .exit)) (now (ext .exit))
-        ≡ evictL2 t v (state (recordIn (now (tags .entry))) (now (l1d .entry)) (now (l2 .entry)) (now (ext .entry))) ⌝ }
+    ensures { λ _. ⌜ stateIn (now (tags .exit)) (now (l1d .entry)) (now (l2 .exit)) (now (ext .exit))
+        ≡ evictL2 t v (stateIn (now (tags .entry)) (now (l1d .entry)) (now (l2 .entry)) (now (ext .entry))) ⌝ }
 {
     writeback_l2(tags, sram, sets, t, v, l1d, l2, ext);
     tags::l2_put(tags, t, v, geometry::empty_line());

@@ -1,4 +1,5 @@
--- The lines of a MAR bit's range in lent words, set by set: what a loop over the sets finds is what the model's definition finds in the record.
+-- The lines of a MAR bit's range in lent words, set by set: what a loop over the sets finds is what the model's
+-- definition finds in the record.
 use Prim.Native.Nat.{ℕ, zero, suc, _+_, _*_, _-_, _/_, _%_, _≤_, _<_}
 use mathlib.Core.Bool.{Bool, true, false, not, _&&_, _||_, or-assoc}
 use mathlib.Core.List.{List}

@@ -1,4 +1,5 @@
-// Refusals 9 and 10 of the refusal table of paper 01 on lent words: a MAR bit, and whether either cache holds a line of its range. The words are read where they stand.
+// Refusals 9 and 10 of the refusal table of paper 01 on lent words: a MAR bit, and whether either cache holds a line
+// of its range. The words are read where they stand.
 ghost use mathlib.Core.Path.{_≡_};
 ghost use Prim.Native.Nat.{_<_};
 ghost use lib.ListN.{length};

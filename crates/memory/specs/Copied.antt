@@ -1,5 +1,6 @@
--- A line copied by a loop, through an array, into a lent part: it is the line `stored` in the memory. The loop has replaced the first bytes
--- (`copied`), the part that was lent comes back between what stood before and after it, and that is `splice`.
+-- A line copied by a loop, through an array, into a lent part: it is the line `stored` in the memory. The loop has
+-- replaced the first bytes (`copied`), the part that was lent comes back between what stood before and after it, and
+-- that is `splice`.
 use Prim.Native.Nat.{ℕ, suc, _+_, _-_, _≤_, _<_}
 use mathlib.Core.Bool.{Bool, true, false}
 use mathlib.Core.Path.{_≡_, refl, sym, ap, _∙_}

@@ -1,5 +1,5 @@
--- Values of several bytes: a value of 2 n bytes is made of two values of n bytes, loaded or stored one behind the other. Each law is stated once
--- over the two widths; the code uses it at 1, 2 and 4.
+-- Values of several bytes: a value of 2 n bytes is made of two values of n bytes, loaded or stored one behind the
+-- other. Each law is stated once over the two widths; the code uses it at 1, 2 and 4.
 use Prim.Native.Nat.{ℕ, zero, suc, _+_, _*_, _/_, _%_, _≤_, _<_}
 use mathlib.Core.Bool.{Bool, true, false, not}
 use mathlib.Core.Path.{_≡_, refl, sym, ap, _∙_}

@@ -1,5 +1,6 @@
-// Lines and values between lent memories. Every function that takes a place is total: what does not lie in its memory is not touched,
-// so that no caller has to know that a record is well formed. Lines go through an array by value, which the compiler turns into wide moves.
+// Lines and values between lent memories. Every function that takes a place is total: what does not lie in its memory
+// is not touched, so that no caller has to know that a record is well formed. Lines go through an array by value,
+// which the compiler turns into wide moves.
 ghost use mathlib.Core.Bool.{true};
 ghost use mathlib.Core.Path.{_≡_};
 ghost use Prim.Native.Nat.{_+_, _≤_, _<_};

@@ -1,4 +1,5 @@
--- A mode change and a MAR change from what the calls in them ensure: lines written back, the record renewed, L2 zero from a place on; one bit changed.
+-- A mode change and a MAR change from what the calls in them ensure: lines written back, the record renewed, L2 zero
+-- from a place on; one bit changed.
 use Prim.Native.Nat.{ℕ, _/_, _%_}
 use mathlib.Core.Bool.{Bool}
 use mathlib.Core.Path.{_≡_, refl, ap, _∙_}
@@ -26,7 +27,8 @@ flushed-l2 : (z : State) → eachL2 (l2Operation 10) z ≡ flushL2 z
 unfolding l2Operation flushL2 eachL2
 flushed-l2 z = refl
 
--- z₁ and z₂: L1D and then L2 are written back; k: the smaller of old and new S; q: the record after all; m: L2's bytes then
+-- z₁ and z₂: L1D and then L2 are written back; k: the smaller of old and new S; q: the record after all; m: L2's
+-- bytes then
 pub changed-mode : (z z₁ z₂ : State) (q : Record) (m : List ℕ) (mode sram s k : ℕ) (a b : Bool) → z₁ ≡ each (λ i. l1dOperation 10 (i / 2) (i % 2)) 256 z → z₂ ≡ eachL2 (l2Operation 10) z₁ →
     sram ≡ sramOf (z₂ .rec) → s ≡ sramLength (z₂ .rec .l2len) mode → k ≡ smaller sram s → m ≡ zeroFrom k (z₂ .l2) (length (z₂ .l2)) →
     a ≡ z₂ .rec .mar128 → b ≡ z₂ .rec .mar129 → q ≡ renewed (z₂ .rec) mode a b →

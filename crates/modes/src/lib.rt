@@ -3,9 +3,8 @@ ghost use mathlib.Core.Path.{_≡_};
 ghost use mathlib.Core.List.{List};
 ghost use Prim.Native.Nat.{ℕ, _≤_};
 ghost use lib.ListN.{length};
-ghost use Rattle.model.specs.Records.{state};
 ghost use Rattle.model.specs.Modes.{smaller, changeMode, changeMar};
-ghost use Rattle.tags.specs.Words.{recordWords, recordIn};
+ghost use Rattle.tags.specs.Words.{recordWords, stateIn};
 ghost use Rattle.tags.specs.Sizes.{Lent};
 use geometry::L2;
 use geometry::MAR_128;
@@ -20,7 +19,8 @@ pub fn smaller(a: usize, b: usize) -> usize
     b
 }
 
-// All dirty lines of L1D go home, then all of L2 go out; everything becomes fresh, and L2 zero from the smaller of old and new S on.
+// All dirty lines of L1D go home, then all of L2 go out; everything becomes fresh, and L2 zero from the smaller of
+// old and new S on.
 pub fn change_mode(
     tags: &mut [u32],
     sram: usize,
@@ -31,7 +31,8 @@ pub fn change_mode(
     ext: &mut [u8],
 )
     requires { ⌜ Lent sram sets (now tags) ⌝ }
-    ensures { λ _. ⌜ state (recordIn (now (tags .exit))) (now (l1d .entry)) (now (l2 .exit)) (now (ext .exit)) ≡ changeMode mode (state (recordIn (now (tags .entry))) (now (l1d .entry)) (now (l2 .entry)) (now (ext .entry))) ⌝ }
+    ensures { λ _. ⌜ stateIn (now (tags .exit)) (now (l1d .entry)) (now (l2 .exit)) (now (ext .exit))
+        ≡ changeMode mode (stateIn (now (tags .entry)) (now (l1d .entry)) (now (l2 .entry)) (now (ext .entry))) ⌝ }
 {
     l1d_commands::l1d_all(tags, sram, sets, 10, l1d, l2, ext);
     l2_commands::l2_all(tags, sram, sets, 10, l1d, l2, ext);
@@ -46,7 +47,8 @@ pub fn change_mode(
 // n: 128 or 129 (else nothing changes), bit: 0 or 1. No byte is touched, whatever the memories are.
 pub fn change_mar(tags: &mut [u32], n: u32, bit: u32)
     requires { ⌜ (bit ≤ 1) × (length (now tags) ≡ recordWords) ⌝ }
-    ensures { λ _. ⌜ ((d m e : List ℕ) → state (recordIn (now (tags .exit))) d m e ≡ changeMar n bit (state (recordIn (now (tags .entry))) d m e)) ⌝ }
+    ensures { λ _. ⌜ ((d m e : List ℕ) → stateIn (now (tags .exit)) d m e
+        ≡ changeMar n bit (stateIn (now (tags .entry)) d m e)) ⌝ }
 {
     let mode = tags::mode_of(tags);
     let x = tags::mar128_of(tags);

@@ -1,5 +1,6 @@
--- How a loop reads a number off a trace: what the groups read so far make of the groups that follow. Numbers of both widths go by these laws:
--- k groups fit any bits, and the group behind them has to stay below m, where the limit is m * 128 ^ k.
+-- How a loop reads a number off a trace: what the groups read so far make of the groups that follow. Numbers of both
+-- widths go by these laws: k groups fit any bits, and the group behind them has to stay below m, where the limit is m
+-- * 128 ^ k.
 use Prim.Native.Nat.{ℕ, zero, suc, _+_, _*_, _-_, _^_, _≤_, _<_}
 use mathlib.Core.Bool.{Bool, true, false, cond, _&&_}
 use mathlib.Core.List.{List, [], _∷_}
@@ -14,7 +15,8 @@ use borrow.Author.Tests.{ltb-true, lt-ltb, le-ltb, ne-eqb}
 use Rattle.model.specs.Trace.{Number, number, noNumber, groups, moreGroups, numberBelow}
 use Rattle.model.specs.Laws.{bool, false-true}
 
--- i groups of value v, each with its top bit set, before a number n of further groups; s is the weight of the first of these
+-- i groups of value v, each with its top bit set, before a number n of further groups; s is the weight of the first
+-- of these
 unfoldable pub grown : ℕ → ℕ → ℕ → Number → Number
 grown v s i n = cond (n .ok) (number (v + s * n .value) (i + n .used)) noNumber
 
@@ -55,7 +57,8 @@ module _ (t : List ℕ) (p : ℕ) where
   unfolding groups
   first-end h = rw (drop-of-length-le t h)
 
--- ---- "shortest form only": further groups, where they are a number at all, make 1 at least; m at least where the first of them is
+-- ---- "shortest form only": further groups, where they are a number at all, make 1 at least; m at least where the
+-- first of them is
 least-of : (m b : ℕ) (n : Number) → m ≤ 128 → m ≤ b → (n .ok ≡ true → 1 ≤ n .value) →
     (x y : Bool) → ltb b 128 ≡ x → eqb b 0 ≡ y →
     cond x (cond y noNumber (number b 1)) (cond (n .ok) (number (b - 128 + 128 * n .value) (suc (n .used))) noNumber) .ok ≡ true →
@@ -165,7 +168,8 @@ module _ (k m : ℕ) (one : 1 ≤ k) (two : 2 ≤ m) where
   pub room-groups : 2 * 128 ^ k ≤ m * 128 ^ k
   room-groups = mul-le-mul-right (128 ^ k) two
 
--- ---- the loop: i groups are read, each with its top bit set; they have the value v, and s is the weight of the next group
+-- ---- the loop: i groups are read, each with its top bit set; they have the value v, and s is the weight of the next
+-- group
 pub record Reading (t : List ℕ) (at k v s i : ℕ) : Type 0 where
   pub few : i ≤ k
   pub weight : s ≡ 128 ^ i

@@ -1,4 +1,5 @@
-// Numbers of a trace (paper 01, "Trace"): groups of seven bits, low group first, top bit set on all but the last, shortest form only.
+// Numbers of a trace (paper 01, "Trace"): groups of seven bits, low group first, top bit set on all but the last,
+// shortest form only.
 ghost use mathlib.Core.Path.{_≡_};
 ghost use Prim.Native.Nat.{_*_, _^_, _≤_};
 ghost use lib.ListN.{drop};
@@ -18,8 +19,9 @@ const NO_NUMBER: Number = Number {
     used: 0,
 };
 
-// A number below top × 128 to the power of `full`: so many groups may have any bits, and one behind them stays below `top`. 32 bits are four groups and
-// four bits (4, 16), 64 bits nine and one (9, 2). The number of one byte comes first, as most are.
+// A number below top × 128 to the power of `full`: so many groups may have any bits, and one behind them stays below
+// `top`. 32 bits are four groups and four bits (4, 16), 64 bits nine and one (9, 2). The number of one byte comes
+// first, as most are.
 pub fn number_at(trace: &[u8], at: usize, full: usize, top: u64) -> Number
     requires { ⌜ (1 ≤ full) × ((2 ≤ top) × ((top ≤ 128) × (top * 128 ^ full ≤ 18446744073709551616))) ⌝ }
     ensures { λ r. ⌜ told r ≡ numberBelow (top * 128 ^ full) (drop at (now (trace .entry))) ⌝ }

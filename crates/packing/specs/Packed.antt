@@ -1,4 +1,5 @@
--- The record by value and the words that stand for it: an array that is filled with what the words give, and words that are stored set by set.
+-- The record by value and the words that stand for it: an array that is filled with what the words give, and words
+-- that are stored set by set.
 use Prim.Native.Nat.{ℕ, zero, suc, _+_, _*_, _/_, _%_, _≤_, _<_}
 use mathlib.Core.Bool.{Bool, true, false, cond}
 use mathlib.Core.List.{List, [], _∷_, _++_, append-nil}

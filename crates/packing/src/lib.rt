@@ -1,5 +1,6 @@
-// The record by value, with its sets in arrays of set structs, out of lent words and into them; and the fresh record in words. Words stand for one record
-// (`recordIn`, crate tags): `unpack` gives that record, and after `pack` and `write_fresh` the words stand for the record that is asked for.
+// The record by value, with its sets in arrays of set structs, out of lent words and into them; and the fresh record
+// in words. Words stand for one record (`recordIn`, crate tags): `unpack` gives that record, and after `pack` and
+// `write_fresh` the words stand for the record that is asked for.
 ghost use mathlib.Core.Path.{_≡_};
 ghost use Prim.Native.Nat.{_<_};
 ghost use lib.ListN.{length, replicate};
@@ -182,7 +183,8 @@ pub fn pack(r: Record, tags: &mut [u32])
 // ---- a fresh start
 fn fresh_l1d(tags: &mut [u32])
     requires { ⌜ length (now tags) ≡ recordWords ⌝ }
-    ensures { λ _. ⌜ recordIn (now (tags .exit)) ≡ withL1d (recordIn (now (tags .entry))) (replicate 128 freshL1dSet) ⌝ }
+    ensures { λ _. ⌜ recordIn (now (tags .exit))
+        ≡ withL1d (recordIn (now (tags .entry))) (replicate 128 freshL1dSet) ⌝ }
 {
     let empty = Line {
         valid: false,
@@ -203,7 +205,8 @@ fn fresh_l1d(tags: &mut [u32])
 
 fn fresh_l2(tags: &mut [u32])
     requires { ⌜ length (now tags) ≡ recordWords ⌝ }
-    ensures { λ _. ⌜ recordIn (now (tags .exit)) ≡ withL2 (recordIn (now (tags .entry))) (replicate 512 freshL2Set) ⌝ }
+    ensures { λ _. ⌜ recordIn (now (tags .exit))
+        ≡ withL2 (recordIn (now (tags .entry))) (replicate 512 freshL2Set) ⌝ }
 {
     let empty = Line {
         valid: false,

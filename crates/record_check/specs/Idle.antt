@@ -1,5 +1,6 @@
--- A set of L2 that is not in use is well formed exactly when it is fresh: no line can be valid there, so each is empty, none stands twice, and the order
--- is the fresh one. Also: the four tests of L, E and the mode are the definition's.
+-- A set of L2 that is not in use is well formed exactly when it is fresh: no line can be valid there, so each is
+-- empty, none stands twice, and the order is the fresh one. Also: the four tests of L, E and the mode are the
+-- definition's.
 use Prim.Native.Nat.{ℕ, _≤_}
 use mathlib.Core.Bool.{Bool, true, false, not, _&&_, cond, and-true, and-false, and-assoc}
 use mathlib.Core.List.{List}

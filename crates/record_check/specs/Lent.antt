@@ -1,5 +1,6 @@
--- Refusals 1 and 2 of lent words: the tests that the code makes of sets and ways. Words stand for a record whatever their bytes are (`recordIn`, crate tags): one with a byte
--- that is no bool, where a bool belongs, stands for a record that is not well formed.
+-- Refusals 1 and 2 of lent words: the tests that the code makes of sets and ways. Words stand for a record whatever
+-- their bytes are (`recordIn`, crate tags): one with a byte that is no bool, where a bool belongs, stands for a
+-- record that is not well formed.
 use Prim.Native.Nat.{ℕ, zero, suc, _+_, _/_, _%_}
 use mathlib.Core.Bool.{Bool, true, not, cond, _&&_, _||_}
 use mathlib.Core.List.{List}

@@ -1,4 +1,5 @@
--- One way, by its two words: what its mark says, where its line may stand. The numbers are those of the code; the record is any record.
+-- One way, by its two words: what its mark says, where its line may stand. The numbers are those of the code; the
+-- record is any record.
 use Prim.Native.Nat.{ℕ, _+_, _*_, _-_, _/_, _%_, _≤_, _<_}
 use mathlib.Core.Bool.{Bool, true, false, cond, _&&_, _||_, and-true, and-assoc, or-assoc}
 use mathlib.Core.List.{List}

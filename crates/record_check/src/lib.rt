@@ -1,6 +1,7 @@
-// Which lent words stand for a well-formed record (paper 01, "Lines and the record"; refusals 1 and 2). The words are read where they
-// stand: nothing is copied. The tests of sets have one caller each, so that the compiler makes one loop of them. A byte valid or dirty of a mark, or of a MAR
-// bit, that is neither 0 nor 1 makes a record that is not well formed, as it does in C's layout by value; the padding of a mark is not looked at.
+// Which lent words stand for a well-formed record (paper 01, "Lines and the record"; refusals 1 and 2). The words are
+// read where they stand: nothing is copied. The tests of sets have one caller each, so that the compiler makes one
+// loop of them. A byte valid or dirty of a mark, or of a MAR bit, that is neither 0 nor 1 makes a record that is not
+// well formed, as it does in C's layout by value; the padding of a mark is not looked at.
 ghost use mathlib.Core.Bool.{_||_};
 ghost use mathlib.Core.Path.{_≡_};
 ghost use Prim.Native.Nat.{_*_, _-_, _%_, _≤_, _<_};
@@ -8,9 +9,9 @@ ghost use lib.Dec.{eqb};
 ghost use lib.ListN.{length};
 ghost use Rattle.model.specs.Basics.{anyOf};
 ghost use Rattle.model.specs.Lines.{holds};
-ghost use Rattle.model.specs.Records.{permuted4, state, wellFormed, sramOf, l2SetsOf, l2SetAt};
+ghost use Rattle.model.specs.Records.{permuted4, wellFormed, sramOf, l2SetsOf, l2SetAt};
 ghost use Rattle.model.specs.Refusals.{lentDue};
-ghost use Rattle.tags.specs.Words.{recordWords, lineIn, recordIn};
+ghost use Rattle.tags.specs.Words.{recordWords, lineIn, recordIn, stateIn};
 ghost use Rattle.record_check.specs.Lent.{allFrom, lowBits, externalIn, emptyIn, onceIn, l1dWay, l2Way, l1dOkIn, l2OkIn};
 use geometry::L1d;
 use geometry::L2;
@@ -23,7 +24,8 @@ const L1D_LINE: u64 = L1d::LINE as u64;
 
 const L2_LINE: u64 = L2::LINE as u64;
 
-// The bytes after which the sets of L1D begin anew: a line is aligned and in its set when its address has one remainder by them.
+// The bytes after which the sets of L1D begin anew: a line is aligned and in its set when its address has one
+// remainder by them.
 const L1D_SPAN: usize = L1d::SETS * L1d::LINE;
 
 // ---- the parts of a way's test, by its words
@@ -59,7 +61,8 @@ fn holds_in(f: u32, a: u32, b: u32) -> bool
     live(f % 65536) & (a == b)
 }
 
-// The bits of n that the mask has: the number of L2 sets is a power of two, so that a remainder by it needs no division.
+// The bits of n that the mask has: the number of L2 sets is a power of two, so that a remainder by it needs no
+// division.
 fn low(n: usize, mask: usize) -> usize
     ensures { λ r. ⌜ r ≡ lowBits n mask ⌝ }
 {
@@ -269,7 +272,8 @@ pub fn well_formed(tags: &[u32]) -> bool
 // The number due before any command is looked at: 1, 2, or 0 for none.
 pub fn lent_due(tags: &[u32], l1d: &[u8], l2: &[u8], ext: &[u8]) -> u8
     requires { ⌜ length (now tags) ≡ recordWords ⌝ }
-    ensures { λ n. ⌜ n ≡ lentDue (state (recordIn (now (tags .entry))) (now (l1d .entry)) (now (l2 .entry)) (now (ext .entry))) ⌝ }
+    ensures { λ n. ⌜ n
+        ≡ lentDue (stateIn (now (tags .entry)) (now (l1d .entry)) (now (l2 .entry)) (now (ext .entry))) ⌝ }
 {
     let m = l2.len();
     let e = ext.len();

@@ -1,5 +1,5 @@
--- Each number, as the code comes to it: the tests passed so far, and what the next one says. Where only the last test is left, one law gives the number for
--- both its answers (`access-last`).
+-- Each number, as the code comes to it: the tests passed so far, and what the next one says. Where only the last test
+-- is left, one law gives the number for both its answers (`access-last`).
 use Prim.Native.Nat.{ℕ, _+_, _%_, _≤_, _<_}
 use mathlib.Core.Bool.{Bool, true, false, _&&_, _||_}
 use mathlib.Core.Path.{_≡_, refl, sym, _∙_}

@@ -1,4 +1,5 @@
-// The lowest number of the refusal table that is due (paper 01, "Refusal table"); 0 where none is. Every function answers for every argument.
+// The lowest number of the refusal table that is due (paper 01, "Refusal table"); 0 where none is. Every function
+// answers for every argument.
 ghost use mathlib.Core.Bool.{true};
 ghost use mathlib.Core.Path.{_≡_};
 ghost use Rattle.model.specs.Refusals.{sizeOk, placeOk, valueOk, accessDue, blockDue, modeDue};

@@ -1,5 +1,5 @@
--- What the loop makes of its commands: the run of paper 01 (`runFrom`), with the last answer beside it, over a source of commands that is a trace or
--- one given command.
+-- What the loop makes of its commands: the run of paper 01 (`runFrom`), with the last answer beside it, over a source
+-- of commands that is a trace or one given command.
 use Prim.Native.Nat.{ℕ, zero, suc, _+_, _*_, _-_, _≤_, _<_}
 use mathlib.Core.Bool.{Bool, true, false, cond}
 use mathlib.Core.List.{List, _∷_}
@@ -157,7 +157,8 @@ First {A} {B} x = A
 abbrev pub Second : {A B : Type 0} → A ⊎ B → Type 0
 Second {A} {B} x = B
 
--- what is known of a command that the run goes on with: it takes a byte at least, ends before the end, and its answer has room
+-- what is known of a command that the run goes on with: it takes a byte at least, ends before the end, and its answer
+-- has room
 pub record Going (end at k : ℕ) (d : Next) (o : List ℕ) : Type 0 where
   pub none : stopOf (d .ok) (length o) k ≡ 0
   pub more : 1 ≤ d .used
@@ -187,7 +188,8 @@ answer-put o k n s v h o′ e =
     long : (o : List ℕ) (k n s v : ℕ) → k * 10 + 10 ≤ length o → length (littleBytes v 8) ≡ 8 → k * 10 + length (n ∷ s ∷ littleBytes v 8) ≤ length o
     long o k n s v h b = omega arith
 
--- ---- a refused command leaves every word as it was: what the loop keeps of it. Before the first turn nothing was changed; a single command has one turn only.
+-- ---- a refused command leaves every word as it was: what the loop keeps of it. Before the first turn nothing was
+-- changed; a single command has one turn only.
 abbrev pub Firm : Bool → List ℕ → List ℕ → ℕ → Answer → Type 0
 Firm single ws₀ ws at last = (at ≡ 0 → ws ≡ ws₀) × (single ≡ true → at ≢ 0 → last .number ≢ 0 → ws ≡ ws₀)
 

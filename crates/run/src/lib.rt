@@ -1,13 +1,13 @@
-// The run over a trace, or of one given command: a loop that takes a command, carries it out as a call of its own, and puts down its answer. One function for
-// both, so that the steps of an access have one caller and the compiler makes one loop of them.
+// The run over a trace, or of one given command: a loop that takes a command, carries it out as a call of its own,
+// and puts down its answer. One function for both, so that the steps of an access have one caller and the compiler
+// makes one loop of them.
 ghost use mathlib.Core.Bool.{true, false};
 ghost use mathlib.Core.Logic.{_≢_};
 ghost use mathlib.Core.Path.{_≡_};
 ghost use Prim.Native.Nat.{_+_, _*_, _≤_};
 ghost use lib.ListN.{length};
-ghost use Rattle.model.specs.Records.{state};
 ghost use Rattle.model.specs.Calls.{reply, step, ran, runFrom, putAnswer};
-ghost use Rattle.tags.specs.Words.{recordWords, recordIn};
+ghost use Rattle.tags.specs.Words.{recordWords, stateIn};
 ghost use Rattle.run.specs.Executed.{NextAt, endOf, stopOf, noAnswer};
 use access::Answer;
 use decode::Decoded;
@@ -55,7 +55,8 @@ fn next(single: bool, given: Command, trace: &[u8], at: usize) -> Decoded
     decode::next_command(trace, at)
 }
 
-// 11 for a damaged trace, then 12 for fewer than ten answer bytes left, 0 to go on. The quotient keeps the test from wrapping.
+// 11 for a damaged trace, then 12 for fewer than ten answer bytes left, 0 to go on. The quotient keeps the test from
+// wrapping.
 fn stop_of(ok: bool, len: usize, count: usize) -> u8
     ensures { λ r. ⌜ r ≡ stopOf ok len count ⌝ }
 {
@@ -70,7 +71,8 @@ fn stop_of(ok: bool, len: usize, count: usize) -> u8
 
 fn put_answer(answers: &mut [u8], count: usize, a: Answer)
     requires { ⌜ count * 10 + 10 ≤ length (now answers) ⌝ }
-    ensures { λ _. ⌜ now (answers .exit) ≡ putAnswer (now (answers .entry)) count (a .number) (a .server) (a .value) ⌝ }
+    ensures { λ _. ⌜ now (answers .exit)
+        ≡ putAnswer (now (answers .entry)) count (a .number) (a .server) (a .value) ⌝ }
 {
     let at = count * 10;
     answers[at] = a.number;
@@ -78,7 +80,8 @@ fn put_answer(answers: &mut [u8], count: usize, a: Answer)
     memory::store8(answers, at + 2, a.value);
 }
 
-// One given command (`single`), or all of a trace. Who gives one command has room for its answer; the trace is then not looked at.
+// One given command (`single`), or all of a trace. Who gives one command has room for its answer; the trace is then
+// not looked at.
 pub fn run(
     tags: &mut [u32],
     single: bool,
@@ -91,13 +94,13 @@ pub fn run(
 ) -> Ended
     requires { ⌜ length (now tags) ≡ recordWords ⌝ }
     ensures one { λ q. ⌜ (single ≡ true → 10 ≤ length (now (answers .entry)) →
-        reply (q .last .number) (q .last .server) (q .last .value) (state (recordIn (now (tags .exit))) (now (l1d .exit)) (now (l2 .exit)) (now (ext .exit)))
-        ≡ step given (state (recordIn (now (tags .entry))) (now (l1d .entry)) (now (l2 .entry)) (now (ext .entry)))) ⌝ }
+        reply (q .last .number) (q .last .server) (q .last .value) (stateIn (now (tags .exit)) (now (l1d .exit)) (now (l2 .exit)) (now (ext .exit)))
+        ≡ step given (stateIn (now (tags .entry)) (now (l1d .entry)) (now (l2 .entry)) (now (ext .entry)))) ⌝ }
     ensures refused { λ q. ⌜ (single ≡ true → q .last .number ≢ 0 → now (tags .exit) ≡ now (tags .entry)) ⌝ }
     ensures all { λ q. ⌜ (single ≡ false →
-        ran (state (recordIn (now (tags .exit))) (now (l1d .exit)) (now (l2 .exit)) (now (ext .exit))) (q .consumed) (q .count) (q .stop) (now (answers .exit))
+        ran (stateIn (now (tags .exit)) (now (l1d .exit)) (now (l2 .exit)) (now (ext .exit))) (q .consumed) (q .count) (q .stop) (now (answers .exit))
         ≡ runFrom (now (trace .entry)) (length (now (trace .entry))) 0
-        (state (recordIn (now (tags .entry))) (now (l1d .entry)) (now (l2 .entry)) (now (ext .entry))) 0 (now (answers .entry))) ⌝ }
+        (stateIn (now (tags .entry)) (now (l1d .entry)) (now (l2 .entry)) (now (ext .entry))) 0 (now (answers .entry))) ⌝ }
 {
     let mut at: usize = 0;
     let mut count: usize = 0;

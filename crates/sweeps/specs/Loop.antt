@@ -1,5 +1,5 @@
--- A loop over lines on lent words: after k of its n turns the state is that of the definition's first k turns. One law for every sweep, whatever its step f, as long
--- as f leaves S and the number of L2 sets, which the loop hands on.
+-- A loop over lines on lent words: after k of its n turns the state is that of the definition's first k turns. One
+-- law for every sweep, whatever its step f, as long as f leaves S and the number of L2 sets, which the loop hands on.
 use Prim.Native.Nat.{ℕ, _+_, _≤_, _<_}
 use mathlib.Core.Path.{_≡_, refl, ap, _∙_}
 use mathlib.Core.List.{List}
@@ -12,7 +12,8 @@ use Rattle.tags.specs.Words.{recordIn}
 use Rattle.tags.specs.Sizes.{Lent, lent-next}
 use Rattle.sweeps.specs.Fixed.{Fixed}
 
--- what the loop keeps after k turns: ws, m, e are the words, L2 and external memory; ws₀, m₀, e₀ those of its start; l is L1D
+-- what the loop keeps after k turns: ws, m, e are the words, L2 and external memory; ws₀, m₀, e₀ those of its start;
+-- l is L1D
 pub record Swept (f : ℕ → State → State) (n sram sets : ℕ) (ws₀ l m₀ e₀ : List ℕ) (k : ℕ) (ws m e : List ℕ) : Type 0 where
   pub within : k ≤ n
   pub words : length ws ≡ length ws₀

@@ -1,5 +1,5 @@
--- The two or four ways of a set one by one: a list of two or four lines written out, and what the definitions' tests over such a list are. By cases on
--- the list and the laws of "and" and "or".
+-- The two or four ways of a set one by one: a list of two or four lines written out, and what the definitions' tests
+-- over such a list are. By cases on the list and the laws of "and" and "or".
 use mathlib.Core.Bool.{Bool, not, _&&_, _||_, and-true, and-false, or-false}
 use mathlib.Core.List.{List, [], _∷_}
 use mathlib.Core.Path.{_≡_, refl, ap, _∙_}

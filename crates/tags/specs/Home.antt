@@ -1,4 +1,5 @@
--- Which level is the home of an address, as the code tests it: SRAM below 80000000h, else external memory where L2 has no sets, else the L2 cache.
+-- Which level is the home of an address, as the code tests it: SRAM below 80000000h, else external memory where L2
+-- has no sets, else the L2 cache.
 use Prim.Native.Nat.{ℕ}
 use mathlib.Core.Bool.{true, false}
 use mathlib.Core.Path.{_≡_, refl, sym, _∙_}

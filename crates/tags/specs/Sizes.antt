@@ -1,5 +1,6 @@
--- No step of an access changes L or the mode: S and the number of L2 sets stay, so that whoever has them keeps them through every step. Stated of the definitions of
--- crate model alone; a contract that equates the state with a definition gives it to the caller through these.
+-- No step of an access changes L or the mode: S and the number of L2 sets stay, so that whoever has them keeps them
+-- through every step. Stated of the definitions of crate model alone; a contract that equates the state with a
+-- definition gives it to the caller through these.
 use Prim.Native.Nat.{ℕ, _≤_, _<_}
 use mathlib.Core.Path.{_≡_, refl, sym, ap, _∙_}
 use mathlib.Core.List.{List}

@@ -1,5 +1,6 @@
--- The record that lent words stand for: L, E, then mode and MAR bits in one word; five words for a set of L1D, nine for a set of L2. Every law about single words ends here:
--- what stands above speaks of `recordIn` and the definitions of crate model alone.
+-- The record that lent words stand for: L, E, then mode and MAR bits in one word; five words for a set of L1D, nine
+-- for a set of L2. Every law about single words ends here: what stands above speaks of `recordIn` and the definitions
+-- of crate model alone.
 use Prim.Native.Nat.{ℕ, zero, suc, _+_, _*_, _/_, _%_, _≤_, _<_}
 use mathlib.Core.Bool.{Bool, true, false, cond, _&&_, _||_}
 use mathlib.Core.Path.{_≡_, refl, sym, ap, _∙_}
@@ -12,7 +13,7 @@ use lib.ListN.{length, getD, set, length-set}
 use lib.Seq.{getD-set-same, getD-set-other}
 use lib.Dec.{eqb, ltb}
 use Rattle.model.specs.Lines.{l1dPut, l2Put, l1dUse, l2Use, l1dGet, l2Get, used2, used4}
-use Rattle.model.specs.Records.{noL1dSet, noL2Set, l1dSetAt, l2SetAt, withL1dSet, withL2Set, withL1dLine, withL2Line}
+use Rattle.model.specs.Records.{State, state, noL1dSet, noL2Set, l1dSetAt, l2SetAt, withL1dSet, withL2Set, withL1dLine, withL2Line}
 use Rattle.model.specs.declared.Line.{Line}
 use Rattle.model.specs.declared.Order2.{Order2}
 use Rattle.model.specs.declared.Order4.{Order4}
@@ -65,8 +66,8 @@ recordWords = 5251
 abbrev pub word : List ℕ → ℕ → ℕ
 word ws p = getD ws p 0
 
--- A mark without its padding is 0, 1, 257 or 256. Any other has a byte that is no bool: it is read as 256, an invalid way that is dirty, which no well-formed
--- record has.
+-- A mark without its padding is 0, 1, 257 or 256. Any other has a byte that is no bool: it is read as 256, an invalid
+-- way that is dirty, which no well-formed record has.
 unfoldable pub lineIn : ℕ → ℕ → Line
 lineIn f a = record { valid = eqb (f % 65536) 1 || eqb (f % 65536) 257; dirty = ltb 1 (f % 65536); address = a }
 
@@ -91,7 +92,8 @@ l2In ws j =
       order = order4In (word ws (j * 9 + 651));
     }
 
--- The mode, in the word that has the MAR bits too. Where a byte of a MAR bit is no bool it is read as 4, which is no mode: no well-formed record has it.
+-- The mode, in the word that has the MAR bits too. Where a byte of a MAR bit is no bool it is read as 4, which is no
+-- mode: no well-formed record has it.
 abbrev pub marBitsIn : ℕ → Bool
 marBitsIn m = ltb (m / 256 % 256) 2 && ltb (m / 65536 % 256) 2
 
@@ -109,6 +111,10 @@ recordIn ws =
       l1d = listed (l1dIn ws) 0 128;
       l2 = listed (l2In ws) 0 512;
     }
+
+-- the words of a record with the three lent memories: what every contract above speaks of
+abbrev pub stateIn : List ℕ → List ℕ → List ℕ → List ℕ → State
+stateIn ws d m e = state (recordIn ws) d m e
 
 -- a set of the record
 pub l1d-at : (ws : List ℕ) (i : ℕ) → i < 128 → l1dSetAt (recordIn ws) i ≡ l1dIn ws i

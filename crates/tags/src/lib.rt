@@ -1,5 +1,6 @@
-// The record in words that can be lent, as C lays it out: L, E, mode and MAR bits; five words for a set of L1D (mark and address of two lines, the order), nine for a
-// set of L2. A mark is 0, or 1 for a clean and 257 for a dirty line: the bytes valid and dirty. Each function says what it does to the record that the words stand for.
+// The record in words that can be lent, as C lays it out: L, E, mode and MAR bits; five words for a set of L1D (mark
+// and address of two lines, the order), nine for a set of L2. A mark is 0, or 1 for a clean and 257 for a dirty line:
+// the bytes valid and dirty. Each function says what it does to the record that the words stand for.
 ghost use mathlib.Core.Path.{_≡_};
 ghost use Prim.Native.Nat.{_%_, _/_, _<_, _≤_};
 ghost use lib.ListN.{length};
@@ -201,7 +202,8 @@ pub fn l2_victim(tags: &[u32], j: usize) -> usize
 // a way is used: the order takes it to the front, by value
 pub fn l1d_use(tags: &mut [u32], i: usize, w: usize)
     requires { ⌜ ((i < 128) × (w < 2)) × (length (now tags) ≡ recordWords) ⌝ }
-    ensures { λ _. ⌜ recordIn (now (tags .exit)) ≡ withL1dSet (recordIn (now (tags .entry))) i (l1dUse (l1dSetAt (recordIn (now (tags .entry))) i) w) ⌝ }
+    ensures { λ _. ⌜ recordIn (now (tags .exit))
+        ≡ withL1dSet (recordIn (now (tags .entry))) i (l1dUse (l1dSetAt (recordIn (now (tags .entry))) i) w) ⌝ }
 {
     let p = i * L1D_SET + L1D_ORDER;
     let o = order2_of(tags[p]);
@@ -211,7 +213,8 @@ pub fn l1d_use(tags: &mut [u32], i: usize, w: usize)
 
 pub fn l2_use(tags: &mut [u32], j: usize, v: usize)
     requires { ⌜ ((j < 512) × (v < 4)) × (length (now tags) ≡ recordWords) ⌝ }
-    ensures { λ _. ⌜ recordIn (now (tags .exit)) ≡ withL2Set (recordIn (now (tags .entry))) j (l2Use (l2SetAt (recordIn (now (tags .entry))) j) v) ⌝ }
+    ensures { λ _. ⌜ recordIn (now (tags .exit))
+        ≡ withL2Set (recordIn (now (tags .entry))) j (l2Use (l2SetAt (recordIn (now (tags .entry))) j) v) ⌝ }
 {
     let p = j * L2_SET + L2_ORDER;
     let o = order4_of(tags[p]);

@@ -1,6 +1,7 @@
--- A `&κ mut [T]` that is lent again for a lifetime κ′ of a call, and comes back (the toolchain's example `writer` has the
--- same file; it says nothing of this crate).
---   LentAgain    what the holder keeps meanwhile, the slice being lent under the name γ₁: the lender's part at κ′, and its
+-- A `&κ mut [T]` that is lent again for a lifetime κ′ of a call, and comes back (the toolchain's example `writer` has
+-- the same file; it says nothing of this crate).
+-- LentAgain    what the holder keeps meanwhile, the slice being lent under the name γ₁: the lender's part at κ′, and
+-- its
 --                own borrow at κ, open, with both halves of its ghost variable
 --   lends-again  the slice at κ, with a token of κ, gives one at κ′ under a new name, and `LentAgain`
 --   comes-back   once κ′ is dead, `LentAgain` and what says the last list zs, as long as ys, give the slice at κ back

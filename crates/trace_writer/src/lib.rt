@@ -105,7 +105,8 @@ fn copy_in(out: &mut [u8], at: usize, bytes: &[u8], n: usize)
 }
 
 pub fn put_command(out: &mut [u8], at: usize, code: u32, first: u64, second: u64, value: u64) -> Put
-    ensures { λ r. ⌜ told r (now (out .exit)) ≡ writeCommand (now (out .entry)) at (command code first second value) ⌝ }
+    ensures { λ r. ⌜ told r (now (out .exit))
+        ≡ writeCommand (now (out .entry)) at (command code first second value) ⌝ }
 {
     let count = numbers_taken(code);
     if count == 4 {

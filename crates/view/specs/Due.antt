@@ -1,4 +1,5 @@
--- The number due for a view, as the code comes to it: the tests passed so far, and what the next one says. `Legal` and `Accepted` name what was found before.
+-- The number due for a view, as the code comes to it: the tests passed so far, and what the next one says. `Legal`
+-- and `Accepted` name what was found before.
 use Prim.Native.Nat.{ℕ, _%_}
 use mathlib.Core.Bool.{Bool, true, false, _&&_}
 use mathlib.Core.List.{List}
@@ -11,7 +12,8 @@ use Rattle.model.specs.Records.{sramOf, wellFormed}
 use Rattle.model.specs.Refusals.{lowestDue, unless, lentL2, lentExternal, viewLentDue, viewDue, placeOk}
 use Rattle.model.specs.declared.Record.{Record}
 
--- ---- the lent lengths: a and b are what the tests of L2's and of external memory's say, l and x the lengths that the record has
+-- ---- the lent lengths: a and b are what the tests of L2's and of external memory's say, l and x the lengths that
+-- the record has
 pub record Legal (r : Record) (m e : List ℕ) (a b : Bool) (l x : ℕ) : Type 0 where
   pub l2 : a ≡ legalL2 (length m)
   pub ext : b ≡ legalExternal (length e)

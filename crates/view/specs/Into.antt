@@ -1,4 +1,5 @@
--- A view that goes into a buffer of the caller's, as C asks for it: a part of a slice cannot be returned there. What it leaves, and each way through the code.
+-- A view that goes into a buffer of the caller's, as C asks for it: a part of a slice cannot be returned there. What
+-- it leaves, and each way through the code.
 use Prim.Native.Nat.{ℕ, _-_, _≤_, _<_}
 use mathlib.Core.Bool.{true, false, cond}
 use mathlib.Core.List.{List}
@@ -22,7 +23,8 @@ pub record Into : Type 0 where
 abbrev pub seenAs : ℕ → List ℕ → Into
 seenAs n o = record { number = n; bytes = o }
 
--- A buffer o of fewer than 64 bytes is refused with 1; of a longer one the first 64 bytes change, where the view is accepted.
+-- A buffer o of fewer than 64 bytes is refused with 1; of a longer one the first 64 bytes change, where the view is
+-- accepted.
 unfoldable pub viewInto : Record → ℕ → List ℕ → List ℕ → List ℕ → Into
 viewInto r a m e o =
     cond (ltb (length o) 64) (seenAs 1 o)

@@ -1,4 +1,5 @@
--- The part that the code returns is the view of paper 01: an accepted address has its 64 bytes in SRAM, or in external memory.
+-- The part that the code returns is the view of paper 01: an accepted address has its 64 bytes in SRAM, or in
+-- external memory.
 use Prim.Native.Nat.{ℕ, zero, suc, _+_, _-_, _%_, _≤_, _<_}
 use mathlib.Core.Bool.{true, false, _&&_}
 use mathlib.Core.List.{List, []}

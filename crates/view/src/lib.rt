@@ -1,5 +1,5 @@
-// Looking behind L1D (paper 01): the bytes of SRAM or of external memory themselves, on lent words. The contracts equate the part and the number with
-// paper 01's definitions (model/specs/Calls, Refusals).
+// Looking behind L1D (paper 01): the bytes of SRAM or of external memory themselves, on lent words. The contracts
+// equate the part and the number with paper 01's definitions (model/specs/Calls, Refusals).
 ghost use mathlib.Core.Path.{_≡_};
 ghost use lib.ListN.{length};
 ghost use Rattle.model.specs.Refusals.{viewDue};
@@ -45,7 +45,8 @@ pub fn view_due(tags: &[u32], l2: &[u8], ext: &[u8], address: u32) -> u8
 // The 64 bytes of SRAM or external memory themselves, a part of whichever is their home; the empty part on refusal.
 pub fn view<'a>(tags: &[u32], l2: &'a [u8], ext: &'a [u8], address: u32) -> &'a [u8]
     requires { ⌜ length (now tags) ≡ recordWords ⌝ }
-    ensures { λ p. ⌜ now p ≡ viewCall (recordIn (now (tags .entry))) (now (l2 .entry)) (now (ext .entry)) address ⌝ }
+    ensures { λ p. ⌜ now p
+        ≡ viewCall (recordIn (now (tags .entry))) (now (l2 .entry)) (now (ext .entry)) address ⌝ }
 {
     if view_due(tags, l2, ext, address) != 0 {
         return &l2[..0];
@@ -58,7 +59,8 @@ pub fn view<'a>(tags: &[u32], l2: &'a [u8], ext: &'a [u8], address: u32) -> &'a 
     &l2[a..a + L1d::LINE]
 }
 
-// The 64 bytes go into the front of a lent buffer; one of fewer bytes is a lent length that is illegal. Returns the number, 0 when accepted.
+// The 64 bytes go into the front of a lent buffer; one of fewer bytes is a lent length that is illegal. Returns the
+// number, 0 when accepted.
 pub fn view_into(tags: &[u32], address: u32, l2: &[u8], ext: &[u8], seen: &mut [u8]) -> u8
     requires { ⌜ length (now tags) ≡ recordWords ⌝ }
     ensures { λ n. ⌜ seenAs n (now (seen .exit))

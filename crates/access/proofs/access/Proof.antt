@@ -61,9 +61,12 @@ is-cacheable-requires c κs = search needs
 -- src/lib.rt:278:13
 uncached-requires : tie.Need-uncached-requires
 uncached-requires c κs =
-    let a = (c .before .before .before .before .before .before .before .before .before .before .before .before .before) .args in let k = (c .before .before .before .before .before .before .before .before .before .before .before .before .before) .pre in let r = recordIn (a .tags .now) in let z = state r (a .l1d .now) (a .l2 .now) (a .ext .now) in
-    let due = (c .before .before .before .before .before .access-due) .ensures in
-    let sz = size-of (a .sram) ((c .before .before .before .before .before .before .before .extlen-of) .result) (a .c .first) (a .c .second) ((c .before .before .before .before .before .before .checked-value) .result) ((c .before .before .before .before .before .access-due) .result) due ((c .before .before .before .before .if1) .left) in
+    let p-if1 = c .before .before .before .before in let p-access-due = p-if1 .before in
+    let p-checked-value = p-access-due .before in let p-extlen-of = p-checked-value .before in
+    let p-start = p-extlen-of .before .before .before .before .before .before in
+    let a = p-start .args in let k = p-start .pre in let r = recordIn (a .tags .now) in let z = state r (a .l1d .now) (a .l2 .now) (a .ext .now) in
+    let due = (p-access-due .access-due) .ensures in
+    let sz = size-of (a .sram) ((p-extlen-of .extlen-of) .result) (a .c .first) (a .c .second) ((p-checked-value .checked-value) .result) ((p-access-due .access-due) .result) due ((p-if1 .if1) .left) in
     let cf = sym ((c .before .before .is-cacheable) .ensures) ∙ not-true ((c .before .before .is-cacheable) .result) ((c .before .if2) .taken) in
     (sz, uncached-external r (a .c .second) cf)
 
@@ -104,10 +107,14 @@ l1d-find-requires c κs = search needs
 -- src/lib.rt:288:13
 hit-requires : tie.Need-hit-requires
 hit-requires c κs =
-    let a = (c .before .before .before .before .before .before .before .before .before .before .before .before .before .before .before .before .before .before .before) .args in let k = (c .before .before .before .before .before .before .before .before .before .before .before .before .before .before .before .before .before .before .before) .pre in let r = recordIn (a .tags .now) in let z = state r (a .l1d .now) (a .l2 .now) (a .ext .now) in
-    let due = (c .before .before .before .before .before .before .before .before .before .before .before .access-due) .ensures in
-    let sz = size-of (a .sram) ((c .before .before .before .before .before .before .before .before .before .before .before .before .before .extlen-of) .result) (a .c .first) (a .c .second) ((c .before .before .before .before .before .before .before .before .before .before .before .before .checked-value) .result) ((c .before .before .before .before .before .before .before .before .before .before .before .access-due) .result) due ((c .before .before .before .before .before .before .before .before .before .before .if1) .left) in
-    ((((c .before .before .before .before .before .before .set-of) .ensures .1, (c .before .before .if3) .taken), k .1 .0), ((c .before .before .before .before .before .before .set-of) .ensures .0, sz))
+    let p-set-of = c .before .before .before .before .before .before in
+    let p-if1 = p-set-of .before .before .before .before in let p-access-due = p-if1 .before in
+    let p-checked-value = p-access-due .before in let p-extlen-of = p-checked-value .before in
+    let p-start = p-extlen-of .before .before .before .before .before .before in
+    let a = p-start .args in let k = p-start .pre in let r = recordIn (a .tags .now) in let z = state r (a .l1d .now) (a .l2 .now) (a .ext .now) in
+    let due = (p-access-due .access-due) .ensures in
+    let sz = size-of (a .sram) ((p-extlen-of .extlen-of) .result) (a .c .first) (a .c .second) ((p-checked-value .checked-value) .result) ((p-access-due .access-due) .result) due ((p-if1 .if1) .left) in
+    ((((p-set-of .set-of) .ensures .1, (c .before .before .if3) .taken), k .1 .0), ((p-set-of .set-of) .ensures .0, sz))
 
 -- src/lib.rt:289:9
 same-length-4 : tie.Need-same-length-4
@@ -135,10 +142,14 @@ returns-3 c = (
 -- src/lib.rt:295:5
 miss-requires : tie.Need-miss-requires
 miss-requires c κs =
-    let a = (c .before .before .before .before .before .before .before .before .before .before .before .before .before .before .before .before .before .before .before .before .before) .args in let k = (c .before .before .before .before .before .before .before .before .before .before .before .before .before .before .before .before .before .before .before .before .before) .pre in let r = recordIn (a .tags .now) in let z = state r (a .l1d .now) (a .l2 .now) (a .ext .now) in
-    let due = (c .before .before .before .before .before .before .before .before .before .before .before .before .before .access-due) .ensures in
-    let sz = size-of (a .sram) ((c .before .before .before .before .before .before .before .before .before .before .before .before .before .before .before .extlen-of) .result) (a .c .first) (a .c .second) ((c .before .before .before .before .before .before .before .before .before .before .before .before .before .before .checked-value) .result) ((c .before .before .before .before .before .before .before .before .before .before .before .before .before .access-due) .result) due ((c .before .before .before .before .before .before .before .before .before .before .before .before .if1) .left) in
-    (((c .before .before .before .before .before .before .before .before .set-of) .ensures .1, ((c .before .before .before .before .before .before .before .before .set-of) .ensures .0, sz)), k .1)
+    let p-set-of = c .before .before .before .before .before .before .before .before in
+    let p-if1 = p-set-of .before .before .before .before in let p-access-due = p-if1 .before in
+    let p-checked-value = p-access-due .before in let p-extlen-of = p-checked-value .before in
+    let p-start = p-extlen-of .before .before .before .before .before .before in
+    let a = p-start .args in let k = p-start .pre in let r = recordIn (a .tags .now) in let z = state r (a .l1d .now) (a .l2 .now) (a .ext .now) in
+    let due = (p-access-due .access-due) .ensures in
+    let sz = size-of (a .sram) ((p-extlen-of .extlen-of) .result) (a .c .first) (a .c .second) ((p-checked-value .checked-value) .result) ((p-access-due .access-due) .result) due ((p-if1 .if1) .left) in
+    (((p-set-of .set-of) .ensures .1, ((p-set-of .set-of) .ensures .0, sz)), k .1)
 
 -- src/lib.rt:263:1
 same-length-6 : tie.Need-same-length-6
@@ -159,14 +170,21 @@ same-length-9 c = search needs
 -- src/lib.rt:263:1
 returns-4 : tie.Need-returns-4
 returns-4 c =
-    let a = (c .before .before .before .before .before .before .before .before .before .before .before .before .before .before .before .before .before .before .before .before .before .before .before .before .before .before .before .before .before .before) .args in let k = (c .before .before .before .before .before .before .before .before .before .before .before .before .before .before .before .before .before .before .before .before .before .before .before .before .before .before .before .before .before .before) .pre in let r = recordIn (a .tags .now) in let z = state r (a .l1d .now) (a .l2 .now) (a .ext .now) in
-    let due = (c .before .before .before .before .before .before .before .before .before .before .before .before .before .before .before .before .before .before .before .before .before .before .access-due) .ensures in
-    let en = due-is (a .c) z ((c .before .before .before .before .before .before .before .before .before .before .before .before .before .before .before .before .before .before .before .before .before .before .access-due) .result) (a .sram) ((c .before .before .before .before .before .before .before .before .before .before .before .before .before .before .before .before .before .before .before .before .before .before .before .before .extlen-of) .result) ((c .before .before .before .before .before .before .before .before .before .before .before .before .before .before .before .before .before .before .before .before .before .before .before .checked-value) .result) (k .0) (k .1 .1 .1 .0) ((c .before .before .before .before .before .before .before .before .before .before .before .before .before .before .before .before .before .before .before .before .before .before .before .before .extlen-of) .ensures) ((c .before .before .before .before .before .before .before .before .before .before .before .before .before .before .before .before .before .before .before .before .before .before .before .checked-value) .ensures) due in
-    let ct = sym ((c .before .before .before .before .before .before .before .before .before .before .before .before .before .before .before .before .before .before .before .is-cacheable) .ensures) ∙ not-false ((c .before .before .before .before .before .before .before .before .before .before .before .before .before .before .before .before .before .before .before .is-cacheable) .result) ((c .before .before .before .before .before .before .before .before .before .before .before .before .before .before .before .before .before .before .if2) .left) in
-    let w = way-of z (a .c .second) ((c .before .before .before .before .before .before .before .before .before .before .before .before .before .before .before .before .before .set-of) .result) ((c .before .before .before .before .before .before .before .before .before .before .before .before .before .before .before .line-of) .result) ((c .before .before .before .before .before .before .before .before .before .before .before .before .before .before .l1d-find) .result) ((c .before .before .before .before .before .before .before .before .before .before .before .before .before .before .before .before .before .set-of) .ensures .0) ((c .before .before .before .before .before .before .before .before .before .before .before .before .before .before .before .line-of) .ensures) ((c .before .before .before .before .before .before .before .before .before .before .before .before .before .before .l1d-find) .ensures .0) in
-    let g = (c .before .before .before .before .before .before .before .before .miss) in let q = g .result in
-    let s = step-done (a .c) z ((c .before .before .before .before .before .before .before .before .before .before .before .before .before .before .before .before .before .before .before .before .before .before .access-due) .result) (reply (q .number) (q .server) (q .value) (state (recordIn (g .last .0)) (g .last .1 .1 .1 .1 .1 .0) (g .last .1 .1 .1 .1 .1 .1 .0) (g .last .1 .1 .1 .1 .1 .1 .1 .0))) (readMiss (a .c .first) (a .c .second) z) (writeMiss (a .c .second) (littleBytes (a .c .value) (a .c .first)) z) (k .0) en ((c .before .before .before .before .before .before .before .before .before .before .before .before .before .before .before .before .before .before .before .before .before .if1) .left)
-    (read-misses z (a .c .first) (a .c .second) ((c .before .before .before .before .before .before .before .before .before .before .before .before .before .before .l1d-find) .result) ct w ((c .before .before .before .before .before .before .before .before .before .before .before .before .before .if3) .left)) (write-misses z (a .c .second) ((c .before .before .before .before .before .before .before .before .before .before .before .before .before .before .l1d-find) .result) (littleBytes (a .c .value) (a .c .first)) ct w ((c .before .before .before .before .before .before .before .before .before .before .before .before .before .if3) .left))
+    let p-miss = c .before .before .before .before .before .before .before .before in
+    let p-if3 = p-miss .before .before .before .before .before in let p-l1d-find = p-if3 .before in
+    let p-line-of = p-l1d-find .before in let p-set-of = p-line-of .before .before in
+    let p-if2 = p-set-of .before in let p-is-cacheable = p-if2 .before in
+    let p-if1 = p-is-cacheable .before .before in let p-access-due = p-if1 .before in
+    let p-checked-value = p-access-due .before in let p-extlen-of = p-checked-value .before in
+    let p-start = p-extlen-of .before .before .before .before .before .before in
+    let a = p-start .args in let k = p-start .pre in let r = recordIn (a .tags .now) in let z = state r (a .l1d .now) (a .l2 .now) (a .ext .now) in
+    let due = (p-access-due .access-due) .ensures in
+    let en = due-is (a .c) z ((p-access-due .access-due) .result) (a .sram) ((p-extlen-of .extlen-of) .result) ((p-checked-value .checked-value) .result) (k .0) (k .1 .1 .1 .0) ((p-extlen-of .extlen-of) .ensures) ((p-checked-value .checked-value) .ensures) due in
+    let ct = sym ((p-is-cacheable .is-cacheable) .ensures) ∙ not-false ((p-is-cacheable .is-cacheable) .result) ((p-if2 .if2) .left) in
+    let w = way-of z (a .c .second) ((p-set-of .set-of) .result) ((p-line-of .line-of) .result) ((p-l1d-find .l1d-find) .result) ((p-set-of .set-of) .ensures .0) ((p-line-of .line-of) .ensures) ((p-l1d-find .l1d-find) .ensures .0) in
+    let g = (p-miss .miss) in let q = g .result in
+    let s = step-done (a .c) z ((p-access-due .access-due) .result) (reply (q .number) (q .server) (q .value) (state (recordIn (g .last .0)) (g .last .1 .1 .1 .1 .1 .0) (g .last .1 .1 .1 .1 .1 .1 .0) (g .last .1 .1 .1 .1 .1 .1 .1 .0))) (readMiss (a .c .first) (a .c .second) z) (writeMiss (a .c .second) (littleBytes (a .c .value) (a .c .first)) z) (k .0) en ((p-if1 .if1) .left)
+    (read-misses z (a .c .first) (a .c .second) ((p-l1d-find .l1d-find) .result) ct w ((p-if3 .if3) .left)) (write-misses z (a .c .second) ((p-l1d-find .l1d-find) .result) (littleBytes (a .c .value) (a .c .first)) ct w ((p-if3 .if3) .left))
     (g .ensures) in (s .0, λ n. absurd (n (s .1)))
 
 pub access-spec : {M : Type 1} → statement M

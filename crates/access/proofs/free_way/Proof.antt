@@ -18,7 +18,8 @@ use Rattle.tags.proofs.l1d_victim.Reads as l1d-victim-reads
 -- src/lib.rt:146:9
 returns : tie.Need-returns
 returns c =
-    let a = (c .before .before .before .before .before) .args in let k = (c .before .before .before .before .before) .pre in let r = recordIn (a .tags .now) in let z = state r (a .l1d .now) (a .l2 .now) (a .ext .now) in
+    let p-start = c .before .before .before .before .before in
+    let a = p-start .args in let k = p-start .pre in let r = recordIn (a .tags .now) in let z = state r (a .l1d .now) (a .l2 .now) (a .ext .now) in
     ((omega arith, λ q. false-true (sym q ∙ (c .if1) .taken)), cond-true (a .write) z (evictL1d (a .i) (l1dVictim (l1dSetAt r (a .i))) z) ((c .if1) .taken))
 
 -- src/lib.rt:148:9
@@ -44,10 +45,13 @@ same-length-3 c = search needs
 -- src/lib.rt:137:1
 returns-2 : tie.Need-returns-2
 returns-2 c =
-    let a = (c .before .before .before .before .before .before .before .before .before .before .before .before .before .before .before .before .before) .args in let k = (c .before .before .before .before .before .before .before .before .before .before .before .before .before .before .before .before .before) .pre in let r = recordIn (a .tags .now) in let z = state r (a .l1d .now) (a .l2 .now) (a .ext .now) in
-    let g = (c .before .before .before .before .before .before .evict-l1d) in (
-      ((c .before .before .before .before .before .before .before .before .before .before .l1d-victim) .ensures .1, λ _. (c .before .before .before .before .before .before .before .before .before .before .l1d-victim) .ensures .0),
-      room-made (a .write) z (state (recordIn (g .last .0)) (a .l1d .now) (g .last .1 .1 .1 .1 .1 .1 .0) (g .last .1 .1 .1 .1 .1 .1 .1 .0)) (a .i) ((c .before .before .before .before .before .before .before .before .before .before .l1d-victim) .result) (l1dVictim (l1dSetAt r (a .i))) ((c .before .before .before .before .before .before .before .before .before .before .before .before .if1) .left) ((c .before .before .before .before .before .before .before .before .before .before .l1d-victim) .ensures .0) (g .ensures),
+    let p-evict-l1d = c .before .before .before .before .before .before in
+    let p-l1d-victim = p-evict-l1d .before .before .before .before in let p-if1 = p-l1d-victim .before .before in
+    let p-start = p-if1 .before .before .before .before .before in
+    let a = p-start .args in let k = p-start .pre in let r = recordIn (a .tags .now) in let z = state r (a .l1d .now) (a .l2 .now) (a .ext .now) in
+    let g = (p-evict-l1d .evict-l1d) in (
+      ((p-l1d-victim .l1d-victim) .ensures .1, λ _. (p-l1d-victim .l1d-victim) .ensures .0),
+      room-made (a .write) z (state (recordIn (g .last .0)) (a .l1d .now) (g .last .1 .1 .1 .1 .1 .1 .0) (g .last .1 .1 .1 .1 .1 .1 .1 .0)) (a .i) ((p-l1d-victim .l1d-victim) .result) (l1dVictim (l1dSetAt r (a .i))) ((p-if1 .if1) .left) ((p-l1d-victim .l1d-victim) .ensures .0) (g .ensures),
     )
 
 pub free-way-spec : {M : Type 1} → statement M

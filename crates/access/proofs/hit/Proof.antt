@@ -24,8 +24,10 @@ same-length-2 c = search needs
 -- src/lib.rt:130:9
 returns : tie.Need-returns
 returns c =
-    let a = (c .before .before .before .before .before .before .before .before .before .before .before) .args in let g = (c .before .before .before .before .write-way) in
-    λ m e q. hit-write (a .c) (state (recordIn (a .tags .now)) (a .l1d .now) m e) (state (recordIn (g .last .0)) (g .last .1 .1 .1 .1 .1 .1 .0) m e) (a .w) ((c .before .before .before .before .before .before .before .if1) .taken) q (g .ensures m e)
+    let p-write-way = c .before .before .before .before in let p-if1 = p-write-way .before .before .before in
+    let p-start = p-if1 .before .before .before .before in
+    let a = p-start .args in let g = (p-write-way .write-way) in
+    λ m e q. hit-write (a .c) (state (recordIn (a .tags .now)) (a .l1d .now) m e) (state (recordIn (g .last .0)) (g .last .1 .1 .1 .1 .1 .1 .0) m e) (a .w) ((p-if1 .if1) .taken) q (g .ensures m e)
 
 -- src/lib.rt:132:5
 read-way-requires : tie.Need-read-way-requires
@@ -42,8 +44,9 @@ same-length-4 c = search needs
 -- src/lib.rt:120:1
 returns-2 : tie.Need-returns-2
 returns-2 c =
-    let a = (c .before .before .before .before .before .before .before .before .before) .args in let g = (c .before .before .read-way) in
-    λ m e q. hit-read (a .c) (state (recordIn (a .tags .now)) (a .l1d .now) m e) (state (recordIn (g .last .0)) (a .l1d .now) m e) (a .w) (g .result) ((c .before .before .before .before .before .if1) .left) q (g .ensures .0 m e) (g .ensures .1 m e)
+    let p-if1 = c .before .before .before .before .before in let p-start = p-if1 .before .before .before .before in
+    let a = p-start .args in let g = (c .before .before .read-way) in
+    λ m e q. hit-read (a .c) (state (recordIn (a .tags .now)) (a .l1d .now) m e) (state (recordIn (g .last .0)) (a .l1d .now) m e) (a .w) (g .result) ((p-if1 .if1) .left) q (g .ensures .0 m e) (g .ensures .1 m e)
 
 pub hit-spec : {M : Type 1} → statement M
 hit-spec =

@@ -24,15 +24,21 @@ is-external-requires c κs = search needs
 
 -- src/lib.rt:305:9
 returns : tie.Need-returns
-returns c = cached-inside (recordIn ((c .before .before .before .before .before) .args .tags .now)) ((c .before .before .before .before .before) .args .a) ((c .before .is-external) .ensures ∙ (c .if1) .taken)
+returns c =
+    let p-start = c .before .before .before .before .before in
+    cached-inside (recordIn (p-start .args .tags .now)) (p-start .args .a) ((c .before .is-external) .ensures ∙ (c .if1) .taken)
 
 -- src/lib.rt:308:9
 returns-2 : tie.Need-returns-2
-returns-2 c = cached-128 (recordIn ((c .before .before .before .before .before .before) .args .tags .now)) ((c .before .before .before .before .before .before) .args .a) ((c .before .before .before .before .mar128-of) .result) ((c .before .before .is-external) .ensures ∙ (c .before .if1) .left) ((c .if2) .taken) ((c .before .before .before .before .mar128-of) .ensures)
+returns-2 c =
+    let p-mar128-of = c .before .before .before .before in let p-start = p-mar128-of .before .before in
+    cached-128 (recordIn (p-start .args .tags .now)) (p-start .args .a) ((p-mar128-of .mar128-of) .result) ((c .before .before .is-external) .ensures ∙ (c .before .if1) .left) ((c .if2) .taken) ((p-mar128-of .mar128-of) .ensures)
 
 -- src/lib.rt:298:1
 returns-3 : tie.Need-returns-3
-returns-3 c = cached-129 (recordIn ((c .before .before .before .before .before .before) .args .tags .now)) ((c .before .before .before .before .before .before) .args .a) ((c .before .before .before .mar129-of) .result) ((c .before .before .is-external) .ensures ∙ (c .before .if1) .left) ((c .if2) .left) ((c .before .before .before .mar129-of) .ensures)
+returns-3 c =
+    let p-mar129-of = c .before .before .before in let p-start = p-mar129-of .before .before .before in
+    cached-129 (recordIn (p-start .args .tags .now)) (p-start .args .a) ((p-mar129-of .mar129-of) .result) ((c .before .before .is-external) .ensures ∙ (c .before .if1) .left) ((c .if2) .left) ((p-mar129-of .mar129-of) .ensures)
 
 pub is-cacheable-spec : {M : Type 1} → statement M
 is-cacheable-spec =

@@ -37,9 +37,11 @@ same-length c = search needs
 -- src/lib.rt:95:1
 returns : tie.Need-returns
 returns c =
-    let a = (c .before .before .before .before .before .before .before .before .before) .args in let k = (c .before .before .before .before .before .before .before .before .before) .pre in let r = recordIn (a .tags .now) in (
+    let p-l1d-use = c .before .before .before .before .before in
+    let p-start = p-l1d-use .before .before .before .before in
+    let a = p-start .args in let k = p-start .pre in let r = recordIn (a .tags .now) in (
       (λ m e. bytes-of r (a .l1d .now) m e (a .a) (a .n) (a .i) (a .w) ((c .before .before .data-at) .result) ((c .before .offset-of) .result) ((c .load) .result) (k .1 .0) ((c .before .before .data-at) .ensures .0) ((c .before .offset-of) .ensures .0) ((c .load) .ensures)),
-      (λ m e. used r (recordIn ((c .before .before .before .before .before .l1d-use) .last .0)) (a .l1d .now) m e (a .a) (a .i) (a .w) (k .1 .0) ((c .before .before .before .before .before .l1d-use) .ensures)),
+      (λ m e. used r (recordIn ((p-l1d-use .l1d-use) .last .0)) (a .l1d .now) m e (a .a) (a .i) (a .w) (k .1 .0) ((p-l1d-use .l1d-use) .ensures)),
     )
 
 pub read-way-spec : {M : Type 1} → statement M

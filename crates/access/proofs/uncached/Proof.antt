@@ -22,7 +22,10 @@ same-length c = search needs
 
 -- src/lib.rt:247:9
 returns : tie.Need-returns
-returns c = λ z q. uncached-write ((c .before .before .before .before .before .before .before .before) .args .c) z ((c .before .before .before .before .before .before .before .before) .args .ext .now) ((c .before .before .store) .last .0) ((c .before .before .before .before .before .before .external-place) .result) ((c .before .before .before .before .if1) .taken) ((c .before .before .before .before .before .before .before .before) .pre .1) q ((c .before .before .before .before .before .before .external-place) .ensures .0) ((c .before .before .store) .ensures)
+returns c =
+    let p-if1 = c .before .before .before .before in let p-external-place = p-if1 .before .before in
+    let p-start = p-external-place .before .before in
+    λ z q. uncached-write (p-start .args .c) z (p-start .args .ext .now) ((c .before .before .store) .last .0) ((p-external-place .external-place) .result) ((p-if1 .if1) .taken) (p-start .pre .1) q ((p-external-place .external-place) .ensures .0) ((c .before .before .store) .ensures)
 
 -- src/lib.rt:249:5
 load-requires : tie.Need-load-requires
@@ -34,7 +37,9 @@ same-length-2 c = search needs
 
 -- src/lib.rt:239:1
 returns-2 : tie.Need-returns-2
-returns-2 c = λ z q. uncached-read ((c .before .before .before .before .before .before) .args .c) z ((c .before .before .before .before .before .before) .args .ext .now) ((c .before .before .before .before .external-place) .result) ((c .load) .result) ((c .before .before .if1) .left) ((c .before .before .before .before .before .before) .pre .1) q ((c .before .before .before .before .external-place) .ensures .0) ((c .load) .ensures)
+returns-2 c =
+    let p-external-place = c .before .before .before .before in let p-start = p-external-place .before .before in
+    λ z q. uncached-read (p-start .args .c) z (p-start .args .ext .now) ((p-external-place .external-place) .result) ((c .load) .result) ((c .before .before .if1) .left) (p-start .pre .1) q ((p-external-place .external-place) .ensures .0) ((c .load) .ensures)
 
 pub uncached-spec : {M : Type 1} → statement M
 uncached-spec =

@@ -57,10 +57,14 @@ same-length-2 c = search needs
 -- src/lib.rt:107:1
 returns : tie.Need-returns
 returns c =
-    let a = (c .before .before .before .before .before .before .before .before .before .before .before .before .before .before .before .before .before .before .before) .args in let k = (c .before .before .before .before .before .before .before .before .before .before .before .before .before .before .before .before .before .before .before) .pre in let r = recordIn (a .tags .now) in
-    λ m e. changed r (recordIn ((c .before .before .before .before .before .before .l1d-put) .last .0)) (recordIn ((c .before .before .l1d-use) .last .0)) (a .l1d .now) ((c .before .before .before .before .before .before .before .before .before .before .before .before .before .store) .last .0) m e (littleBytes (a .v) (a .n)) (a .a) (a .i) (a .w)
-    ((c .before .before .before .before .before .before .before .before .before .before .before .before .before .before .before .data-at) .result) ((c .before .before .before .before .before .before .before .before .before .before .before .before .before .before .offset-of) .result) ((c .before .before .before .before .before .before .before .before .before .l1d-line) .result) ((c .before .before .before .before .before .before .before .line-at) .result) (k .1 .0) ((c .before .before .before .before .before .before .before .before .before .before .before .before .before .before .before .data-at) .ensures .0) ((c .before .before .before .before .before .before .before .before .before .before .before .before .before .before .offset-of) .ensures .0) ((c .before .before .before .before .before .before .before .before .before .before .before .before .before .store) .ensures) ((c .before .before .before .before .before .before .before .before .before .l1d-line) .ensures)
-    ((c .before .before .before .before .before .before .before .line-at) .ensures) ((c .before .before .before .before .before .before .l1d-put) .ensures) ((c .before .before .l1d-use) .ensures)
+    let p-l1d-put = c .before .before .before .before .before .before in let p-line-at = p-l1d-put .before in
+    let p-l1d-line = p-line-at .before .before in let p-store = p-l1d-line .before .before .before .before in
+    let p-offset-of = p-store .before in let p-data-at = p-offset-of .before in
+    let p-start = p-data-at .before .before .before .before in
+    let a = p-start .args in let k = p-start .pre in let r = recordIn (a .tags .now) in
+    λ m e. changed r (recordIn ((p-l1d-put .l1d-put) .last .0)) (recordIn ((c .before .before .l1d-use) .last .0)) (a .l1d .now) ((p-store .store) .last .0) m e (littleBytes (a .v) (a .n)) (a .a) (a .i) (a .w)
+    ((p-data-at .data-at) .result) ((p-offset-of .offset-of) .result) ((p-l1d-line .l1d-line) .result) ((p-line-at .line-at) .result) (k .1 .0) ((p-data-at .data-at) .ensures .0) ((p-offset-of .offset-of) .ensures .0) ((p-store .store) .ensures) ((p-l1d-line .l1d-line) .ensures)
+    ((p-line-at .line-at) .ensures) ((p-l1d-put .l1d-put) .ensures) ((c .before .before .l1d-use) .ensures)
 
 pub write-way-spec : {M : Type 1} → statement M
 write-way-spec =

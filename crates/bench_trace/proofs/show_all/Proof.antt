@@ -1,4 +1,5 @@
--- `bench_trace::show_all` meets its contract: each return is a case of the definition, by the tests on its way and what its callees ensure.
+-- `bench_trace::show_all` meets its contract: each return is a case of the definition, by the tests on its way and
+-- what its callees ensure.
 use Prim.Native.Nat.{_≤_, _-_}
 use borrow.Author.Needs.{needs}
 use Rattle.bench_trace.proofs.show_all.Statement.{statement}

@@ -30,8 +30,9 @@ same-length-3 c = search needs
 
 returns : tie.Need-returns
 returns c =
-    let x = (c .before .before .before .before .before .before .before .before .before .fresh) .result in
-    ap (λ (q : Record). reply (x .number) (x .server) (x .value) (state q ((c .before .before .before .before .before .before .before .before .before .fresh) .last .1 .0) ((c .before .before .before .before .before .before .before .before .before .fresh) .last .1 .1 .0) ((c .before .before .before .before .before .before .before .before .before .fresh) .last .1 .1 .1 .0))) ((c .unpack) .ensures) ∙ (c .before .before .before .before .before .before .before .before .before .fresh) .ensures
+    let p-fresh = c .before .before .before .before .before .before .before .before .before in
+    let x = (p-fresh .fresh) .result in
+    ap (λ (q : Record). reply (x .number) (x .server) (x .value) (state q ((p-fresh .fresh) .last .1 .0) ((p-fresh .fresh) .last .1 .1 .0) ((p-fresh .fresh) .last .1 .1 .1 .0))) ((c .unpack) .ensures) ∙ (p-fresh .fresh) .ensures
 
 pub fresh-spec : {M : Type 1} → statement M
 fresh-spec =

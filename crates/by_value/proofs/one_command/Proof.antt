@@ -1,4 +1,5 @@
--- `by_value::one_command` meets its contract: the words stand for the record before and after (pack, unpack), and the call on them is that of paper 01.
+-- `by_value::one_command` meets its contract: the words stand for the record before and after (pack, unpack), and the
+-- call on them is that of paper 01.
 use Rattle.model.specs.Records.{state}
 use Rattle.model.specs.declared.Record.{Record}
 use mathlib.Core.Path.{ap, _∙_}
@@ -37,10 +38,13 @@ same-length-3 c = search needs
 
 returns : tie.Need-returns
 returns c =
-    let a = (c .before .before .before .before .before .before .before .before .before .before .before .before .before .before .before .before .before .before .before .before) .args in let x = (c .before .before .before .before .before .before .before .before .before .carry-out) .result in
-    ap (λ (q : Record). reply (x .number) (x .server) (x .value) (state q ((c .before .before .before .before .before .before .before .before .before .carry-out) .last .1 .1 .1 .1 .1 .0) ((c .before .before .before .before .before .before .before .before .before .carry-out) .last .1 .1 .1 .1 .1 .1 .0) ((c .before .before .before .before .before .before .before .before .before .carry-out) .last .1 .1 .1 .1 .1 .1 .1 .0))) ((c .unpack) .ensures)
-    ∙ (c .before .before .before .before .before .before .before .before .before .carry-out) .ensures .0
-    ∙ ap (λ (q : Record). call (command (a .code) (a .first) (a .second) (a .value)) (state q (a .l1d .now) (a .l2 .now) (a .ext .now))) ((c .before .before .before .before .before .before .before .before .before .before .before .before .before .before .before .pack) .ensures)
+    let p-carry-out = c .before .before .before .before .before .before .before .before .before in
+    let p-pack = p-carry-out .before .before .before .before .before .before in
+    let p-start = p-pack .before .before .before .before .before in
+    let a = p-start .args in let x = (p-carry-out .carry-out) .result in
+    ap (λ (q : Record). reply (x .number) (x .server) (x .value) (state q ((p-carry-out .carry-out) .last .1 .1 .1 .1 .1 .0) ((p-carry-out .carry-out) .last .1 .1 .1 .1 .1 .1 .0) ((p-carry-out .carry-out) .last .1 .1 .1 .1 .1 .1 .1 .0))) ((c .unpack) .ensures)
+    ∙ (p-carry-out .carry-out) .ensures .0
+    ∙ ap (λ (q : Record). call (command (a .code) (a .first) (a .second) (a .value)) (state q (a .l1d .now) (a .l2 .now) (a .ext .now))) ((p-pack .pack) .ensures)
 
 pub one-command-spec : {M : Type 1} → statement M
 one-command-spec =

@@ -1,4 +1,5 @@
--- `by_value::run` meets its contract: the words stand for the record before and after (pack, unpack), and the run on them is that of paper 01.
+-- `by_value::run` meets its contract: the words stand for the record before and after (pack, unpack), and the run on
+-- them is that of paper 01.
 use Rattle.model.specs.Records.{state}
 use Rattle.model.specs.declared.Record.{Record}
 use mathlib.Core.Path.{ap, _∙_}
@@ -39,10 +40,13 @@ same-length-4 c = search needs
 
 returns : tie.Need-returns
 returns c =
-    let a = (c .before .before .before .before .before .before .before .before .before .before .before .before .before .before .before .before .before .before .before .before .before .before .before .before .before) .args in let x = (c .before .before .before .before .before .before .before .before .before .before .before .run-trace) .result in
-    ap (λ (q : Record). ran (state q ((c .before .before .before .before .before .before .before .before .before .before .before .run-trace) .last .1 .1 .0) ((c .before .before .before .before .before .before .before .before .before .before .before .run-trace) .last .1 .1 .1 .0) ((c .before .before .before .before .before .before .before .before .before .before .before .run-trace) .last .1 .1 .1 .1 .0)) (x .consumed) (x .count) (x .stop) ((c .before .before .before .before .before .before .before .before .before .before .before .run-trace) .last .1 .1 .1 .1 .1 .0)) ((c .unpack) .ensures)
-    ∙ (c .before .before .before .before .before .before .before .before .before .before .before .run-trace) .ensures .0
-    ∙ ap (λ (q : Record). runCall (a .trace .now) (a .answers .now) (state q (a .l1d .now) (a .l2 .now) (a .ext .now))) ((c .before .before .before .before .before .before .before .before .before .before .before .before .before .before .before .before .before .before .pack) .ensures)
+    let p-run-trace = c .before .before .before .before .before .before .before .before .before .before .before in
+    let p-pack = p-run-trace .before .before .before .before .before .before .before in
+    let p-start = p-pack .before .before .before .before .before .before .before in
+    let a = p-start .args in let x = (p-run-trace .run-trace) .result in
+    ap (λ (q : Record). ran (state q ((p-run-trace .run-trace) .last .1 .1 .0) ((p-run-trace .run-trace) .last .1 .1 .1 .0) ((p-run-trace .run-trace) .last .1 .1 .1 .1 .0)) (x .consumed) (x .count) (x .stop) ((p-run-trace .run-trace) .last .1 .1 .1 .1 .1 .0)) ((c .unpack) .ensures)
+    ∙ (p-run-trace .run-trace) .ensures .0
+    ∙ ap (λ (q : Record). runCall (a .trace .now) (a .answers .now) (state q (a .l1d .now) (a .l2 .now) (a .ext .now))) ((p-pack .pack) .ensures)
 
 pub run-spec : {M : Type 1} → statement M
 run-spec =

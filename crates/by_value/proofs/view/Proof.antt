@@ -20,7 +20,8 @@ view-requires c κs = search needs
 
 returns : tie.Need-returns
 returns c =
-    let a = (c .before .before .before .before .before .before .before) .args in (c .view) .ensures ∙ ap (λ (q : Record). viewCall q (a .l2 .now) (a .ext .now) (a .address)) ((c .before .before .before .pack) .ensures)
+    let p-pack = c .before .before .before in let p-start = p-pack .before .before .before .before in
+    let a = p-start .args in (c .view) .ensures ∙ ap (λ (q : Record). viewCall q (a .l2 .now) (a .ext .now) (a .address)) ((p-pack .pack) .ensures)
 
 pub view-spec : {M : Type 1} → statement M
 view-spec =

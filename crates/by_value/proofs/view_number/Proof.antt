@@ -20,7 +20,8 @@ view-due-requires c κs = search needs
 
 returns : tie.Need-returns
 returns c =
-    let a = (c .before .before .before .before .before .before .before) .args in (c .view-due) .ensures ∙ ap (λ (q : Record). viewDue q (a .l2 .now) (a .ext .now) (a .address)) ((c .before .before .before .pack) .ensures)
+    let p-pack = c .before .before .before in let p-start = p-pack .before .before .before .before in
+    let a = p-start .args in (c .view-due) .ensures ∙ ap (λ (q : Record). viewDue q (a .l2 .now) (a .ext .now) (a .address)) ((p-pack .pack) .ensures)
 
 pub view-number-spec : {M : Type 1} → statement M
 view-number-spec =

@@ -33,7 +33,8 @@ same-length-4 c = search needs
 
 returns : tie.Need-returns
 returns c =
-    let a = (c .before .before .before .before .before .before .before .before .before .before .before) .args in let z = state (recordIn (a .tags .now)) (a .l1d .now) (a .l2 .now) (a .ext .now) in
+    let p-start = c .before .before .before .before .before .before .before .before .before .before .before in
+    let a = p-start .args in let z = state (recordIn (a .tags .now)) (a .l1d .now) (a .l2 .now) (a .ext .now) in
     let asks = command (a .code) (a .first) (a .second) (a .value) in
     rw ((c .numbered) .ensures) (call-refused z ((c .before .before .lent-due) .result) ((c .before .before .lent-due) .ensures) asks ((c .before .if1) .taken), λ _. refl)
 
@@ -63,12 +64,16 @@ same-length-8 c = search needs
 
 returns-2 : tie.Need-returns-2
 returns-2 c =
-    let a = (c .before .before .before .before .before .before .before .before .before .before .before .before .before .before .before .before .before .before .before .before .before .before .before .before .before .before .before .before) .args in let z = state (recordIn (a .tags .now)) (a .l1d .now) (a .l2 .now) (a .ext .now) in
-    let q = (c .before .before .before .before .before .before .before .before .before .before .run) .result in let y = state (recordIn ((c .before .before .before .before .before .before .before .before .before .before .run) .last .0)) ((c .before .before .before .before .before .before .before .before .before .before .run) .last .1 .1 .1 .1 .0) ((c .before .before .before .before .before .before .before .before .before .before .run) .last .1 .1 .1 .1 .1 .0) ((c .before .before .before .before .before .before .before .before .before .before .run) .last .1 .1 .1 .1 .1 .1 .0) in
+    let p-run = c .before .before .before .before .before .before .before .before .before .before in
+    let p-command-of = p-run .before .before .before .before .before .before .before in
+    let p-if1 = p-command-of .before in let p-lent-due = p-if1 .before in
+    let p-start = p-lent-due .before .before .before .before .before .before .before .before .before in
+    let a = p-start .args in let z = state (recordIn (a .tags .now)) (a .l1d .now) (a .l2 .now) (a .ext .now) in
+    let q = (p-run .run) .result in let y = state (recordIn ((p-run .run) .last .0)) ((p-run .run) .last .1 .1 .1 .1 .0) ((p-run .run) .last .1 .1 .1 .1 .1 .0) ((p-run .run) .last .1 .1 .1 .1 .1 .1 .0) in
     let room : 10 ≤ 10 = omega arith in (
-      call-done z ((c .before .before .before .before .before .before .before .before .before .before .before .before .before .before .before .before .before .before .before .lent-due) .result) ((c .before .before .before .before .before .before .before .before .before .before .before .before .before .before .before .before .before .before .before .lent-due) .ensures) ((c .before .before .before .before .before .before .before .before .before .before .before .before .before .before .before .before .before .command-of) .result) (reply (q .last .number) (q .last .server) (q .last .value) y) ((c .before .before .before .before .before .before .before .before .before .before .before .before .before .before .before .before .before .before .if1) .left)
-          ((c .before .before .before .before .before .before .before .before .before .before .run) .ensures .0 refl (rw (length-replicate {A = ℕ} 10 0) room)) ∙ ap (λ (k : Command). call k z) ((c .before .before .before .before .before .before .before .before .before .before .before .before .before .before .before .before .before .command-of) .ensures),
-      (c .before .before .before .before .before .before .before .before .before .before .run) .ensures .1 .0 refl,
+      call-done z ((p-lent-due .lent-due) .result) ((p-lent-due .lent-due) .ensures) ((p-command-of .command-of) .result) (reply (q .last .number) (q .last .server) (q .last .value) y) ((p-if1 .if1) .left)
+          ((p-run .run) .ensures .0 refl (rw (length-replicate {A = ℕ} 10 0) room)) ∙ ap (λ (k : Command). call k z) ((p-command-of .command-of) .ensures),
+      (p-run .run) .ensures .1 .0 refl,
     )
 
 pub carry-out-spec : {M : Type 1} → statement M

@@ -1,4 +1,5 @@
--- `calls::fresh` meets its contract: both memories are cleared and the record is fresh, or the smallest record and all bytes as they were. Assumes nothing.
+-- `calls::fresh` meets its contract: both memories are cleared and the record is fresh, or the smallest record and
+-- all bytes as they were. Assumes nothing.
 use Rattle.tags.specs.Words.{recordIn}
 use mathlib.Core.Path.{sym, _∙_}
 use Rattle.calls.specs.Fresh.{fresh-refused, fresh-done, fresh-lengths}
@@ -31,18 +32,23 @@ same-length-4 c = search needs
 
 returns : tie.Need-returns
 returns c =
-    let a = (c .before .before .before .before .before .before .before .before .before .before .before .before .before .before) .args in
-    rw ((c .numbered) .ensures, (c .before .before .before .write-fresh) .ensures)
-    (fresh-refused (a .l1d .now) (a .l2 .now) (a .ext .now) (sym ((c .before .before .before .before .before .before .fresh-ok) .ensures) ∙ not-true ((c .before .before .before .before .before .before .fresh-ok) .result) ((c .before .before .before .before .before .if1) .taken)))
+    let p-write-fresh = c .before .before .before in let p-if1 = p-write-fresh .before .before in
+    let p-fresh-ok = p-if1 .before in
+    let p-start = p-fresh-ok .before .before .before .before .before .before .before .before in
+    let a = p-start .args in
+    rw ((c .numbered) .ensures, (p-write-fresh .write-fresh) .ensures)
+    (fresh-refused (a .l1d .now) (a .l2 .now) (a .ext .now) (sym ((p-fresh-ok .fresh-ok) .ensures) ∙ not-true ((p-fresh-ok .fresh-ok) .result) ((p-if1 .if1) .taken)))
 
 cast-l : tie.Need-cast-l
 cast-l c =
-    let a = (c .before .before .before .before .before .before .before .before .before) .args in let ok = sym ((c .before .fresh-ok) .ensures) ∙ not-false ((c .before .fresh-ok) .result) ((c .if1) .left) in
+    let p-start = c .before .before .before .before .before .before .before .before .before in
+    let a = p-start .args in let ok = sym ((c .before .fresh-ok) .ensures) ∙ not-false ((c .before .fresh-ok) .result) ((c .if1) .left) in
     let h = fresh-lengths (a .l1d .now) (a .l2 .now) (a .ext .now) ok .0 in omega arith
 
 cast-e : tie.Need-cast-e
 cast-e c =
-    let a = (c .before .before .before .before .before .before .before .before .before) .args in let ok = sym ((c .before .fresh-ok) .ensures) ∙ not-false ((c .before .fresh-ok) .result) ((c .if1) .left) in
+    let p-start = c .before .before .before .before .before .before .before .before .before in
+    let a = p-start .args in let ok = sym ((c .before .fresh-ok) .ensures) ∙ not-false ((c .before .fresh-ok) .result) ((c .if1) .left) in
     let h = fresh-lengths (a .l1d .now) (a .l2 .now) (a .ext .now) ok .1 in omega arith
 
 clear-from-requires : tie.Need-clear-from-requires
@@ -71,10 +77,15 @@ same-length-8 c = search needs
 
 returns-2 : tie.Need-returns-2
 returns-2 c =
-    let a = (c .before .before .before .before .before .before .before .before .before .before .before .before .before .before .before .before .before .before .before .before .before .before) .args in let ok = sym ((c .before .before .before .before .before .before .before .before .before .before .before .before .before .before .fresh-ok) .ensures) ∙ not-false ((c .before .before .before .before .before .before .before .before .before .before .before .before .before .before .fresh-ok) .result) ((c .before .before .before .before .before .before .before .before .before .before .before .before .before .if1) .left) in
+    let p-write-fresh2 = c .before .before .before in
+    let p-clear-from2 = p-write-fresh2 .before .before .before .before in
+    let p-clear-from = p-clear-from2 .before .before .before .before in let p-if1 = p-clear-from .before .before in
+    let p-fresh-ok = p-if1 .before in
+    let p-start = p-fresh-ok .before .before .before .before .before .before .before .before in
+    let a = p-start .args in let ok = sym ((p-fresh-ok .fresh-ok) .ensures) ∙ not-false ((p-fresh-ok .fresh-ok) .result) ((p-if1 .if1) .left) in
     rw ((c .numbered2) .ensures)
-    (fresh-done (a .l1d .now) (a .l2 .now) (a .ext .now) ((c .before .before .before .before .before .before .before .before .before .before .before .clear-from) .last .0) ((c .before .before .before .before .before .before .before .clear-from2) .last .0) (recordIn ((c .before .before .before .write-fresh2) .last .0)) ok
-    ((c .before .before .before .write-fresh2) .ensures) ((c .before .before .before .before .before .before .before .before .before .before .before .clear-from) .ensures) ((c .before .before .before .before .before .before .before .clear-from2) .ensures))
+    (fresh-done (a .l1d .now) (a .l2 .now) (a .ext .now) ((p-clear-from .clear-from) .last .0) ((p-clear-from2 .clear-from2) .last .0) (recordIn ((p-write-fresh2 .write-fresh2) .last .0)) ok
+    ((p-write-fresh2 .write-fresh2) .ensures) ((p-clear-from .clear-from) .ensures) ((p-clear-from2 .clear-from2) .ensures))
 
 pub fresh-spec : {M : Type 1} → statement M
 fresh-spec =

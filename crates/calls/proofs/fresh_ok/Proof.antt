@@ -1,4 +1,5 @@
--- `calls::fresh_ok` meets its contract: each return is a case of the definition, by the tests on its way and what its callees ensure.
+-- `calls::fresh_ok` meets its contract: each return is a case of the definition, by the tests on its way and what its
+-- callees ensure.
 use Rattle.model.specs.Calls.{freshOk}
 use borrow.Author.Tests.{eq-eqb, ne-eqb, not-true, not-false}
 use mathlib.Core.Path.{refl, sym, _∙_}

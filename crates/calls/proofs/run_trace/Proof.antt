@@ -25,7 +25,8 @@ same-length-4 c = search needs
 
 returns : tie.Need-returns
 returns c =
-    let a = (c .before .before .before .before .before .before .before .before .before .before .before .before) .args in let z = state (recordIn (a .tags .now)) (a .l1d .now) (a .l2 .now) (a .ext .now) in
+    let p-start = c .before .before .before .before .before .before .before .before .before .before .before .before in
+    let a = p-start .args in let z = state (recordIn (a .tags .now)) (a .l1d .now) (a .l2 .now) (a .ext .now) in
     (run-refused z ((c .before .lent-due) .result) ((c .before .lent-due) .ensures) (a .trace .now) (a .answers .now) ((c .if1) .taken), λ _. refl)
 
 command-of-requires : tie.Need-command-of-requires
@@ -51,11 +52,14 @@ same-length-9 c = search needs
 
 returns-2 : tie.Need-returns-2
 returns-2 c =
-    let a = (c .before .before .before .before .before .before .before .before .before .before .before .before .before .before .before .before .before .before .before .before .before .before .before .before .before .before .before .before .before) .args in let z = state (recordIn (a .tags .now)) (a .l1d .now) (a .l2 .now) (a .ext .now) in
-    let q = (c .before .before .before .before .before .before .before .before .before .before .run) .result in let y = state (recordIn ((c .before .before .before .before .before .before .before .before .before .before .run) .last .0)) ((c .before .before .before .before .before .before .before .before .before .before .run) .last .1 .1 .1 .1 .0) ((c .before .before .before .before .before .before .before .before .before .before .run) .last .1 .1 .1 .1 .1 .0) ((c .before .before .before .before .before .before .before .before .before .before .run) .last .1 .1 .1 .1 .1 .1 .0) in (
-      run-done z ((c .before .before .before .before .before .before .before .before .before .before .before .before .before .before .before .before .before .before .lent-due) .result) ((c .before .before .before .before .before .before .before .before .before .before .before .before .before .before .before .before .before .before .lent-due) .ensures) (a .trace .now) (a .answers .now) (ran y (q .consumed) (q .count) (q .stop) ((c .before .before .before .before .before .before .before .before .before .before .run) .last .1 .1 .1 .1 .1 .1 .1 .0)) ((c .before .before .before .before .before .before .before .before .before .before .before .before .before .before .before .before .before .if1) .left)
-          ((c .before .before .before .before .before .before .before .before .before .before .run) .ensures .1 .1 refl),
-      λ n. absurd (n (sym ((c .before .before .before .before .before .before .before .before .before .before .before .before .before .before .before .before .before .before .lent-due) .ensures) ∙ (c .before .before .before .before .before .before .before .before .before .before .before .before .before .before .before .before .before .if1) .left)),
+    let p-run = c .before .before .before .before .before .before .before .before .before .before in
+    let p-if1 = p-run .before .before .before .before .before .before .before in let p-lent-due = p-if1 .before in
+    let p-start = p-lent-due .before .before .before .before .before .before .before .before .before .before .before in
+    let a = p-start .args in let z = state (recordIn (a .tags .now)) (a .l1d .now) (a .l2 .now) (a .ext .now) in
+    let q = (p-run .run) .result in let y = state (recordIn ((p-run .run) .last .0)) ((p-run .run) .last .1 .1 .1 .1 .0) ((p-run .run) .last .1 .1 .1 .1 .1 .0) ((p-run .run) .last .1 .1 .1 .1 .1 .1 .0) in (
+      run-done z ((p-lent-due .lent-due) .result) ((p-lent-due .lent-due) .ensures) (a .trace .now) (a .answers .now) (ran y (q .consumed) (q .count) (q .stop) ((p-run .run) .last .1 .1 .1 .1 .1 .1 .1 .0)) ((p-if1 .if1) .left)
+          ((p-run .run) .ensures .1 .1 refl),
+      λ n. absurd (n (sym ((p-lent-due .lent-due) .ensures) ∙ (p-if1 .if1) .left)),
     )
 
 pub run-trace-spec : {M : Type 1} → statement M

@@ -1,4 +1,5 @@
--- `others::change` meets its contract: an accepted mode is a byte, an accepted bit 0 or 1, and no code above 11 is accepted.
+-- `others::change` meets its contract: an accepted mode is a byte, an accepted bit 0 or 1, and no code above 11 is
+-- accepted.
 use Prim.Native.Nat.{_≤_, _-_}
 use mathlib.Core.Path.{_≡_, refl}
 use native.Mathlib.Omega.{arith}

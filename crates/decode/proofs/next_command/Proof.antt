@@ -1,5 +1,6 @@
--- `decode::next_command` meets its contract: each return is the command of as many numbers as were read, or damage. What is known behind the code byte and
--- behind each number is a record of specs/Codes, made once, at its place; a return is that record's law, and no sum wraps because each number ends in the trace.
+-- `decode::next_command` meets its contract: each return is the command of as many numbers as were read, or damage.
+-- What is known behind the code byte and behind each number is a record of specs/Codes, made once, at its place; a
+-- return is that record's law, and no sum wraps because each number ends in the trace.
 use Rattle.decode.specs.Codes.{Coded, One, Two, Three, first-small, first-ends, second-small, second-ends, value-ends}
 use Rattle.decode.specs.Codes.{decode-end, decode-no-numbers, decode-no-code, decode-no-first, decode-one, decode-no-second, decode-two, decode-no-value, decode-three}
 use Rattle.numbers.specs.Told.{told}

@@ -1,4 +1,5 @@
--- `geometry::is_external` meets its contract: each return is a case of the definition, by the tests on its way and what its callees ensure.
+-- `geometry::is_external` meets its contract: each return is a case of the definition, by the tests on its way and
+-- what its callees ensure.
 use Rattle.geometry.specs.Geometry.{below-not}
 use Rattle.geometry.proofs.is_external.Statement.{statement}
 use Rattle.geometry.proofs.is_external.Tie as tie

@@ -1,4 +1,5 @@
--- `geometry::line_holds` meets its contract: each return is a case of the definition, by the tests on its way and what its callees ensure.
+-- `geometry::line_holds` meets its contract: each return is a case of the definition, by the tests on its way and
+-- what its callees ensure.
 use Rattle.model.specs.Lines.{holds}
 use mathlib.Core.Path.{refl}
 use Rattle.geometry.proofs.line_holds.Statement.{statement}

@@ -1,4 +1,5 @@
--- `geometry::lines_touched` meets its contract: a block that is not empty ends after its base, so that neither difference goes below 0.
+-- `geometry::lines_touched` meets its contract: a block that is not empty ends after its base, so that neither
+-- difference goes below 0.
 use Prim.Native.Nat.{_<_}
 use mathlib.Core.Path.{refl}
 use native.Mathlib.Omega.{arith}

@@ -1,4 +1,5 @@
--- `l1d_sweeps::l1d_all` meets its contract: after k turns the state is that of the first k ways (`Swept` of sweeping/specs/Loop).
+-- `l1d_sweeps::l1d_all` meets its contract: after k turns the state is that of the first k ways (`Swept` of
+-- sweeping/specs/Loop).
 use Prim.Native.Nat.{_-_, _/_, _%_}
 use native.Mathlib.Omega.{arith}
 use borrow.Author.Needs.{needs}

@@ -1,4 +1,5 @@
--- `l1d_sweeps::l1d_touched` meets its contract: the way that holds the line, or none (`l1d-way`, `l1d-none` of sweeping/specs/At).
+-- `l1d_sweeps::l1d_touched` meets its contract: the way that holds the line, or none (`l1d-way`, `l1d-none` of
+-- sweeping/specs/At).
 use Prim.Native.Nat.{_-_}
 use borrow.Author.Needs.{needs}
 use Rattle.model.specs.Records.{state}

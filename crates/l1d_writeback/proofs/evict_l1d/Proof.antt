@@ -36,7 +36,10 @@ empty-line-requires c κs = search needs
 
 -- src/lib.rt:70:9
 l1d-put-requires : tie.Need-l1d-put-requires
-l1d-put-requires c κs = ((c .before .before .before .before .before .before .before .before .before .before .before .before .before .before .before .before .before .before .before .before .before) .pre .0, (c .before .before .before .before .before .before .before .before .put-home) .kept .0 ∙ (c .before .before .before .before .before .before .before .before .before .before .before .before .before .before .before .before .before .before .before .before .before) .pre .1 .0)
+l1d-put-requires c κs =
+    let p-put-home = c .before .before .before .before .before .before .before .before in
+    let p-start = p-put-home .before .before .before .before .before .before .before .before .before .before .before .before .before in
+    (p-start .pre .0, (p-put-home .put-home) .kept .0 ∙ p-start .pre .1 .0)
 
 -- src/lib.rt:71:9
 same-length : tie.Need-same-length
@@ -53,9 +56,14 @@ same-length-3 c = search needs
 -- src/lib.rt:71:9
 returns : tie.Need-returns
 returns c =
-    let a = (c .before .before .before .before .before .before .before .before .before .before .before .before .before .before .before .before .before .before .before .before .before .before .before .before) .args in let z = state (recordIn (a .tags .now)) (a .l1d .now) (a .l2 .now) (a .ext .now) in
-    let p = (c .before .before .before .before .before .before .before .before .before .before .before .put-home) in let y = state (recordIn (p .last .0)) (a .l1d .now) (p .last .1 .1 .1 .1 .1 .1 .0) (p .last .1 .1 .1 .1 .1 .1 .1 .0) in
-    evicted z y (recordIn ((c .before .before .l1d-put) .last .0)) (a .i) (a .w) ((c .before .before .before .empty-line) .result) (back-dirty z y (a .i) (a .w) ((c .before .before .before .before .before .before .before .before .before .before .before .before .before .before .data-at) .result) ((c .before .before .before .before .before .before .before .before .before .before .before .before .before .before .before .before .before .before .l1d-line) .result) ((c .before .before .before .before .before .before .before .before .before .before .before .before .before .before .before .before .before .before .l1d-line) .ensures) (sym ((c .before .before .before .before .before .before .before .before .before .before .before .before .before .before .before .before .before .goes-home) .ensures) ∙ (c .before .before .before .before .before .before .before .before .before .before .before .before .before .before .before .before .if1) .taken) ((c .before .before .before .before .before .before .before .before .before .before .before .before .before .before .data-at) .ensures .0) (p .ensures)) ((c .before .before .before .empty-line) .ensures) ((c .before .before .l1d-put) .ensures)
+    let p-empty-line = c .before .before .before in
+    let p-put-home = p-empty-line .before .before .before .before .before .before .before .before in
+    let p-data-at = p-put-home .before .before .before in let p-if1 = p-data-at .before .before in
+    let p-goes-home = p-if1 .before in let p-l1d-line = p-goes-home .before in
+    let p-start = p-l1d-line .before .before .before .before .before .before in
+    let a = p-start .args in let z = state (recordIn (a .tags .now)) (a .l1d .now) (a .l2 .now) (a .ext .now) in
+    let p = (p-put-home .put-home) in let y = state (recordIn (p .last .0)) (a .l1d .now) (p .last .1 .1 .1 .1 .1 .1 .0) (p .last .1 .1 .1 .1 .1 .1 .1 .0) in
+    evicted z y (recordIn ((c .before .before .l1d-put) .last .0)) (a .i) (a .w) ((p-empty-line .empty-line) .result) (back-dirty z y (a .i) (a .w) ((p-data-at .data-at) .result) ((p-l1d-line .l1d-line) .result) ((p-l1d-line .l1d-line) .ensures) (sym ((p-goes-home .goes-home) .ensures) ∙ (p-if1 .if1) .taken) ((p-data-at .data-at) .ensures .0) (p .ensures)) ((p-empty-line .empty-line) .ensures) ((c .before .before .l1d-put) .ensures)
 
 -- src/lib.rt:73:31
 empty-line-requires-2 : tie.Need-empty-line-requires-2
@@ -72,8 +80,11 @@ same-length-4 c = search needs
 -- src/lib.rt:61:1
 returns-2 : tie.Need-returns-2
 returns-2 c =
-    let a = (c .before .before .before .before .before .before .before .before .before .before .before .before .before) .args in let z = state (recordIn (a .tags .now)) (a .l1d .now) (a .l2 .now) (a .ext .now) in
-    evicted z z (recordIn ((c .before .before .l1d-put2) .last .0)) (a .i) (a .w) ((c .before .before .before .empty-line2) .result) (back-none z (a .i) (a .w) ((c .before .before .before .before .before .before .before .l1d-line) .result) ((c .before .before .before .before .before .before .before .l1d-line) .ensures) (sym ((c .before .before .before .before .before .before .goes-home) .ensures) ∙ (c .before .before .before .before .before .if1) .left)) ((c .before .before .before .empty-line2) .ensures) ((c .before .before .l1d-put2) .ensures)
+    let p-empty-line2 = c .before .before .before in let p-if1 = p-empty-line2 .before .before in
+    let p-goes-home = p-if1 .before in let p-l1d-line = p-goes-home .before in
+    let p-start = p-l1d-line .before .before .before .before .before .before in
+    let a = p-start .args in let z = state (recordIn (a .tags .now)) (a .l1d .now) (a .l2 .now) (a .ext .now) in
+    evicted z z (recordIn ((c .before .before .l1d-put2) .last .0)) (a .i) (a .w) ((p-empty-line2 .empty-line2) .result) (back-none z (a .i) (a .w) ((p-l1d-line .l1d-line) .result) ((p-l1d-line .l1d-line) .ensures) (sym ((p-goes-home .goes-home) .ensures) ∙ (p-if1 .if1) .left)) ((p-empty-line2 .empty-line2) .ensures) ((c .before .before .l1d-put2) .ensures)
 
 pub evict-l1d-spec : {M : Type 1} → statement M
 evict-l1d-spec =

@@ -39,9 +39,11 @@ same-length c = search needs
 -- src/lib.rt:21:9
 returns : tie.Need-returns
 returns c =
-    let a = (c .before .before .before .before .before .before .before .before .before .before .before) .args in let h = (c .before .before .before .before .before .before .before .before .before .before .before) .pre in let r = recordIn (a .tags .now) in let bs = part (a .l1d .now) (a .from) 64 in
-    put-sram r (a .l1d .now) (a .l2 .now) ((c .before .before .move64) .last .0) (a .ext .now) bs (a .a) ((c .before .before .before .place-of) .result)
-    ((c .before .before .before .before .before .before .is-external) .ensures ∙ (c .before .before .before .before .before .if1) .taken) ((c .before .before .before .place-of) .ensures .0) ((c .before .before .move64) .ensures)
+    let p-place-of = c .before .before .before in let p-if1 = p-place-of .before .before in
+    let p-is-external = p-if1 .before in let p-start = p-is-external .before .before .before .before .before in
+    let a = p-start .args in let h = p-start .pre in let r = recordIn (a .tags .now) in let bs = part (a .l1d .now) (a .from) 64 in
+    put-sram r (a .l1d .now) (a .l2 .now) ((c .before .before .move64) .last .0) (a .ext .now) bs (a .a) ((p-place-of .place-of) .result)
+    ((p-is-external .is-external) .ensures ∙ (p-if1 .if1) .taken) ((p-place-of .place-of) .ensures .0) ((c .before .before .move64) .ensures)
 
 -- src/lib.rt:24:29
 external-place-requires : tie.Need-external-place-requires
@@ -58,9 +60,12 @@ same-length-2 c = search needs
 -- src/lib.rt:25:9
 returns-2 : tie.Need-returns-2
 returns-2 c =
-    let a = (c .before .before .before .before .before .before .before .before .before .before .before .before) .args in let h = (c .before .before .before .before .before .before .before .before .before .before .before .before) .pre in let r = recordIn (a .tags .now) in let bs = part (a .l1d .now) (a .from) 64 in
-    put-external r (a .l1d .now) (a .l2 .now) (a .ext .now) ((c .before .before .move642) .last .0) bs (a .a) (a .sets) ((c .before .before .before .external-place) .result)
-    ((c .before .before .before .before .before .before .before .is-external) .ensures ∙ (c .before .before .before .before .before .before .if1) .left) (h .1 .1 .1) ((c .before .before .before .before .before .if2) .taken) ((c .before .before .before .external-place) .ensures .0) ((c .before .before .move642) .ensures)
+    let p-external-place = c .before .before .before in let p-if2 = p-external-place .before .before in
+    let p-if1 = p-if2 .before in let p-is-external = p-if1 .before in
+    let p-start = p-is-external .before .before .before .before .before in
+    let a = p-start .args in let h = p-start .pre in let r = recordIn (a .tags .now) in let bs = part (a .l1d .now) (a .from) 64 in
+    put-external r (a .l1d .now) (a .l2 .now) (a .ext .now) ((c .before .before .move642) .last .0) bs (a .a) (a .sets) ((p-external-place .external-place) .result)
+    ((p-is-external .is-external) .ensures ∙ (p-if1 .if1) .left) (h .1 .1 .1) ((p-if2 .if2) .taken) ((p-external-place .external-place) .ensures .0) ((c .before .before .move642) .ensures)
 
 -- src/lib.rt:27:9
 set-of-requires : tie.Need-set-of-requires
@@ -81,9 +86,11 @@ same-length-3 c = search needs
 -- src/lib.rt:30:9
 returns-3 : tie.Need-returns-3
 returns-3 c =
-    let a = (c .before .before .before .before .before .before .before .before .before .before .before .before) .args in let h = (c .before .before .before .before .before .before .before .before .before .before .before .before) .pre in let r = recordIn (a .tags .now) in let bs = part (a .l1d .now) (a .from) 64 in
-    put-nowhere r (a .l1d .now) (a .l2 .now) (a .ext .now) bs (a .a) (a .sets) ((c .before .before .before .before .set-of) .result) ((c .before .before .line-of) .result) ((c .before .l2-find) .result)
-    ((c .before .before .before .before .before .before .before .is-external) .ensures ∙ (c .before .before .before .before .before .before .if1) .left) (h .1 .1 .1) ((c .before .before .before .before .before .if2) .left) ((c .before .before .before .before .set-of) .ensures .0 ((c .before .before .before .before .before .if2) .left)) ((c .before .before .line-of) .ensures) ((c .before .l2-find) .ensures .0) ((c .if3) .taken)
+    let p-set-of = c .before .before .before .before in let p-if2 = p-set-of .before in let p-if1 = p-if2 .before in
+    let p-is-external = p-if1 .before in let p-start = p-is-external .before .before .before .before .before in
+    let a = p-start .args in let h = p-start .pre in let r = recordIn (a .tags .now) in let bs = part (a .l1d .now) (a .from) 64 in
+    put-nowhere r (a .l1d .now) (a .l2 .now) (a .ext .now) bs (a .a) (a .sets) ((p-set-of .set-of) .result) ((c .before .before .line-of) .result) ((c .before .l2-find) .result)
+    ((p-is-external .is-external) .ensures ∙ (p-if1 .if1) .left) (h .1 .1 .1) ((p-if2 .if2) .left) ((p-set-of .set-of) .ensures .0 ((p-if2 .if2) .left)) ((c .before .before .line-of) .ensures) ((c .before .l2-find) .ensures .0) ((c .if3) .taken)
 
 -- src/lib.rt:32:24
 data-at-requires : tie.Need-data-at-requires
@@ -124,11 +131,17 @@ same-length-5 c = search needs
 -- src/lib.rt:14:1
 returns-4 : tie.Need-returns-4
 returns-4 c =
-    let a = (c .before .before .before .before .before .before .before .before .before .before .before .before .before .before .before .before .before .before .before .before .before .before .before .before .before) .args in let h = (c .before .before .before .before .before .before .before .before .before .before .before .before .before .before .before .before .before .before .before .before .before .before .before .before .before) .pre in let r = recordIn (a .tags .now) in let bs = part (a .l1d .now) (a .from) 64 in
-    put-inside r (recordIn ((c .before .before .l2-put) .last .0)) (a .l1d .now) (a .l2 .now) ((c .before .before .before .before .before .before .before .before .before .move643) .last .0) (a .ext .now) bs (a .a) (a .sram) (a .sets) ((c .before .before .before .before .before .before .before .before .before .before .before .before .before .before .before .before .before .set-of) .result) ((c .before .before .before .before .before .before .before .before .before .before .before .before .before .before .before .line-of) .result)
-    ((c .before .before .before .before .before .before .before .before .before .before .before .before .before .before .l2-find) .result) ((c .before .before .before .before .before .before .before .before .before .before .before .data-at) .result) ((c .before .before .before .before .before .before .before .before .before .before .offset-of) .result) ((c .before .before .before .before .before .l2-line) .result) ((c .before .before .before .line-at) .result)
-    ((c .before .before .before .before .before .before .before .before .before .before .before .before .before .before .before .before .before .before .before .before .is-external) .ensures ∙ (c .before .before .before .before .before .before .before .before .before .before .before .before .before .before .before .before .before .before .before .if1) .left) (h .1 .1 .0) (h .1 .1 .1) ((c .before .before .before .before .before .before .before .before .before .before .before .before .before .before .before .before .before .before .if2) .left) ((c .before .before .before .before .before .before .before .before .before .before .before .before .before .before .before .before .before .set-of) .ensures .0 ((c .before .before .before .before .before .before .before .before .before .before .before .before .before .before .before .before .before .before .if2) .left)) ((c .before .before .before .before .before .before .before .before .before .before .before .before .before .before .before .line-of) .ensures) ((c .before .before .before .before .before .before .before .before .before .before .before .before .before .before .l2-find) .ensures .0) ((c .before .before .before .before .before .before .before .before .before .before .before .before .before .if3) .left)
-    ((c .before .before .before .before .before .before .before .before .before .before .before .data-at) .ensures .0) ((c .before .before .before .before .before .before .before .before .before .before .offset-of) .ensures .0) ((c .before .before .before .before .before .before .before .before .before .move643) .ensures) ((c .before .before .before .before .before .l2-line) .ensures) ((c .before .before .before .line-at) .ensures) ((c .before .before .l2-put) .ensures)
+    let p-line-at = c .before .before .before in let p-l2-line = p-line-at .before .before in
+    let p-move643 = p-l2-line .before .before .before .before in let p-offset-of = p-move643 .before in
+    let p-data-at = p-offset-of .before in let p-if3 = p-data-at .before .before in let p-l2-find = p-if3 .before in
+    let p-line-of = p-l2-find .before in let p-set-of = p-line-of .before .before in let p-if2 = p-set-of .before in
+    let p-if1 = p-if2 .before in let p-is-external = p-if1 .before in
+    let p-start = p-is-external .before .before .before .before .before in
+    let a = p-start .args in let h = p-start .pre in let r = recordIn (a .tags .now) in let bs = part (a .l1d .now) (a .from) 64 in
+    put-inside r (recordIn ((c .before .before .l2-put) .last .0)) (a .l1d .now) (a .l2 .now) ((p-move643 .move643) .last .0) (a .ext .now) bs (a .a) (a .sram) (a .sets) ((p-set-of .set-of) .result) ((p-line-of .line-of) .result)
+    ((p-l2-find .l2-find) .result) ((p-data-at .data-at) .result) ((p-offset-of .offset-of) .result) ((p-l2-line .l2-line) .result) ((p-line-at .line-at) .result)
+    ((p-is-external .is-external) .ensures ∙ (p-if1 .if1) .left) (h .1 .1 .0) (h .1 .1 .1) ((p-if2 .if2) .left) ((p-set-of .set-of) .ensures .0 ((p-if2 .if2) .left)) ((p-line-of .line-of) .ensures) ((p-l2-find .l2-find) .ensures .0) ((p-if3 .if3) .left)
+    ((p-data-at .data-at) .ensures .0) ((p-offset-of .offset-of) .ensures .0) ((p-move643 .move643) .ensures) ((p-l2-line .l2-line) .ensures) ((p-line-at .line-at) .ensures) ((c .before .before .l2-put) .ensures)
 
 pub put-home-spec : {M : Type 1} → statement M
 put-home-spec =

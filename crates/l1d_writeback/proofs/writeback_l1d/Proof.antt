@@ -28,7 +28,8 @@ same-length c = search needs
 -- src/lib.rt:55:9
 returns : tie.Need-returns
 returns c =
-    let a = (c .before .before .before .before .before .before .before .before) .args in let z = state (recordIn (a .tags .now)) (a .l1d .now) (a .l2 .now) (a .ext .now) in
+    let p-start = c .before .before .before .before .before .before .before .before in
+    let a = p-start .args in let z = state (recordIn (a .tags .now)) (a .l1d .now) (a .l2 .now) (a .ext .now) in
     back-none z (a .i) (a .w) ((c .before .before .l1d-line) .result) ((c .before .before .l1d-line) .ensures) (sym ((c .before .goes-home) .ensures) ∙ not-true ((c .before .goes-home) .result) ((c .if1) .taken))
 
 -- src/lib.rt:57:43
@@ -54,9 +55,13 @@ same-length-4 c = search needs
 -- src/lib.rt:47:1
 returns-2 : tie.Need-returns-2
 returns-2 c =
-    let a = (c .before .before .before .before .before .before .before .before .before .before .before .before .before .before .before .before .before .before .before) .args in let z = state (recordIn (a .tags .now)) (a .l1d .now) (a .l2 .now) (a .ext .now) in
-    let p = (c .before .before .before .before .before .before .put-home) in let y = state (recordIn (p .last .0)) (a .l1d .now) (p .last .1 .1 .1 .1 .1 .1 .0) (p .last .1 .1 .1 .1 .1 .1 .1 .0) in
-    back-dirty z y (a .i) (a .w) ((c .before .before .before .before .before .before .before .before .before .data-at) .result) ((c .before .before .before .before .before .before .before .before .before .before .before .before .before .l1d-line) .result) ((c .before .before .before .before .before .before .before .before .before .before .before .before .before .l1d-line) .ensures) (sym ((c .before .before .before .before .before .before .before .before .before .before .before .before .goes-home) .ensures) ∙ not-false ((c .before .before .before .before .before .before .before .before .before .before .before .before .goes-home) .result) ((c .before .before .before .before .before .before .before .before .before .before .before .if1) .left)) ((c .before .before .before .before .before .before .before .before .before .data-at) .ensures .0) (p .ensures)
+    let p-put-home = c .before .before .before .before .before .before in
+    let p-data-at = p-put-home .before .before .before in let p-if1 = p-data-at .before .before in
+    let p-goes-home = p-if1 .before in let p-l1d-line = p-goes-home .before in
+    let p-start = p-l1d-line .before .before .before .before .before .before in
+    let a = p-start .args in let z = state (recordIn (a .tags .now)) (a .l1d .now) (a .l2 .now) (a .ext .now) in
+    let p = (p-put-home .put-home) in let y = state (recordIn (p .last .0)) (a .l1d .now) (p .last .1 .1 .1 .1 .1 .1 .0) (p .last .1 .1 .1 .1 .1 .1 .1 .0) in
+    back-dirty z y (a .i) (a .w) ((p-data-at .data-at) .result) ((p-l1d-line .l1d-line) .result) ((p-l1d-line .l1d-line) .ensures) (sym ((p-goes-home .goes-home) .ensures) ∙ not-false ((p-goes-home .goes-home) .result) ((p-if1 .if1) .left)) ((p-data-at .data-at) .ensures .0) (p .ensures)
 
 pub writeback-l1d-spec : {M : Type 1} → statement M
 writeback-l1d-spec =

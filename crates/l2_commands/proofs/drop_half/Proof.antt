@@ -1,4 +1,5 @@
--- `l2_sweeps::drop_half` meets its contract: the way that holds the half is emptied, or there is none (`l1d-way`, `l1d-none` of sweeping/specs/At).
+-- `l2_sweeps::drop_half` meets its contract: the way that holds the half is emptied, or there is none (`l1d-way`,
+-- `l1d-none` of sweeping/specs/At).
 use Prim.Native.Nat.{_-_}
 use mathlib.Core.Path.{ap, _∙_}
 use borrow.Author.Needs.{needs}

@@ -1,4 +1,5 @@
--- `l2_sweeps::l2_all` meets its contract: after k turns the state is that of the first k ways (`Swept` of sweeping/specs/Loop).
+-- `l2_sweeps::l2_all` meets its contract: after k turns the state is that of the first k ways (`Swept` of
+-- sweeping/specs/Loop).
 use Prim.Native.Nat.{_-_, _/_, _%_}
 use mathlib.Core.Path.{refl, sym, _∙_}
 use native.Mathlib.Omega.{arith}

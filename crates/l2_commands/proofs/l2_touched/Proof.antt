@@ -1,4 +1,5 @@
--- `l2_sweeps::l2_touched` meets its contract: the way that holds the line, or none (`l2-way`, `l2-none` of sweeping/specs/At).
+-- `l2_sweeps::l2_touched` meets its contract: the way that holds the line, or none (`l2-way`, `l2-none` of
+-- sweeping/specs/At).
 use Prim.Native.Nat.{_-_}
 use borrow.Author.Needs.{needs}
 use Rattle.model.specs.Records.{state}

@@ -23,13 +23,15 @@ is-external-requires c κs = search needs
 -- src/lib.rt:56:9
 returns : tie.Need-returns
 returns c =
-    let a = (c .before .before .before .before .before .before) .args in let k = (c .before .before .before .before .before .before) .pre in let r = recordIn (a .tags .now) in let z = state r (a .l1d .now) (a .l2 .now) (a .ext .now) in
+    let p-start = c .before .before .before .before .before .before in
+    let a = p-start .args in let k = p-start .pre in let r = recordIn (a .tags .now) in let z = state r (a .l1d .now) (a .l2 .now) (a .ext .now) in
     let t = (c .before .is-external) .ensures ∙ (c .if1) .taken in (serves-sram z (a .a) t, fetch-none z (a .a) (home-sram r (a .a) t))
 
 -- src/lib.rt:64:9
 returns-2 : tie.Need-returns-2
 returns-2 c =
-    let a = (c .before .before .before .before .before .before .before) .args in let k = (c .before .before .before .before .before .before .before) .pre in let r = recordIn (a .tags .now) in let z = state r (a .l1d .now) (a .l2 .now) (a .ext .now) in
+    let p-start = c .before .before .before .before .before .before .before in
+    let a = p-start .args in let k = p-start .pre in let r = recordIn (a .tags .now) in let z = state r (a .l1d .now) (a .l2 .now) (a .ext .now) in
     let t = ((c .before .before .is-external) .ensures ∙ (c .before .if1) .left) in (serves-external z (a .a) (a .sets) t (k .1 .1 .1) ((c .if2) .taken), fetch-none z (a .a) (home-external r (a .a) (a .sets) t (k .1 .1 .1) ((c .if2) .taken)))
 
 -- src/lib.rt:71:9
@@ -55,9 +57,13 @@ same-length c = search needs
 -- src/lib.rt:76:9
 returns-3 : tie.Need-returns-3
 returns-3 c =
-    let a = (c .before .before .before .before .before .before .before .before .before .before .before .before .before .before .before .before) .args in let k = (c .before .before .before .before .before .before .before .before .before .before .before .before .before .before .before .before) .pre in let r = recordIn (a .tags .now) in let z = state r (a .l1d .now) (a .l2 .now) (a .ext .now) in (
-      serves-found z (a .a) (a .sets) ((c .before .before .before .before .before .before .before .before .set-of) .result) ((c .before .before .before .before .before .before .before .line-of) .result) ((c .before .before .before .before .before .l2-find) .result) ((c .before .before .before .before .before .before .before .before .before .before .before .is-external) .ensures ∙ (c .before .before .before .before .before .before .before .before .before .before .if1) .left) (k .1 .1 .1) ((c .before .before .before .before .before .before .before .before .before .if2) .left) ((c .before .before .before .before .before .before .before .before .set-of) .ensures .0 ((c .before .before .before .before .before .before .before .before .before .if2) .left)) ((c .before .before .before .before .before .before .before .before .set-of) .ensures .1) ((c .before .before .before .before .before .before .before .line-of) .ensures) ((c .before .before .before .before .before .l2-find) .ensures .0) ((c .before .before .before .before .if3) .taken),
-      fetch-found z (recordIn ((c .before .before .l2-use) .last .0)) (a .a) (a .sets) ((c .before .before .before .before .before .before .before .before .set-of) .result) ((c .before .before .before .before .before .before .before .line-of) .result) ((c .before .before .before .before .before .l2-find) .result) ((c .before .before .before .before .before .before .before .before .before .before .before .is-external) .ensures ∙ (c .before .before .before .before .before .before .before .before .before .before .if1) .left) (k .1 .1 .1) ((c .before .before .before .before .before .before .before .before .before .if2) .left) ((c .before .before .before .before .before .before .before .before .set-of) .ensures .0 ((c .before .before .before .before .before .before .before .before .before .if2) .left)) ((c .before .before .before .before .before .before .before .line-of) .ensures) ((c .before .before .before .before .before .l2-find) .ensures .0) ((c .before .before .before .before .if3) .taken) ((c .before .before .l2-use) .ensures),
+    let p-if3 = c .before .before .before .before in let p-l2-find = p-if3 .before in
+    let p-line-of = p-l2-find .before .before in let p-set-of = p-line-of .before in let p-if2 = p-set-of .before in
+    let p-if1 = p-if2 .before in let p-is-external = p-if1 .before in
+    let p-start = p-is-external .before .before .before .before .before in
+    let a = p-start .args in let k = p-start .pre in let r = recordIn (a .tags .now) in let z = state r (a .l1d .now) (a .l2 .now) (a .ext .now) in (
+      serves-found z (a .a) (a .sets) ((p-set-of .set-of) .result) ((p-line-of .line-of) .result) ((p-l2-find .l2-find) .result) ((p-is-external .is-external) .ensures ∙ (p-if1 .if1) .left) (k .1 .1 .1) ((p-if2 .if2) .left) ((p-set-of .set-of) .ensures .0 ((p-if2 .if2) .left)) ((p-set-of .set-of) .ensures .1) ((p-line-of .line-of) .ensures) ((p-l2-find .l2-find) .ensures .0) ((p-if3 .if3) .taken),
+      fetch-found z (recordIn ((c .before .before .l2-use) .last .0)) (a .a) (a .sets) ((p-set-of .set-of) .result) ((p-line-of .line-of) .result) ((p-l2-find .l2-find) .result) ((p-is-external .is-external) .ensures ∙ (p-if1 .if1) .left) (k .1 .1 .1) ((p-if2 .if2) .left) ((p-set-of .set-of) .ensures .0 ((p-if2 .if2) .left)) ((p-line-of .line-of) .ensures) ((p-l2-find .l2-find) .ensures .0) ((p-if3 .if3) .taken) ((c .before .before .l2-use) .ensures),
     )
 
 -- src/lib.rt:83:9
@@ -83,12 +89,17 @@ same-length-4 c = search needs
 -- src/lib.rt:49:1
 returns-4 : tie.Need-returns-4
 returns-4 c =
-    let a = (c .before .before .before .before .before .before .before .before .before .before .before .before .before .before .before .before .before .before .before .before .before .before .before .before) .args in let k = (c .before .before .before .before .before .before .before .before .before .before .before .before .before .before .before .before .before .before .before .before .before .before .before .before) .pre in let r = recordIn (a .tags .now) in let z = state r (a .l1d .now) (a .l2 .now) (a .ext .now) in
-    let g = (c .before .before .before .before .before .before .bring-l2) in (
-      serves-brought z (a .a) (a .sets) ((c .before .before .before .before .before .before .before .before .before .before .before .before .before .before .before .before .set-of) .result) ((c .before .before .before .before .before .before .before .before .before .before .before .before .before .before .before .line-of) .result) ((c .before .before .before .before .before .before .before .before .before .before .before .before .before .l2-find) .result) ((c .before .before .before .before .before .before .before .before .before .before .l2-victim) .result) ((c .before .before .before .before .before .before .before .before .before .before .before .before .before .before .before .before .before .before .before .is-external) .ensures ∙ (c .before .before .before .before .before .before .before .before .before .before .before .before .before .before .before .before .before .before .if1) .left) (k .1 .1 .1) ((c .before .before .before .before .before .before .before .before .before .before .before .before .before .before .before .before .before .if2) .left) ((c .before .before .before .before .before .before .before .before .before .before .before .before .before .before .before .before .set-of) .ensures .0 ((c .before .before .before .before .before .before .before .before .before .before .before .before .before .before .before .before .before .if2) .left)) ((c .before .before .before .before .before .before .before .before .before .before .before .before .before .before .before .before .set-of) .ensures .1) ((c .before .before .before .before .before .before .before .before .before .before .before .before .before .before .before .line-of) .ensures) ((c .before .before .before .before .before .before .before .before .before .before .before .before .before .l2-find) .ensures .0) ((c .before .before .before .before .before .before .before .before .before .before .before .before .if3) .left)
-          ((c .before .before .before .before .before .before .before .before .before .before .l2-victim) .ensures .0) ((c .before .before .before .before .before .before .before .before .before .before .l2-victim) .ensures .1),
-      fetch-brought z (state (recordIn (g .last .0)) (a .l1d .now) (g .last .1 .1 .1 .1 .1 .1 .1 .0) (g .last .1 .1 .1 .1 .1 .1 .1 .1 .0)) (a .a) (a .sets) ((c .before .before .before .before .before .before .before .before .before .before .before .before .before .before .before .before .set-of) .result) ((c .before .before .before .before .before .before .before .before .before .before .before .before .before .before .before .line-of) .result) ((c .before .before .before .before .before .before .before .before .before .before .before .before .before .l2-find) .result) ((c .before .before .before .before .before .before .before .before .before .before .l2-victim) .result) ((c .before .before .before .before .before .before .before .before .before .before .before .before .before .before .before .before .before .before .before .is-external) .ensures ∙ (c .before .before .before .before .before .before .before .before .before .before .before .before .before .before .before .before .before .before .if1) .left) (k .1 .1 .1) ((c .before .before .before .before .before .before .before .before .before .before .before .before .before .before .before .before .before .if2) .left) ((c .before .before .before .before .before .before .before .before .before .before .before .before .before .before .before .before .set-of) .ensures .0 ((c .before .before .before .before .before .before .before .before .before .before .before .before .before .before .before .before .before .if2) .left)) ((c .before .before .before .before .before .before .before .before .before .before .before .before .before .before .before .line-of) .ensures) ((c .before .before .before .before .before .before .before .before .before .before .before .before .before .l2-find) .ensures .0) ((c .before .before .before .before .before .before .before .before .before .before .before .before .if3) .left)
-          ((c .before .before .before .before .before .before .before .before .before .before .l2-victim) .ensures .0) (g .ensures),
+    let p-bring-l2 = c .before .before .before .before .before .before in
+    let p-l2-victim = p-bring-l2 .before .before .before .before in let p-if3 = p-l2-victim .before .before in
+    let p-l2-find = p-if3 .before in let p-line-of = p-l2-find .before .before in
+    let p-set-of = p-line-of .before in let p-if2 = p-set-of .before in let p-if1 = p-if2 .before in
+    let p-is-external = p-if1 .before in let p-start = p-is-external .before .before .before .before .before in
+    let a = p-start .args in let k = p-start .pre in let r = recordIn (a .tags .now) in let z = state r (a .l1d .now) (a .l2 .now) (a .ext .now) in
+    let g = (p-bring-l2 .bring-l2) in (
+      serves-brought z (a .a) (a .sets) ((p-set-of .set-of) .result) ((p-line-of .line-of) .result) ((p-l2-find .l2-find) .result) ((p-l2-victim .l2-victim) .result) ((p-is-external .is-external) .ensures ∙ (p-if1 .if1) .left) (k .1 .1 .1) ((p-if2 .if2) .left) ((p-set-of .set-of) .ensures .0 ((p-if2 .if2) .left)) ((p-set-of .set-of) .ensures .1) ((p-line-of .line-of) .ensures) ((p-l2-find .l2-find) .ensures .0) ((p-if3 .if3) .left)
+          ((p-l2-victim .l2-victim) .ensures .0) ((p-l2-victim .l2-victim) .ensures .1),
+      fetch-brought z (state (recordIn (g .last .0)) (a .l1d .now) (g .last .1 .1 .1 .1 .1 .1 .1 .0) (g .last .1 .1 .1 .1 .1 .1 .1 .1 .0)) (a .a) (a .sets) ((p-set-of .set-of) .result) ((p-line-of .line-of) .result) ((p-l2-find .l2-find) .result) ((p-l2-victim .l2-victim) .result) ((p-is-external .is-external) .ensures ∙ (p-if1 .if1) .left) (k .1 .1 .1) ((p-if2 .if2) .left) ((p-set-of .set-of) .ensures .0 ((p-if2 .if2) .left)) ((p-line-of .line-of) .ensures) ((p-l2-find .l2-find) .ensures .0) ((p-if3 .if3) .left)
+          ((p-l2-victim .l2-victim) .ensures .0) (g .ensures),
     )
 
 pub fetch-l2-spec : {M : Type 1} → statement M

@@ -61,10 +61,14 @@ same-length-2 c = search needs
 -- src/lib.rt:166:9
 returns : tie.Need-returns
 returns c =
-    let a = (c .before .before .before .before .before .before .before .before .before .before .before .before .before .before .before .before .before .before) .args in let k = (c .before .before .before .before .before .before .before .before .before .before .before .before .before .before .before .before .before .before) .pre in let r = recordIn (a .tags .now) in
-    filled-homed r (recordIn ((c .before .before .before .before .before .before .before .before .before .l1d-put) .last .0)) (a .l1d .now) ((c .before .before .move64) .last .0) (a .l2 .now) (a .ext .now) (a .a) (a .i) (a .w) (a .sram) (a .sets) ((c .before .before .before .before .before .before .before .before .before .before .before .before .before .line-of) .result) ((c .before .before .before .before .before .before .before .before .before .before .before .before .data-at) .result)
-    ((c .before .before .before .before .data-at2) .result) ((c .before .before .before .offset-of) .result) (a .h) ((c .before .before .before .before .before .before .before .before .before .before .line-at) .result) (k .0 .1) (k .1 .0 .1 .1 .0) (k .1 .0 .1 .1 .1) (k .1 .1) ((c .before .before .before .before .before .before .if1) .taken) ((c .before .before .before .before .before .before .before .before .before .before .before .before .before .line-of) .ensures) ((c .before .before .before .before .before .before .before .before .before .before .before .before .data-at) .ensures .0) ((c .before .before .before .before .data-at2) .ensures .0) ((c .before .before .before .offset-of) .ensures .0)
-    ((c .before .before .move64) .ensures) ((c .before .before .before .before .before .before .before .before .before .before .line-at) .ensures) ((c .before .before .before .before .before .before .before .before .before .l1d-put) .ensures)
+    let p-offset-of = c .before .before .before in let p-data-at2 = p-offset-of .before in
+    let p-if1 = p-data-at2 .before .before in let p-l1d-put = p-if1 .before .before .before in
+    let p-line-at = p-l1d-put .before in let p-data-at = p-line-at .before .before in
+    let p-line-of = p-data-at .before in let p-start = p-line-of .before .before .before .before .before in
+    let a = p-start .args in let k = p-start .pre in let r = recordIn (a .tags .now) in
+    filled-homed r (recordIn ((p-l1d-put .l1d-put) .last .0)) (a .l1d .now) ((c .before .before .move64) .last .0) (a .l2 .now) (a .ext .now) (a .a) (a .i) (a .w) (a .sram) (a .sets) ((p-line-of .line-of) .result) ((p-data-at .data-at) .result)
+    ((p-data-at2 .data-at2) .result) ((p-offset-of .offset-of) .result) (a .h) ((p-line-at .line-at) .result) (k .0 .1) (k .1 .0 .1 .1 .0) (k .1 .0 .1 .1 .1) (k .1 .1) ((p-if1 .if1) .taken) ((p-line-of .line-of) .ensures) ((p-data-at .data-at) .ensures .0) ((p-data-at2 .data-at2) .ensures .0) ((p-offset-of .offset-of) .ensures .0)
+    ((c .before .before .move64) .ensures) ((p-line-at .line-at) .ensures) ((p-l1d-put .l1d-put) .ensures)
 
 -- src/lib.rt:168:8
 is-external-requires : tie.Need-is-external-requires
@@ -89,9 +93,14 @@ same-length-4 c = search needs
 -- src/lib.rt:170:9
 returns-2 : tie.Need-returns-2
 returns-2 c =
-    let a = (c .before .before .before .before .before .before .before .before .before .before .before .before .before .before .before .before .before .before .before) .args in let k = (c .before .before .before .before .before .before .before .before .before .before .before .before .before .before .before .before .before .before .before) .pre in let r = recordIn (a .tags .now) in
-    filled-external r (recordIn ((c .before .before .before .before .before .before .before .before .before .before .l1d-put) .last .0)) (a .l1d .now) ((c .before .before .move642) .last .0) (a .l2 .now) (a .ext .now) (a .a) (a .i) (a .w) ((c .before .before .before .before .before .before .before .before .before .before .before .before .before .before .line-of) .result) ((c .before .before .before .before .before .before .before .before .before .before .before .before .before .data-at) .result)
-    ((c .before .before .before .external-place) .result) (a .h) ((c .before .before .before .before .before .before .before .before .before .before .before .line-at) .result) (k .0 .1) (k .1 .1) ((c .before .before .before .before .before .before .before .if1) .left) ((c .before .before .before .before .before .before .before .before .before .before .before .before .before .before .line-of) .ensures) ((c .before .before .before .before .before .before .is-external) .ensures ∙ ap not ((c .before .before .before .before .before .if2) .taken)) ((c .before .before .before .before .before .before .before .before .before .before .before .before .before .data-at) .ensures .0) ((c .before .before .before .external-place) .ensures .0) ((c .before .before .move642) .ensures) ((c .before .before .before .before .before .before .before .before .before .before .before .line-at) .ensures) ((c .before .before .before .before .before .before .before .before .before .before .l1d-put) .ensures)
+    let p-external-place = c .before .before .before in let p-if2 = p-external-place .before .before in
+    let p-is-external = p-if2 .before in let p-if1 = p-is-external .before in
+    let p-l1d-put = p-if1 .before .before .before in let p-line-at = p-l1d-put .before in
+    let p-data-at = p-line-at .before .before in let p-line-of = p-data-at .before in
+    let p-start = p-line-of .before .before .before .before .before in
+    let a = p-start .args in let k = p-start .pre in let r = recordIn (a .tags .now) in
+    filled-external r (recordIn ((p-l1d-put .l1d-put) .last .0)) (a .l1d .now) ((c .before .before .move642) .last .0) (a .l2 .now) (a .ext .now) (a .a) (a .i) (a .w) ((p-line-of .line-of) .result) ((p-data-at .data-at) .result)
+    ((p-external-place .external-place) .result) (a .h) ((p-line-at .line-at) .result) (k .0 .1) (k .1 .1) ((p-if1 .if1) .left) ((p-line-of .line-of) .ensures) ((p-is-external .is-external) .ensures ∙ ap not ((p-if2 .if2) .taken)) ((p-data-at .data-at) .ensures .0) ((p-external-place .external-place) .ensures .0) ((c .before .before .move642) .ensures) ((p-line-at .line-at) .ensures) ((p-l1d-put .l1d-put) .ensures)
 
 -- src/lib.rt:172:33
 place-of-requires : tie.Need-place-of-requires
@@ -112,9 +121,14 @@ same-length-6 c = search needs
 -- src/lib.rt:154:1
 returns-3 : tie.Need-returns-3
 returns-3 c =
-    let a = (c .before .before .before .before .before .before .before .before .before .before .before .before .before .before .before .before .before .before .before) .args in let k = (c .before .before .before .before .before .before .before .before .before .before .before .before .before .before .before .before .before .before .before) .pre in let r = recordIn (a .tags .now) in
-    filled-sram r (recordIn ((c .before .before .before .before .before .before .before .before .before .before .l1d-put) .last .0)) (a .l1d .now) ((c .before .before .move643) .last .0) (a .l2 .now) (a .ext .now) (a .a) (a .i) (a .w) ((c .before .before .before .before .before .before .before .before .before .before .before .before .before .before .line-of) .result) ((c .before .before .before .before .before .before .before .before .before .before .before .before .before .data-at) .result)
-    ((c .before .before .before .place-of) .result) (a .h) ((c .before .before .before .before .before .before .before .before .before .before .before .line-at) .result) (k .0 .1) (k .1 .1) ((c .before .before .before .before .before .before .before .if1) .left) ((c .before .before .before .before .before .before .before .before .before .before .before .before .before .before .line-of) .ensures) ((c .before .before .before .before .before .before .is-external) .ensures ∙ ap not ((c .before .before .before .before .before .if2) .left)) ((c .before .before .before .before .before .before .before .before .before .before .before .before .before .data-at) .ensures .0) ((c .before .before .before .place-of) .ensures .0) ((c .before .before .move643) .ensures) ((c .before .before .before .before .before .before .before .before .before .before .before .line-at) .ensures) ((c .before .before .before .before .before .before .before .before .before .before .l1d-put) .ensures)
+    let p-place-of = c .before .before .before in let p-if2 = p-place-of .before .before in
+    let p-is-external = p-if2 .before in let p-if1 = p-is-external .before in
+    let p-l1d-put = p-if1 .before .before .before in let p-line-at = p-l1d-put .before in
+    let p-data-at = p-line-at .before .before in let p-line-of = p-data-at .before in
+    let p-start = p-line-of .before .before .before .before .before in
+    let a = p-start .args in let k = p-start .pre in let r = recordIn (a .tags .now) in
+    filled-sram r (recordIn ((p-l1d-put .l1d-put) .last .0)) (a .l1d .now) ((c .before .before .move643) .last .0) (a .l2 .now) (a .ext .now) (a .a) (a .i) (a .w) ((p-line-of .line-of) .result) ((p-data-at .data-at) .result)
+    ((p-place-of .place-of) .result) (a .h) ((p-line-at .line-at) .result) (k .0 .1) (k .1 .1) ((p-if1 .if1) .left) ((p-line-of .line-of) .ensures) ((p-is-external .is-external) .ensures ∙ ap not ((p-if2 .if2) .left)) ((p-data-at .data-at) .ensures .0) ((p-place-of .place-of) .ensures .0) ((c .before .before .move643) .ensures) ((p-line-at .line-at) .ensures) ((p-l1d-put .l1d-put) .ensures)
 
 pub fill-l1d-spec : {M : Type 1} → statement M
 fill-l1d-spec =

@@ -57,10 +57,14 @@ same-length-2 c = search needs
 -- src/lib.rt:187:9
 returns : tie.Need-returns
 returns c =
-    let a = (c .before .before .before .before .before .before .before .before .before .before .before .before .before .before .before .before .before) .args in let k = (c .before .before .before .before .before .before .before .before .before .before .before .before .before .before .before .before .before) .pre in let r = recordIn (a .tags .now) in
-    λ d. wrote-homed r (recordIn ((c .before .before .l2-put) .last .0)) d (a .l2 .now) ((c .before .before .before .before .before .before .before .before .before .store) .last .0) (a .ext .now) (littleBytes (a .v) (a .n)) (a .a) (a .sram) (a .sets) ((c .before .before .before .before .before .before .before .before .before .before .before .data-at) .result) ((c .before .before .before .before .before .before .before .before .before .before .offset-of) .result) (a .h)
-    ((c .before .before .before .before .before .l2-line) .result) ((c .before .before .before .line-at) .result) (k .1 .0 .1 .1 .0) (k .1 .0 .1 .1 .1) (k .1 .1) ((c .before .before .before .before .before .before .before .before .before .before .before .before .before .if1) .taken) ((c .before .before .before .before .before .before .before .before .before .before .before .data-at) .ensures .0) ((c .before .before .before .before .before .before .before .before .before .before .offset-of) .ensures .0) ((c .before .before .before .before .before .before .before .before .before .store) .ensures) ((c .before .before .before .before .before .l2-line) .ensures)
-    ((c .before .before .before .line-at) .ensures) ((c .before .before .l2-put) .ensures)
+    let p-line-at = c .before .before .before in let p-l2-line = p-line-at .before .before in
+    let p-store = p-l2-line .before .before .before .before in let p-offset-of = p-store .before in
+    let p-data-at = p-offset-of .before in let p-if1 = p-data-at .before .before in
+    let p-start = p-if1 .before .before .before .before in
+    let a = p-start .args in let k = p-start .pre in let r = recordIn (a .tags .now) in
+    λ d. wrote-homed r (recordIn ((c .before .before .l2-put) .last .0)) d (a .l2 .now) ((p-store .store) .last .0) (a .ext .now) (littleBytes (a .v) (a .n)) (a .a) (a .sram) (a .sets) ((p-data-at .data-at) .result) ((p-offset-of .offset-of) .result) (a .h)
+    ((p-l2-line .l2-line) .result) ((p-line-at .line-at) .result) (k .1 .0 .1 .1 .0) (k .1 .0 .1 .1 .1) (k .1 .1) ((p-if1 .if1) .taken) ((p-data-at .data-at) .ensures .0) ((p-offset-of .offset-of) .ensures .0) ((p-store .store) .ensures) ((p-l2-line .l2-line) .ensures)
+    ((p-line-at .line-at) .ensures) ((c .before .before .l2-put) .ensures)
 
 -- src/lib.rt:189:8
 is-external-requires : tie.Need-is-external-requires
@@ -81,9 +85,12 @@ same-length-3 c = search needs
 -- src/lib.rt:191:9
 returns-2 : tie.Need-returns-2
 returns-2 c =
-    let a = (c .before .before .before .before .before .before .before .before .before .before .before) .args in let k = (c .before .before .before .before .before .before .before .before .before .before .before) .pre in let r = recordIn (a .tags .now) in
-    λ d. wrote-external r d (a .l2 .now) (a .ext .now) ((c .before .before .store2) .last .0) (littleBytes (a .v) (a .n)) (a .a) ((c .before .before .before .external-place) .result) (a .h) (k .1 .1) ((c .before .before .before .before .before .before .before .if1) .left)
-    ((c .before .before .before .before .before .before .is-external) .ensures ∙ ap not ((c .before .before .before .before .before .if2) .taken)) ((c .before .before .before .external-place) .ensures .0) ((c .before .before .store2) .ensures)
+    let p-external-place = c .before .before .before in let p-if2 = p-external-place .before .before in
+    let p-is-external = p-if2 .before in let p-if1 = p-is-external .before in
+    let p-start = p-if1 .before .before .before .before in
+    let a = p-start .args in let k = p-start .pre in let r = recordIn (a .tags .now) in
+    λ d. wrote-external r d (a .l2 .now) (a .ext .now) ((c .before .before .store2) .last .0) (littleBytes (a .v) (a .n)) (a .a) ((p-external-place .external-place) .result) (a .h) (k .1 .1) ((p-if1 .if1) .left)
+    ((p-is-external .is-external) .ensures ∙ ap not ((p-if2 .if2) .taken)) ((p-external-place .external-place) .ensures .0) ((c .before .before .store2) .ensures)
 
 -- src/lib.rt:193:23
 place-of-requires : tie.Need-place-of-requires
@@ -100,9 +107,12 @@ same-length-4 c = search needs
 -- src/lib.rt:176:1
 returns-3 : tie.Need-returns-3
 returns-3 c =
-    let a = (c .before .before .before .before .before .before .before .before .before .before .before) .args in let k = (c .before .before .before .before .before .before .before .before .before .before .before) .pre in let r = recordIn (a .tags .now) in
-    λ d. wrote-sram r d (a .l2 .now) ((c .before .before .store3) .last .0) (a .ext .now) (littleBytes (a .v) (a .n)) (a .a) ((c .before .before .before .place-of) .result) (a .h) (k .1 .1) ((c .before .before .before .before .before .before .before .if1) .left)
-    ((c .before .before .before .before .before .before .is-external) .ensures ∙ ap not ((c .before .before .before .before .before .if2) .left)) ((c .before .before .before .place-of) .ensures .0) ((c .before .before .store3) .ensures)
+    let p-place-of = c .before .before .before in let p-if2 = p-place-of .before .before in
+    let p-is-external = p-if2 .before in let p-if1 = p-is-external .before in
+    let p-start = p-if1 .before .before .before .before in
+    let a = p-start .args in let k = p-start .pre in let r = recordIn (a .tags .now) in
+    λ d. wrote-sram r d (a .l2 .now) ((c .before .before .store3) .last .0) (a .ext .now) (littleBytes (a .v) (a .n)) (a .a) ((p-place-of .place-of) .result) (a .h) (k .1 .1) ((p-if1 .if1) .left)
+    ((p-is-external .is-external) .ensures ∙ ap not ((p-if2 .if2) .left)) ((p-place-of .place-of) .ensures .0) ((c .before .before .store3) .ensures)
 
 pub write-home-spec : {M : Type 1} → statement M
 write-home-spec =

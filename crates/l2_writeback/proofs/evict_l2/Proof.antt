@@ -37,9 +37,12 @@ same-length-3 c = search needs
 -- src/lib.rt:70:1
 returns : tie.Need-returns
 returns c =
-    let a = (c .before .before .before .before .before .before .before .before .before .before .before .before .before .before .before .before .before .before .before) .args in let k = (c .before .before .before .before .before .before .before .before .before .before .before .before .before .before .before .before .before .before .before) .pre in let d = a .l1d .now in let e = a .ext .now in let z = state (recordIn (a .tags .now)) d (a .l2 .now) e in
-    let p = (c .before .before .before .before .before .before .before .before .before .before .before .writeback-l2) in let y = state (recordIn (p .last .0)) d (p .last .1 .1 .1 .1 .1 .1 .0) (p .last .1 .1 .1 .1 .1 .1 .1 .0) in
-    evicted z y (recordIn ((c .before .before .l2-put) .last .0)) (a .t) (a .v) ((c .before .before .before .empty-line) .result) (p .ensures) ((c .before .before .before .empty-line) .ensures) ((c .before .before .l2-put) .ensures)
+    let p-empty-line = c .before .before .before in
+    let p-writeback-l2 = p-empty-line .before .before .before .before .before .before .before .before in
+    let p-start = p-writeback-l2 .before .before .before .before .before .before .before .before in
+    let a = p-start .args in let k = p-start .pre in let d = a .l1d .now in let e = a .ext .now in let z = state (recordIn (a .tags .now)) d (a .l2 .now) e in
+    let p = (p-writeback-l2 .writeback-l2) in let y = state (recordIn (p .last .0)) d (p .last .1 .1 .1 .1 .1 .1 .0) (p .last .1 .1 .1 .1 .1 .1 .1 .0) in
+    evicted z y (recordIn ((c .before .before .l2-put) .last .0)) (a .t) (a .v) ((p-empty-line .empty-line) .result) (p .ensures) ((p-empty-line .empty-line) .ensures) ((c .before .before .l2-put) .ensures)
 
 pub evict-l2-spec : {M : Type 1} → statement M
 evict-l2-spec =

@@ -39,8 +39,9 @@ same-length c = search needs
 -- src/lib.rt:22:9
 returns : tie.Need-returns
 returns c =
-    let a = (c .before .before .before .before .before .before .before .before) .args in let h = (c .before .before .before .before .before .before .before .before) .pre in let r = recordIn (a .tags .now) in
-    λ e. half-none r (a .l1d .now) (a .l2 .now) e (a .t) (a .v) (a .b) ((c .before .before .before .before .set-of) .result) ((c .before .before .line-of) .result) ((c .before .l1d-find) .result) ((c .before .before .before .before .set-of) .ensures .0) ((c .before .before .line-of) .ensures) ((c .before .l1d-find) .ensures .0) ((c .if1) .taken)
+    let p-set-of = c .before .before .before .before in let p-start = p-set-of .before .before .before .before in
+    let a = p-start .args in let h = p-start .pre in let r = recordIn (a .tags .now) in
+    λ e. half-none r (a .l1d .now) (a .l2 .now) e (a .t) (a .v) (a .b) ((p-set-of .set-of) .result) ((c .before .before .line-of) .result) ((c .before .l1d-find) .result) ((p-set-of .set-of) .ensures .0) ((c .before .before .line-of) .ensures) ((c .before .l1d-find) .ensures .0) ((c .if1) .taken)
 
 -- src/lib.rt:24:9
 l1d-line-requires : tie.Need-l1d-line-requires
@@ -76,7 +77,9 @@ line-at-requires c κs = search needs
 
 -- src/lib.rt:28:9
 l2-put-requires : tie.Need-l2-put-requires
-l2-put-requires c κs = ((c .before .before .before .before .before .before .before .before .before .before .before .before .before .before .before .before .before .before .before .before .before .before) .pre .0, (c .before .before .before .before .before .before .before .before .before .before .before .before .before .before .before .before .before .before .before .before .before .before) .pre .1 .0)
+l2-put-requires c κs =
+    let p-start = c .before .before .before .before .before .before .before .before .before .before .before .before .before .before .before .before .before .before .before .before .before .before in
+    (p-start .pre .0, p-start .pre .1 .0)
 
 -- src/lib.rt:29:35
 empty-line-requires : tie.Need-empty-line-requires
@@ -84,7 +87,12 @@ empty-line-requires c κs = search needs
 
 -- src/lib.rt:29:9
 l1d-put-requires : tie.Need-l1d-put-requires
-l1d-put-requires c κs = (((c .before .before .before .before .before .before .before .before .before .before .before .before .before .before .before .before .before .before .before .before .before .before .before .set-of) .ensures .1, (c .before .before .before .before .before .before .before .before .before .before .before .before .before .before .before .before .before .before .before .if1) .left), (c .before .before .before .before .l2-put) .kept .0 ∙ (c .before .before .before .before .before .before .before .before .before .before .before .before .before .before .before .before .before .before .before .before .before .before .before .before .before .before .before) .pre .1 .0)
+l1d-put-requires c κs =
+    let p-l2-put = c .before .before .before .before in
+    let p-if1 = p-l2-put .before .before .before .before .before .before .before .before .before .before .before .before .before .before .before in
+    let p-set-of = p-if1 .before .before .before .before in
+    let p-start = p-set-of .before .before .before .before in
+    (((p-set-of .set-of) .ensures .1, (p-if1 .if1) .left), (p-l2-put .l2-put) .kept .0 ∙ p-start .pre .1 .0)
 
 -- src/lib.rt:30:9
 same-length-2 : tie.Need-same-length-2
@@ -97,12 +105,20 @@ same-length-3 c = search needs
 -- src/lib.rt:30:9
 returns-2 : tie.Need-returns-2
 returns-2 c =
-    let a = (c .before .before .before .before .before .before .before .before .before .before .before .before .before .before .before .before .before .before .before .before .before .before .before .before .before .before .before .before .before .before) .args in let h = (c .before .before .before .before .before .before .before .before .before .before .before .before .before .before .before .before .before .before .before .before .before .before .before .before .before .before .before .before .before .before) .pre in let r = recordIn (a .tags .now) in
-    let p = recordIn ((c .before .before .before .before .before .before .before .l2-put) .last .0) in
-    λ e. half-dirty r p (recordIn ((c .before .before .l1d-put) .last .0)) (a .l1d .now) (a .l2 .now) ((c .before .before .before .before .before .before .before .before .before .before .before .before .before .before .move64) .last .0) e (a .t) (a .v) (a .b) ((c .before .before .before .before .before .before .before .before .before .before .before .before .before .before .before .before .before .before .before .before .before .before .before .before .before .before .set-of) .result) ((c .before .before .before .before .before .before .before .before .before .before .before .before .before .before .before .before .before .before .before .before .before .before .before .before .line-of) .result) ((c .before .before .before .before .before .before .before .before .before .before .before .before .before .before .before .before .before .before .before .before .before .before .before .l1d-find) .result)
-    (a .sram) (a .sets) ((c .before .before .before .before .before .before .before .before .before .before .before .before .before .before .before .before .before .data-at) .result) ((c .before .before .before .before .before .before .before .before .before .before .before .before .before .before .before .before .offset-of) .result) ((c .before .before .before .before .before .before .before .before .before .before .before .before .before .before .before .data-at2) .result) ((c .before .before .before .before .before .before .before .before .before .before .before .before .before .before .before .before .before .before .before .before .l1d-line) .result) ((c .before .before .before .before .before .before .before .before .before .before .l2-line) .result) ((c .before .before .before .before .before .before .before .before .line-at) .result) ((c .before .before .before .empty-line) .result)
-    ((c .before .before .before .before .before .before .before .before .before .before .before .before .before .before .before .before .before .before .before .before .before .before .before .before .before .before .set-of) .ensures .0) ((c .before .before .before .before .before .before .before .before .before .before .before .before .before .before .before .before .before .before .before .before .before .before .before .before .line-of) .ensures) ((c .before .before .before .before .before .before .before .before .before .before .before .before .before .before .before .before .before .before .before .before .before .before .before .l1d-find) .ensures .0) ((c .before .before .before .before .before .before .before .before .before .before .before .before .before .before .before .before .before .before .before .before .before .before .if1) .left) ((c .before .before .before .before .before .before .before .before .before .before .before .before .before .before .before .before .before .before .before .before .l1d-line) .ensures) ((c .before .before .before .before .before .before .before .before .before .before .before .before .before .before .before .before .before .before .before .if2) .taken) (h .1 .1 .1 .0) (h .1 .1 .1 .1) ((c .before .before .before .before .before .before .before .before .before .before .before .before .before .before .before .before .before .data-at) .ensures .0) ((c .before .before .before .before .before .before .before .before .before .before .before .before .before .before .before .data-at2) .ensures .0)
-    ((c .before .before .before .before .before .before .before .before .before .before .before .before .before .before .before .before .offset-of) .ensures .0) ((c .before .before .before .before .before .before .before .before .before .before .before .before .before .before .move64) .ensures) ((c .before .before .before .before .before .before .before .before .before .before .l2-line) .ensures) ((c .before .before .before .before .before .before .before .before .line-at) .ensures) ((c .before .before .before .before .before .before .before .l2-put) .ensures) ((c .before .before .before .empty-line) .ensures) ((c .before .before .l1d-put) .ensures)
+    let p-empty-line = c .before .before .before in let p-l2-put = p-empty-line .before .before .before .before in
+    let p-line-at = p-l2-put .before in let p-l2-line = p-line-at .before .before in
+    let p-move64 = p-l2-line .before .before .before .before in let p-data-at2 = p-move64 .before in
+    let p-offset-of = p-data-at2 .before in let p-data-at = p-offset-of .before in
+    let p-if2 = p-data-at .before .before in let p-l1d-line = p-if2 .before in
+    let p-if1 = p-l1d-line .before .before in let p-l1d-find = p-if1 .before in
+    let p-line-of = p-l1d-find .before in let p-set-of = p-line-of .before .before in
+    let p-start = p-set-of .before .before .before .before in
+    let a = p-start .args in let h = p-start .pre in let r = recordIn (a .tags .now) in
+    let p = recordIn ((p-l2-put .l2-put) .last .0) in
+    λ e. half-dirty r p (recordIn ((c .before .before .l1d-put) .last .0)) (a .l1d .now) (a .l2 .now) ((p-move64 .move64) .last .0) e (a .t) (a .v) (a .b) ((p-set-of .set-of) .result) ((p-line-of .line-of) .result) ((p-l1d-find .l1d-find) .result)
+    (a .sram) (a .sets) ((p-data-at .data-at) .result) ((p-offset-of .offset-of) .result) ((p-data-at2 .data-at2) .result) ((p-l1d-line .l1d-line) .result) ((p-l2-line .l2-line) .result) ((p-line-at .line-at) .result) ((p-empty-line .empty-line) .result)
+    ((p-set-of .set-of) .ensures .0) ((p-line-of .line-of) .ensures) ((p-l1d-find .l1d-find) .ensures .0) ((p-if1 .if1) .left) ((p-l1d-line .l1d-line) .ensures) ((p-if2 .if2) .taken) (h .1 .1 .1 .0) (h .1 .1 .1 .1) ((p-data-at .data-at) .ensures .0) ((p-data-at2 .data-at2) .ensures .0)
+    ((p-offset-of .offset-of) .ensures .0) ((p-move64 .move64) .ensures) ((p-l2-line .l2-line) .ensures) ((p-line-at .line-at) .ensures) ((p-l2-put .l2-put) .ensures) ((p-empty-line .empty-line) .ensures) ((c .before .before .l1d-put) .ensures)
 
 -- src/lib.rt:32:31
 empty-line-requires-2 : tie.Need-empty-line-requires-2
@@ -119,9 +135,13 @@ same-length-4 c = search needs
 -- src/lib.rt:13:1
 returns-3 : tie.Need-returns-3
 returns-3 c =
-    let a = (c .before .before .before .before .before .before .before .before .before .before .before .before .before .before .before .before) .args in let h = (c .before .before .before .before .before .before .before .before .before .before .before .before .before .before .before .before) .pre in let r = recordIn (a .tags .now) in
-    λ e. half-clean r (recordIn ((c .before .before .l1d-put2) .last .0)) (a .l1d .now) (a .l2 .now) e (a .t) (a .v) (a .b) ((c .before .before .before .before .before .before .before .before .before .before .before .before .set-of) .result) ((c .before .before .before .before .before .before .before .before .before .before .line-of) .result) ((c .before .before .before .before .before .before .before .before .before .l1d-find) .result) ((c .before .before .before .before .before .before .l1d-line) .result) ((c .before .before .before .empty-line2) .result)
-    ((c .before .before .before .before .before .before .before .before .before .before .before .before .set-of) .ensures .0) ((c .before .before .before .before .before .before .before .before .before .before .line-of) .ensures) ((c .before .before .before .before .before .before .before .before .before .l1d-find) .ensures .0) ((c .before .before .before .before .before .before .before .before .if1) .left) ((c .before .before .before .before .before .before .l1d-line) .ensures) ((c .before .before .before .before .before .if2) .left) ((c .before .before .before .empty-line2) .ensures) ((c .before .before .l1d-put2) .ensures)
+    let p-empty-line2 = c .before .before .before in let p-if2 = p-empty-line2 .before .before in
+    let p-l1d-line = p-if2 .before in let p-if1 = p-l1d-line .before .before in let p-l1d-find = p-if1 .before in
+    let p-line-of = p-l1d-find .before in let p-set-of = p-line-of .before .before in
+    let p-start = p-set-of .before .before .before .before in
+    let a = p-start .args in let h = p-start .pre in let r = recordIn (a .tags .now) in
+    λ e. half-clean r (recordIn ((c .before .before .l1d-put2) .last .0)) (a .l1d .now) (a .l2 .now) e (a .t) (a .v) (a .b) ((p-set-of .set-of) .result) ((p-line-of .line-of) .result) ((p-l1d-find .l1d-find) .result) ((p-l1d-line .l1d-line) .result) ((p-empty-line2 .empty-line2) .result)
+    ((p-set-of .set-of) .ensures .0) ((p-line-of .line-of) .ensures) ((p-l1d-find .l1d-find) .ensures .0) ((p-if1 .if1) .left) ((p-l1d-line .l1d-line) .ensures) ((p-if2 .if2) .left) ((p-empty-line2 .empty-line2) .ensures) ((c .before .before .l1d-put2) .ensures)
 
 pub take-half-spec : {M : Type 1} → statement M
 take-half-spec =

@@ -24,7 +24,8 @@ same-length c = search needs
 -- src/lib.rt:44:9
 returns : tie.Need-returns
 returns c =
-    let a = (c .before .before .before .before .before .before .before) .args in let h = (c .before .before .before .before .before .before .before) .pre in let r = recordIn (a .tags .now) in
+    let p-start = c .before .before .before .before .before .before .before in
+    let a = p-start .args in let h = p-start .pre in let r = recordIn (a .tags .now) in
     λ d. out-none r d (a .l2 .now) (a .ext .now) (a .t) (a .v) ((c .before .before .l2-line) .result) ((c .before .before .l2-line) .ensures) (not-true ((c .before .before .l2-line) .result .valid) ((c .if1) .taken))
 
 -- src/lib.rt:47:9
@@ -34,8 +35,10 @@ same-length-2 c = search needs
 -- src/lib.rt:47:9
 returns-2 : tie.Need-returns-2
 returns-2 c =
-    let a = (c .before .before .before .before .before .before .before .before .before) .args in let h = (c .before .before .before .before .before .before .before .before .before) .pre in let r = recordIn (a .tags .now) in
-    λ d. out-clean r d (a .l2 .now) (a .ext .now) (a .t) (a .v) ((c .before .before .before .before .l2-line) .result) ((c .before .before .before .before .l2-line) .ensures) (not-false ((c .before .before .before .before .l2-line) .result .valid) ((c .before .before .if1) .left)) (not-true ((c .before .before .before .before .l2-line) .result .dirty) ((c .if2) .taken))
+    let p-l2-line = c .before .before .before .before in
+    let p-start = p-l2-line .before .before .before .before .before in
+    let a = p-start .args in let h = p-start .pre in let r = recordIn (a .tags .now) in
+    λ d. out-clean r d (a .l2 .now) (a .ext .now) (a .t) (a .v) ((p-l2-line .l2-line) .result) ((p-l2-line .l2-line) .ensures) (not-false ((p-l2-line .l2-line) .result .valid) ((c .before .before .if1) .left)) (not-true ((p-l2-line .l2-line) .result .dirty) ((c .if2) .taken))
 
 -- src/lib.rt:49:26
 external-place-requires : tie.Need-external-place-requires
@@ -68,9 +71,13 @@ same-length-4 c = search needs
 -- src/lib.rt:36:1
 returns-3 : tie.Need-returns-3
 returns-3 c =
-    let a = (c .before .before .before .before .before .before .before .before .before .before .before .before .before .before .before .before .before .before .before .before) .args in let h = (c .before .before .before .before .before .before .before .before .before .before .before .before .before .before .before .before .before .before .before .before) .pre in let r = recordIn (a .tags .now) in
-    λ d. out-dirty r (recordIn ((c .before .before .l2-put) .last .0)) d (a .l2 .now) (a .ext .now) ((c .before .before .before .before .before .before .before .move128) .last .0) (a .t) (a .v) (a .sram) (a .sets) ((c .before .before .before .before .before .before .before .before .data-at) .result)
-    ((c .before .before .before .before .before .before .before .before .before .external-place) .result) ((c .before .before .before .before .before .before .before .before .before .before .before .before .before .before .before .l2-line) .result) ((c .before .before .before .line-at) .result) ((c .before .before .before .before .before .before .before .before .before .before .before .before .before .before .before .l2-line) .ensures) (not-false ((c .before .before .before .before .before .before .before .before .before .before .before .before .before .before .before .l2-line) .result .valid) ((c .before .before .before .before .before .before .before .before .before .before .before .before .before .if1) .left)) (not-false ((c .before .before .before .before .before .before .before .before .before .before .before .before .before .before .before .l2-line) .result .dirty) ((c .before .before .before .before .before .before .before .before .before .before .before .if2) .left)) (h .1 .1 .1 .0) (h .1 .1 .1 .1) ((c .before .before .before .before .before .before .before .before .data-at) .ensures .0) ((c .before .before .before .before .before .before .before .before .before .external-place) .ensures .0) ((c .before .before .before .before .before .before .before .move128) .ensures) ((c .before .before .before .line-at) .ensures) ((c .before .before .l2-put) .ensures)
+    let p-line-at = c .before .before .before in let p-move128 = p-line-at .before .before .before .before in
+    let p-data-at = p-move128 .before in let p-external-place = p-data-at .before in
+    let p-if2 = p-external-place .before .before in let p-if1 = p-if2 .before .before in
+    let p-l2-line = p-if1 .before .before in let p-start = p-l2-line .before .before .before .before .before in
+    let a = p-start .args in let h = p-start .pre in let r = recordIn (a .tags .now) in
+    λ d. out-dirty r (recordIn ((c .before .before .l2-put) .last .0)) d (a .l2 .now) (a .ext .now) ((p-move128 .move128) .last .0) (a .t) (a .v) (a .sram) (a .sets) ((p-data-at .data-at) .result)
+    ((p-external-place .external-place) .result) ((p-l2-line .l2-line) .result) ((p-line-at .line-at) .result) ((p-l2-line .l2-line) .ensures) (not-false ((p-l2-line .l2-line) .result .valid) ((p-if1 .if1) .left)) (not-false ((p-l2-line .l2-line) .result .dirty) ((p-if2 .if2) .left)) (h .1 .1 .1 .0) (h .1 .1 .1 .1) ((p-data-at .data-at) .ensures .0) ((p-external-place .external-place) .ensures .0) ((p-move128 .move128) .ensures) ((p-line-at .line-at) .ensures) ((c .before .before .l2-put) .ensures)
 
 pub write-out-l2-spec : {M : Type 1} → statement M
 write-out-l2-spec =

@@ -26,7 +26,8 @@ same-length c = search needs
 -- src/lib.rt:62:9
 returns : tie.Need-returns
 returns c =
-    let a = (c .before .before .before .before .before .before .before .before) .args in let k = (c .before .before .before .before .before .before .before .before) .pre in let d = a .l1d .now in let e = a .ext .now in let z = state (recordIn (a .tags .now)) d (a .l2 .now) e in
+    let p-start = c .before .before .before .before .before .before .before .before in
+    let a = p-start .args in let k = p-start .pre in let d = a .l1d .now in let e = a .ext .now in let z = state (recordIn (a .tags .now)) d (a .l2 .now) e in
     back-none z (a .t) (a .v) ((c .before .before .l2-line) .result) ((c .before .before .l2-line) .ensures) (not-true ((c .before .before .l2-line) .result .valid) ((c .if1) .taken))
 
 -- src/lib.rt:64:5
@@ -40,19 +41,27 @@ upper-half-requires c κs = search needs
 -- src/lib.rt:65:5
 take-half-requires-2 : tie.Need-take-half-requires-2
 take-half-requires-2 c κs =
-    let a = (c .before .before .before .before .before .before .before .before .before .before .before .before .before .before .before .before .before .before) .args in let k = (c .before .before .before .before .before .before .before .before .before .before .before .before .before .before .before .before .before .before) .pre in let d = a .l1d .now in let e = a .ext .now in let z = state (recordIn (a .tags .now)) d (a .l2 .now) e in
-    let h = (c .before .before .before .before .before .before .before .take-half) in let z₁ = state (recordIn (h .last .0)) d (h .last .1 .1 .1 .1 .1 .1 .1 .0) e in
-    let l₁ = lent-next (a .sram) (a .sets) (a .tags .now) (h .last .0) z₁ (takeHalf (a .t) (a .v) ((c .before .before .before .before .before .before .before .before .before .before .before .before .l2-line) .result .address) z) (k .1) (h .kept .0) (h .ensures e) refl (same-take-half (a .t) (a .v) ((c .before .before .before .before .before .before .before .before .before .before .before .before .l2-line) .result .address) z) in
+    let p-take-half = c .before .before .before .before .before .before .before in
+    let p-l2-line = p-take-half .before .before .before .before .before in
+    let p-start = p-l2-line .before .before .before .before .before .before in
+    let a = p-start .args in let k = p-start .pre in let d = a .l1d .now in let e = a .ext .now in let z = state (recordIn (a .tags .now)) d (a .l2 .now) e in
+    let h = (p-take-half .take-half) in let z₁ = state (recordIn (h .last .0)) d (h .last .1 .1 .1 .1 .1 .1 .1 .0) e in
+    let l₁ = lent-next (a .sram) (a .sets) (a .tags .now) (h .last .0) z₁ (takeHalf (a .t) (a .v) ((p-l2-line .l2-line) .result .address) z) (k .1) (h .kept .0) (h .ensures e) refl (same-take-half (a .t) (a .v) ((p-l2-line .l2-line) .result .address) z) in
     (k .0, l₁)
 
 -- src/lib.rt:66:5
 write-out-l2-requires : tie.Need-write-out-l2-requires
 write-out-l2-requires c κs =
-    let a = (c .before .before .before .before .before .before .before .before .before .before .before .before .before .before .before .before .before .before .before .before .before .before .before .before .before .before) .args in let k = (c .before .before .before .before .before .before .before .before .before .before .before .before .before .before .before .before .before .before .before .before .before .before .before .before .before .before) .pre in let d = a .l1d .now in let e = a .ext .now in let z = state (recordIn (a .tags .now)) d (a .l2 .now) e in
-    let h = (c .before .before .before .before .before .before .before .before .before .before .before .before .before .before .before .take-half) in let z₁ = state (recordIn (h .last .0)) d (h .last .1 .1 .1 .1 .1 .1 .1 .0) e in
-    let g = (c .before .before .before .before .before .before .before .take-half2) in let z₂ = state (recordIn (g .last .0)) d (g .last .1 .1 .1 .1 .1 .1 .1 .0) e in
-    let l₁ = lent-next (a .sram) (a .sets) (a .tags .now) (h .last .0) z₁ (takeHalf (a .t) (a .v) ((c .before .before .before .before .before .before .before .before .before .before .before .before .before .before .before .before .before .before .before .before .l2-line) .result .address) z) (k .1) (h .kept .0) (h .ensures e) refl (same-take-half (a .t) (a .v) ((c .before .before .before .before .before .before .before .before .before .before .before .before .before .before .before .before .before .before .before .before .l2-line) .result .address) z) in
-    let l₂ = lent-next (a .sram) (a .sets) (h .last .0) (g .last .0) z₂ (takeHalf (a .t) (a .v) ((c .before .before .before .before .before .before .before .before .before .upper-half) .result) z₁) l₁ (g .kept .0) (g .ensures e) refl (same-take-half (a .t) (a .v) ((c .before .before .before .before .before .before .before .before .before .upper-half) .result) z₁) in
+    let p-take-half2 = c .before .before .before .before .before .before .before in
+    let p-upper-half = p-take-half2 .before .before in
+    let p-take-half = p-upper-half .before .before .before .before .before .before in
+    let p-l2-line = p-take-half .before .before .before .before .before in
+    let p-start = p-l2-line .before .before .before .before .before .before in
+    let a = p-start .args in let k = p-start .pre in let d = a .l1d .now in let e = a .ext .now in let z = state (recordIn (a .tags .now)) d (a .l2 .now) e in
+    let h = (p-take-half .take-half) in let z₁ = state (recordIn (h .last .0)) d (h .last .1 .1 .1 .1 .1 .1 .1 .0) e in
+    let g = (p-take-half2 .take-half2) in let z₂ = state (recordIn (g .last .0)) d (g .last .1 .1 .1 .1 .1 .1 .1 .0) e in
+    let l₁ = lent-next (a .sram) (a .sets) (a .tags .now) (h .last .0) z₁ (takeHalf (a .t) (a .v) ((p-l2-line .l2-line) .result .address) z) (k .1) (h .kept .0) (h .ensures e) refl (same-take-half (a .t) (a .v) ((p-l2-line .l2-line) .result .address) z) in
+    let l₂ = lent-next (a .sram) (a .sets) (h .last .0) (g .last .0) z₂ (takeHalf (a .t) (a .v) ((p-upper-half .upper-half) .result) z₁) l₁ (g .kept .0) (g .ensures e) refl (same-take-half (a .t) (a .v) ((p-upper-half .upper-half) .result) z₁) in
     (k .0, l₂)
 
 -- src/lib.rt:54:1
@@ -70,11 +79,17 @@ same-length-4 c = search needs
 -- src/lib.rt:54:1
 returns-2 : tie.Need-returns-2
 returns-2 c =
-    let a = (c .before .before .before .before .before .before .before .before .before .before .before .before .before .before .before .before .before .before .before .before .before .before .before .before .before .before .before .before .before .before .before) .args in let k = (c .before .before .before .before .before .before .before .before .before .before .before .before .before .before .before .before .before .before .before .before .before .before .before .before .before .before .before .before .before .before .before) .pre in let d = a .l1d .now in let e = a .ext .now in let z = state (recordIn (a .tags .now)) d (a .l2 .now) e in
-    let h = (c .before .before .before .before .before .before .before .before .before .before .before .before .before .before .before .before .before .before .before .before .take-half) in let z₁ = state (recordIn (h .last .0)) d (h .last .1 .1 .1 .1 .1 .1 .1 .0) e in
-    let g = (c .before .before .before .before .before .before .before .before .before .before .before .before .take-half2) in let z₂ = state (recordIn (g .last .0)) d (g .last .1 .1 .1 .1 .1 .1 .1 .0) e in
-    let o = (c .before .before .before .before .write-out-l2) in
-    back-all z z₁ z₂ (state (recordIn (o .last .0)) d (z₂ .l2) (o .last .1 .1 .1 .1 .1 .1 .0)) (a .t) (a .v) ((c .before .before .before .before .before .before .before .before .before .before .before .before .before .before .upper-half) .result) ((c .before .before .before .before .before .before .before .before .before .before .before .before .before .before .before .before .before .before .before .before .before .before .before .before .before .l2-line) .result) ((c .before .before .before .before .before .before .before .before .before .before .before .before .before .before .before .before .before .before .before .before .before .before .before .before .before .l2-line) .ensures) (not-false ((c .before .before .before .before .before .before .before .before .before .before .before .before .before .before .before .before .before .before .before .before .before .before .before .before .before .l2-line) .result .valid) ((c .before .before .before .before .before .before .before .before .before .before .before .before .before .before .before .before .before .before .before .before .before .before .before .if1) .left)) ((c .before .before .before .before .before .before .before .before .before .before .before .before .before .before .upper-half) .ensures)
+    let p-write-out-l2 = c .before .before .before .before in
+    let p-take-half2 = p-write-out-l2 .before .before .before .before .before .before .before .before in
+    let p-upper-half = p-take-half2 .before .before in
+    let p-take-half = p-upper-half .before .before .before .before .before .before in
+    let p-if1 = p-take-half .before .before .before in let p-l2-line = p-if1 .before .before in
+    let p-start = p-l2-line .before .before .before .before .before .before in
+    let a = p-start .args in let k = p-start .pre in let d = a .l1d .now in let e = a .ext .now in let z = state (recordIn (a .tags .now)) d (a .l2 .now) e in
+    let h = (p-take-half .take-half) in let z₁ = state (recordIn (h .last .0)) d (h .last .1 .1 .1 .1 .1 .1 .1 .0) e in
+    let g = (p-take-half2 .take-half2) in let z₂ = state (recordIn (g .last .0)) d (g .last .1 .1 .1 .1 .1 .1 .1 .0) e in
+    let o = (p-write-out-l2 .write-out-l2) in
+    back-all z z₁ z₂ (state (recordIn (o .last .0)) d (z₂ .l2) (o .last .1 .1 .1 .1 .1 .1 .0)) (a .t) (a .v) ((p-upper-half .upper-half) .result) ((p-l2-line .l2-line) .result) ((p-l2-line .l2-line) .ensures) (not-false ((p-l2-line .l2-line) .result .valid) ((p-if1 .if1) .left)) ((p-upper-half .upper-half) .ensures)
     (h .ensures e) (g .ensures e) (o .ensures d)
 
 pub writeback-l2-spec : {M : Type 1} → statement M

@@ -1,4 +1,5 @@
--- `range_check::holds_range` meets its contract: L1D holds a line of the range, or what L2 holds decides. Assumes nothing.
+-- `range_check::holds_range` meets its contract: L1D holds a line of the range, or what L2 holds decides. Assumes
+-- nothing.
 use Rattle.mar_check.specs.Range.{range-first, range-second}
 use borrow.Author.Needs.{needs}
 use Rattle.mar_check.proofs.holds_range.Statement.{statement}

@@ -51,8 +51,9 @@ in-range-requires-2 c κs = search needs
 
 returns : tie.Need-returns
 returns c =
-    let a = c .before .before .before .before .before .before .before .args in
-    l1d-range-joined (a .tags .now) (a .n) (a .i) (c .before .before .before .in-range .result) (c .in-range2 .result) (c .before .before .before .in-range .ensures) (c .in-range2 .ensures)
+    let p-in-range = c .before .before .before in let p-start = p-in-range .before .before .before .before in
+    let a = p-start .args in
+    l1d-range-joined (a .tags .now) (a .n) (a .i) (p-in-range .in-range .result) (c .in-range2 .result) (p-in-range .in-range .ensures) (c .in-range2 .ensures)
 
 pub l1d-set-holds-spec : {M : Type 1} → statement M
 l1d-set-holds-spec =

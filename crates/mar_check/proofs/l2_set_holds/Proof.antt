@@ -93,9 +93,12 @@ in-range-requires-4 c κs = search needs
 
 returns : tie.Need-returns
 returns c =
-    let a = c .before .before .before .before .before .before .before .before .before .before .before .before .before .args in
-    l2-range-joined (a .tags .now) (a .n) (a .j) (c .before .before .before .before .before .before .before .before .before .in-range .result) (c .before .before .before .before .before .before .in-range2 .result) (c .before .before .before .in-range3 .result) (c .in-range4 .result)
-    (c .before .before .before .before .before .before .before .before .before .in-range .ensures) (c .before .before .before .before .before .before .in-range2 .ensures) (c .before .before .before .in-range3 .ensures) (c .in-range4 .ensures)
+    let p-in-range3 = c .before .before .before in let p-in-range2 = p-in-range3 .before .before .before in
+    let p-in-range = p-in-range2 .before .before .before in
+    let p-start = p-in-range .before .before .before .before in
+    let a = p-start .args in
+    l2-range-joined (a .tags .now) (a .n) (a .j) (p-in-range .in-range .result) (p-in-range2 .in-range2 .result) (p-in-range3 .in-range3 .result) (c .in-range4 .result)
+    (p-in-range .in-range .ensures) (p-in-range2 .in-range2 .ensures) (p-in-range3 .in-range3 .ensures) (c .in-range4 .ensures)
 
 pub l2-set-holds-spec : {M : Type 1} → statement M
 l2-set-holds-spec =

@@ -1,4 +1,5 @@
--- `range_check::mar_due` meets its contract: 9 by the operands, 10 where bit 0 meets a line that is held. Assumes nothing.
+-- `range_check::mar_due` meets its contract: 9 by the operands, 10 where bit 0 meets a line that is held. Assumes
+-- nothing.
 use Rattle.tags.specs.Words.{recordIn}
 use Rattle.mar_check.specs.Range.{mar-nine, mar-set, mar-ten, mar-none}
 use borrow.Author.Needs.{needs}
@@ -19,14 +20,18 @@ holds-range-requires c κs = search needs
 
 returns-3 : tie.Need-returns-3
 returns-3 c =
-    let a = c .before .before .before .before .before .before .args in
-    mar-ten (recordIn (a .tags .now)) (a .n) (a .bit) (c .before .before .before .before .operands-due .result) (c .before .before .before .before .operands-due .ensures) (c .before .before .before .if1 .left) (c .before .before .if2 .left)
+    let p-if1 = c .before .before .before in let p-operands-due = p-if1 .before in
+    let p-start = p-operands-due .before .before in
+    let a = p-start .args in
+    mar-ten (recordIn (a .tags .now)) (a .n) (a .bit) (p-operands-due .operands-due .result) (p-operands-due .operands-due .ensures) (p-if1 .if1 .left) (c .before .before .if2 .left)
     (c .before .holds-range .result) (c .before .holds-range .ensures) (c .if3 .taken)
 
 returns-4 : tie.Need-returns-4
 returns-4 c =
-    let a = c .before .before .before .before .before .before .args in
-    mar-none (recordIn (a .tags .now)) (a .n) (a .bit) (c .before .before .before .before .operands-due .result) (c .before .before .before .before .operands-due .ensures) (c .before .before .before .if1 .left) (c .before .before .if2 .left)
+    let p-if1 = c .before .before .before in let p-operands-due = p-if1 .before in
+    let p-start = p-operands-due .before .before in
+    let a = p-start .args in
+    mar-none (recordIn (a .tags .now)) (a .n) (a .bit) (p-operands-due .operands-due .result) (p-operands-due .operands-due .ensures) (p-if1 .if1 .left) (c .before .before .if2 .left)
     (c .before .holds-range .result) (c .before .holds-range .ensures) (c .if3 .left)
 
 pub mar-due-spec : {M : Type 1} → statement M

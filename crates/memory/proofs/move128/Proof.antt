@@ -1,4 +1,5 @@
--- `memory::move128` meets its contract: a line that lies in both memories is moved as its two halves (specs/Values `moved-both`), any other is not.
+-- `memory::move128` meets its contract: a line that lies in both memories is moved as its two halves (specs/Values
+-- `moved-both`), any other is not.
 use Prim.Native.Nat.{ℕ, _+_}
 use Rattle.model.specs.Bytes.{part, stored}
 use Rattle.memory.specs.Copied.{Inside, both-inside, move-short, move-full}

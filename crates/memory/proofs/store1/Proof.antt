@@ -1,4 +1,5 @@
--- `memory::store1` meets its contract: each return is a case of the definition, by the tests on its way and what its callees ensure.
+-- `memory::store1` meets its contract: each return is a case of the definition, by the tests on its way and what its
+-- callees ensure.
 use Rattle.memory.specs.Values.{store-one}
 use borrow.Author.Needs.{needs}
 use Rattle.memory.proofs.store1.Statement.{statement}

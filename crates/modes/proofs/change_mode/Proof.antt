@@ -1,4 +1,5 @@
--- `modes::change_mode` meets its contract: the calls in turn are the parts of `changeMode` (`changed-mode`); S and the number of sets stay while lines go out.
+-- `modes::change_mode` meets its contract: the calls in turn are the parts of `changeMode` (`changed-mode`); S and
+-- the number of sets stay while lines go out.
 use Prim.Native.Nat.{ℕ, _-_, _/_, _%_}
 use mathlib.Core.Path.{refl, ap, _∙_}
 use native.Mathlib.Omega.{arith}

@@ -16,7 +16,8 @@ Inv-loop trace at full top first left value₀ weight₀ i₀ value weight i = R
 abbrev μ-loop : tie.MeasureT-loop
 μ-loop trace at full top first left value₀ weight₀ i₀ value weight i = full - i
 
--- ---- the way back from the loop; the numbers that are read lie below the limit; where the group of a turn stands, and what it is
+-- ---- the way back from the loop; the numbers that are read lie below the limit; where the group of a turn stands,
+-- and what it is
 abbrev at-start : tie.At-loop Inv-loop μ-loop → tie.Start Inv-loop μ-loop
 at-start c = c .before .before .before .before
 
@@ -29,7 +30,8 @@ place c = at-start c .args .at + c .loop .i
 abbrev group : tie.At-loop Inv-loop μ-loop → ℕ
 group c = getD (at-start c .args .trace .now) (place c) 0
 
--- ---- the sums fit into 64 bits: those of a turn, with a group b of seven bits, and those of the last group, b below top
+-- ---- the sums fit into 64 bits: those of a turn, with a group b of seven bits, and those of the last group, b below
+-- top
 room : (c : tie.At-loop Inv-loop μ-loop) → 2 * 128 ^ at-start c .args .full ≤ limit (at-start c)
 room c =
     let start = at-start c in

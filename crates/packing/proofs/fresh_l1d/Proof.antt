@@ -1,4 +1,5 @@
--- `packing::fresh_l1d` meets its contract: the words stand for the record with the sets passed so far empty. Assumes nothing.
+-- `packing::fresh_l1d` meets its contract: the words stand for the record with the sets passed so far empty. Assumes
+-- nothing.
 use Rattle.model.specs.Records.{noL1dSet, freshL1dSet}
 use Rattle.tags.specs.Words.{recordIn}
 use Rattle.packing.specs.Packed.{withL1d, front, l1d-long, l1d-first, l1d-next, l1d-last}
@@ -30,13 +31,15 @@ loop-less c = search needs
 
 loop-again : tie.Need-loop-again Inv-loop μ-loop
 loop-again c =
-    let a = c .before .before .before .before .before .before .before .args in let r = recordIn (a .tags .now) in let t = c .before .before .before .before .loop-test .taken in
+    let p-loop-test = c .before .before .before .before in let p-loop = p-loop-test .before in
+    let p-start = p-loop .before .before in
+    let a = p-start .args in let r = recordIn (a .tags .now) in let t = p-loop-test .loop-test .taken in
     let n = length-replicate 128 freshL1dSet in let m = l1d-long (a .tags .now) in (
       omega arith,
       (
-        c .before .before .put-l1d-set .kept .0 ∙ c .before .before .before .before .before .loop .inv .1 .0,
-        l1d-next r (replicate 128 freshL1dSet) (c .before .before .before .before .before .loop .i) (recordIn (c .before .before .before .before .before .loop .tags)) (recordIn (c .before .before .put-l1d-set .last .0)) freshL1dSet (c .before .before .before .before .before .loop .inv .1 .1) (c .before .before .put-l1d-set .ensures)
-            (sym (getD-replicate 128 (c .before .before .before .before .before .loop .i) freshL1dSet noL1dSet t)) (omega arith) (omega arith),
+        c .before .before .put-l1d-set .kept .0 ∙ p-loop .loop .inv .1 .0,
+        l1d-next r (replicate 128 freshL1dSet) (p-loop .loop .i) (recordIn (p-loop .loop .tags)) (recordIn (c .before .before .put-l1d-set .last .0)) freshL1dSet (p-loop .loop .inv .1 .1) (c .before .before .put-l1d-set .ensures)
+            (sym (getD-replicate 128 (p-loop .loop .i) freshL1dSet noL1dSet t)) (omega arith) (omega arith),
       ),
     )
 

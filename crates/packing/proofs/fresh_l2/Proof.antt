@@ -1,4 +1,5 @@
--- `packing::fresh_l2` meets its contract: the words stand for the record with the sets passed so far empty. Assumes nothing.
+-- `packing::fresh_l2` meets its contract: the words stand for the record with the sets passed so far empty. Assumes
+-- nothing.
 use Rattle.model.specs.Records.{noL2Set, freshL2Set}
 use Rattle.tags.specs.Words.{recordIn}
 use Rattle.packing.specs.Packed.{withL2, front, l2-long, l2-first, l2-next, l2-last}
@@ -30,13 +31,15 @@ loop-less c = search needs
 
 loop-again : tie.Need-loop-again Inv-loop μ-loop
 loop-again c =
-    let a = c .before .before .before .before .before .before .before .args in let r = recordIn (a .tags .now) in let t = c .before .before .before .before .loop-test .taken in
+    let p-loop-test = c .before .before .before .before in let p-loop = p-loop-test .before in
+    let p-start = p-loop .before .before in
+    let a = p-start .args in let r = recordIn (a .tags .now) in let t = p-loop-test .loop-test .taken in
     let n = length-replicate 512 freshL2Set in let m = l2-long (a .tags .now) in (
       omega arith,
       (
-        c .before .before .put-l2-set .kept .0 ∙ c .before .before .before .before .before .loop .inv .1 .0,
-        l2-next r (replicate 512 freshL2Set) (c .before .before .before .before .before .loop .j) (recordIn (c .before .before .before .before .before .loop .tags)) (recordIn (c .before .before .put-l2-set .last .0)) freshL2Set (c .before .before .before .before .before .loop .inv .1 .1) (c .before .before .put-l2-set .ensures)
-            (sym (getD-replicate 512 (c .before .before .before .before .before .loop .j) freshL2Set noL2Set t)) (omega arith) (omega arith),
+        c .before .before .put-l2-set .kept .0 ∙ p-loop .loop .inv .1 .0,
+        l2-next r (replicate 512 freshL2Set) (p-loop .loop .j) (recordIn (p-loop .loop .tags)) (recordIn (c .before .before .put-l2-set .last .0)) freshL2Set (p-loop .loop .inv .1 .1) (c .before .before .put-l2-set .ensures)
+            (sym (getD-replicate 512 (p-loop .loop .j) freshL2Set noL2Set t)) (omega arith) (omega arith),
       ),
     )
 

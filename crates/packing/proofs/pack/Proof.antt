@@ -22,10 +22,14 @@ same-length c = search needs
 
 returns : tie.Need-returns
 returns c =
-    let a = (c .before .before .before .before .before .before .before .before .before .before .before .before .before .before .before .before .before .before .before) .args in
-    packed (recordIn (a .tags .now)) (a .r) (recordIn ((c .before .before .before .before .before .before .before .before .before .before .before .before .before .before .put-sizes) .last .0)) (recordIn ((c .before .before .before .before .before .before .before .before .before .before .put-modes) .last .0))
-    (recordIn ((c .before .before .before .before .before .before .put-l1d) .last .0)) (recordIn ((c .before .before .put-l2) .last .0))
-    ((c .before .before .before .before .before .before .before .before .before .before .before .before .before .before .put-sizes) .ensures) ((c .before .before .before .before .before .before .before .before .before .before .put-modes) .ensures) ((c .before .before .before .before .before .before .put-l1d) .ensures) ((c .before .before .put-l2) .ensures)
+    let p-put-l1d = c .before .before .before .before .before .before in
+    let p-put-modes = p-put-l1d .before .before .before .before in
+    let p-put-sizes = p-put-modes .before .before .before .before in
+    let p-start = p-put-sizes .before .before .before .before .before in
+    let a = p-start .args in
+    packed (recordIn (a .tags .now)) (a .r) (recordIn ((p-put-sizes .put-sizes) .last .0)) (recordIn ((p-put-modes .put-modes) .last .0))
+    (recordIn ((p-put-l1d .put-l1d) .last .0)) (recordIn ((c .before .before .put-l2) .last .0))
+    ((p-put-sizes .put-sizes) .ensures) ((p-put-modes .put-modes) .ensures) ((p-put-l1d .put-l1d) .ensures) ((c .before .before .put-l2) .ensures)
 
 pub pack-spec : {M : Type 1} → statement M
 pack-spec =

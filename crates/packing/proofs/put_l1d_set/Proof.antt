@@ -19,19 +19,31 @@ element-copy-out-l1d-put-2 : tie.Need-element-copy-out-l1d-put-2
 element-copy-out-l1d-put-2 c = search needs
 
 l1d-put-requires-2 : tie.Need-l1d-put-requires-2
-l1d-put-requires-2 c κs = let e = c .before .before .before .before .l1d-put .kept .0 in let p = c .before .before .before .before .before .before .before .before .pre in ((p .0, omega arith), e ∙ p .1)
+l1d-put-requires-2 c κs =
+    let p-l1d-put = c .before .before .before .before in let p-start = p-l1d-put .before .before .before .before in
+    let e = p-l1d-put .l1d-put .kept .0 in let p = p-start .pre in ((p .0, omega arith), e ∙ p .1)
 
 put-l1d-order-requires : tie.Need-put-l1d-order-requires
-put-l1d-order-requires c κs = let e = c .before .before .before .before .before .before .before .before .before .l1d-put .kept .0 in let f = c .before .before .before .before .l1d-put2 .kept .0 in let p = c .before .before .before .before .before .before .before .before .before .before .before .before .before .pre in (p .0, f ∙ e ∙ p .1)
+put-l1d-order-requires c κs =
+    let p-l1d-put2 = c .before .before .before .before in
+    let p-l1d-put = p-l1d-put2 .before .before .before .before .before in
+    let p-start = p-l1d-put .before .before .before .before in
+    let e = p-l1d-put .l1d-put .kept .0 in let f = p-l1d-put2 .l1d-put2 .kept .0 in let p = p-start .pre in (p .0, f ∙ e ∙ p .1)
 
 same-length : tie.Need-same-length
-same-length c = c .before .before .put-l1d-order .kept .0 ∙ c .before .before .before .before .before .before .before .l1d-put2 .kept .0 ∙ c .before .before .before .before .before .before .before .before .before .before .before .before .l1d-put .kept .0
+same-length c =
+    let p-l1d-put2 = c .before .before .before .before .before .before .before in
+    let p-l1d-put = p-l1d-put2 .before .before .before .before .before in
+    c .before .before .put-l1d-order .kept .0 ∙ p-l1d-put2 .l1d-put2 .kept .0 ∙ p-l1d-put .l1d-put .kept .0
 
 returns : tie.Need-returns
 returns c =
-    let a = c .before .before .before .before .before .before .before .before .before .before .before .before .before .before .before .before .args in let n : length (a .t3 .lines) ≡ 2 = search unmapped in
-    l1d-set-put (a .tags .now) (a .i) (a .t3) (recordIn (c .before .before .before .before .before .before .before .before .before .before .before .before .l1d-put .last .0)) (recordIn (c .before .before .before .before .before .before .before .l1d-put2 .last .0)) (recordIn (c .before .before .put-l1d-order .last .0)) (c .before .before .before .before .before .before .before .before .before .before .before .before .before .before .before .before .pre .0) n
-    (c .before .before .before .before .before .before .before .before .before .before .before .before .l1d-put .ensures) (c .before .before .before .before .before .before .before .l1d-put2 .ensures) (c .before .before .put-l1d-order .ensures)
+    let p-l1d-put2 = c .before .before .before .before .before .before .before in
+    let p-l1d-put = p-l1d-put2 .before .before .before .before .before in
+    let p-start = p-l1d-put .before .before .before .before in
+    let a = p-start .args in let n : length (a .t3 .lines) ≡ 2 = search unmapped in
+    l1d-set-put (a .tags .now) (a .i) (a .t3) (recordIn (p-l1d-put .l1d-put .last .0)) (recordIn (p-l1d-put2 .l1d-put2 .last .0)) (recordIn (c .before .before .put-l1d-order .last .0)) (p-start .pre .0) n
+    (p-l1d-put .l1d-put .ensures) (p-l1d-put2 .l1d-put2 .ensures) (c .before .before .put-l1d-order .ensures)
 
 pub put-l1d-set-spec : {M : Type 1} → statement M
 put-l1d-set-spec =

@@ -31,8 +31,9 @@ same-length c = search needs
 
 returns : tie.Need-returns
 returns c =
-    let a = c .before .before .before .args in
-    modes-put (a .tags .now) (a .mode) (a .mar128) (a .mar129) (c .before .bit .result) (c .bit2 .result) (c .before .before .before .pre) (omega arith) (c .before .bit .ensures .0) (c .bit2 .ensures .0)
+    let p-start = c .before .before .before in
+    let a = p-start .args in
+    modes-put (a .tags .now) (a .mode) (a .mar128) (a .mar129) (c .before .bit .result) (c .bit2 .result) (p-start .pre) (omega arith) (c .before .bit .ensures .0) (c .bit2 .ensures .0)
 
 pub put-modes-spec : {M : Type 1} → statement M
 put-modes-spec =

@@ -19,9 +19,12 @@ same-length c = search needs
 
 returns : tie.Need-returns
 returns c =
-    let a = (c .before .before .before .before .before .before .before .before .before .before .before .before .before) .args in
-    made-new (recordIn (a .tags .now)) (recordIn ((c .before .before .before .before .before .before .before .before .before .before .put-modes) .last .0)) (recordIn ((c .before .before .before .before .before .before .fresh-l1d) .last .0)) (recordIn ((c .before .before .fresh-l2) .last .0))
-    (a .mode) (a .mar128) (a .mar129) ((c .before .before .before .before .before .before .before .before .before .before .put-modes) .ensures) ((c .before .before .before .before .before .before .fresh-l1d) .ensures) ((c .before .before .fresh-l2) .ensures)
+    let p-fresh-l1d = c .before .before .before .before .before .before in
+    let p-put-modes = p-fresh-l1d .before .before .before .before in
+    let p-start = p-put-modes .before .before .before in
+    let a = p-start .args in
+    made-new (recordIn (a .tags .now)) (recordIn ((p-put-modes .put-modes) .last .0)) (recordIn ((p-fresh-l1d .fresh-l1d) .last .0)) (recordIn ((c .before .before .fresh-l2) .last .0))
+    (a .mode) (a .mar128) (a .mar129) ((p-put-modes .put-modes) .ensures) ((p-fresh-l1d .fresh-l1d) .ensures) ((c .before .before .fresh-l2) .ensures)
 
 pub renew-spec : {M : Type 1} → statement M
 renew-spec =

@@ -16,9 +16,11 @@ same-length c = search needs
 
 returns : tie.Need-returns
 returns c =
-    let a = (c .before .before .before .before .before .before .before .before .before) .args in
-    fresh-packed (recordIn (a .tags .now)) (recordIn ((c .before .before .before .before .before .before .put-sizes) .last .0)) (recordIn ((c .before .before .renew) .last .0)) (a .l2len) (a .extlen)
-    ((c .before .before .before .before .before .before .put-sizes) .ensures) ((c .before .before .renew) .ensures)
+    let p-put-sizes = c .before .before .before .before .before .before in
+    let p-start = p-put-sizes .before .before .before in
+    let a = p-start .args in
+    fresh-packed (recordIn (a .tags .now)) (recordIn ((p-put-sizes .put-sizes) .last .0)) (recordIn ((c .before .before .renew) .last .0)) (a .l2len) (a .extlen)
+    ((p-put-sizes .put-sizes) .ensures) ((c .before .before .renew) .ensures)
 
 pub write-fresh-spec : {M : Type 1} → statement M
 write-fresh-spec = tie.close (tie.spec put-sizes-requires renew-requires same-length returns)

@@ -1,4 +1,5 @@
--- `record_check::l1d_way` meets its contract: each way through is one law of specs/Marks over plain numbers. Assumes nothing.
+-- `record_check::l1d_way` meets its contract: each way through is one law of specs/Marks over plain numbers. Assumes
+-- nothing.
 use Rattle.model.specs.Basics.{anyOf}
 use Rattle.model.specs.Lines.{holds}
 use Rattle.model.specs.Records.{l2SetAt}
@@ -22,17 +23,19 @@ mul-if2 c = search needs
 
 returns-2 : tie.Need-returns-2
 returns-2 c =
-    let a = c .before .before .before .before .args in
-    l1d-way-off (recordIn (a .tags .now)) (a .i) (a .f) (a .a) (c .before .before .before .before .pre .0 .0) (c .before .before .if1 .left) (c .before .live .result) (c .before .live .ensures) (c .if2 .left)
+    let p-start = c .before .before .before .before in
+    let a = p-start .args in
+    l1d-way-off (recordIn (a .tags .now)) (a .i) (a .f) (a .a) (p-start .pre .0 .0) (c .before .before .if1 .left) (c .before .live .result) (c .before .live .ensures) (c .if2 .left)
 
 add-result : tie.Need-add-result
 add-result c = search needs
 
 returns-3 : tie.Need-returns-3
 returns-3 c =
-    let a = c .before .before .before .before .before .args in
-    l1d-way-sram (recordIn (a .tags .now)) (a .i) (a .f) (a .a) (c .before .before .before .before .before .pre .0 .0) (c .before .before .before .if1 .left) (c .before .before .live .result) (c .before .before .live .ensures) (c .before .if2 .taken)
-    (a .sram) (c .before .before .before .before .before .pre .1 .0) (c .if3 .taken)
+    let p-if1 = c .before .before .before in let p-start = p-if1 .before .before in
+    let a = p-start .args in
+    l1d-way-sram (recordIn (a .tags .now)) (a .i) (a .f) (a .a) (p-start .pre .0 .0) (p-if1 .if1 .left) (c .before .before .live .result) (c .before .before .live .ensures) (c .before .if2 .taken)
+    (a .sram) (p-start .pre .1 .0) (c .if3 .taken)
 
 shared-slice-read-external-ok : tie.Need-shared-slice-read-external-ok
 shared-slice-read-external-ok c = search needs
@@ -45,15 +48,19 @@ external-ok-requires c κs = search needs
 
 returns-4 : tie.Need-returns-4
 returns-4 c =
-    let a = c .before .before .before .before .before .before .before .before .before .args in
-    l1d-way-outside (recordIn (a .tags .now)) (a .i) (a .f) (a .a) (c .before .before .before .before .before .before .before .before .before .pre .0 .0) (c .before .before .before .before .before .before .before .if1 .left) (c .before .before .before .before .before .before .live .result) (c .before .before .before .before .before .before .live .ensures) (c .before .before .before .before .before .if2 .taken)
-    (c .before .before .before .before .if3 .left) (c .before .external-ok .result) (c .before .external-ok .ensures ∙ external-is (a .tags .now) 64 (a .a) (c .before .before .before .before .if3 .left)) (c .if4 .left)
+    let p-if3 = c .before .before .before .before in let p-if2 = p-if3 .before in let p-live = p-if2 .before in
+    let p-if1 = p-live .before in let p-start = p-if1 .before .before in
+    let a = p-start .args in
+    l1d-way-outside (recordIn (a .tags .now)) (a .i) (a .f) (a .a) (p-start .pre .0 .0) (p-if1 .if1 .left) (p-live .live .result) (p-live .live .ensures) (p-if2 .if2 .taken)
+    (p-if3 .if3 .left) (c .before .external-ok .result) (c .before .external-ok .ensures ∙ external-is (a .tags .now) 64 (a .a) (p-if3 .if3 .left)) (c .if4 .left)
 
 returns-5 : tie.Need-returns-5
 returns-5 c =
-    let a = c .before .before .before .before .before .before .before .before .before .before .args in
-    l1d-way-alone (recordIn (a .tags .now)) (a .i) (a .f) (a .a) (c .before .before .before .before .before .before .before .before .before .before .pre .0 .0) (c .before .before .before .before .before .before .before .before .if1 .left) (c .before .before .before .before .before .before .before .live .result) (c .before .before .before .before .before .before .before .live .ensures) (c .before .before .before .before .before .before .if2 .taken)
-    (c .before .before .before .before .before .if3 .left) (c .before .before .external-ok .result) (c .before .before .external-ok .ensures ∙ external-is (a .tags .now) 64 (a .a) (c .before .before .before .before .before .if3 .left)) (c .before .if4 .taken) (a .sets) (c .before .before .before .before .before .before .before .before .before .before .pre .1 .1) (c .if5 .taken)
+    let p-if3 = c .before .before .before .before .before in let p-if2 = p-if3 .before in
+    let p-live = p-if2 .before in let p-if1 = p-live .before in let p-start = p-if1 .before .before in
+    let a = p-start .args in
+    l1d-way-alone (recordIn (a .tags .now)) (a .i) (a .f) (a .a) (p-start .pre .0 .0) (p-if1 .if1 .left) (p-live .live .result) (p-live .live .ensures) (p-if2 .if2 .taken)
+    (p-if3 .if3 .left) (c .before .before .external-ok .result) (c .before .before .external-ok .ensures ∙ external-is (a .tags .now) 64 (a .a) (p-if3 .if3 .left)) (c .before .if4 .taken) (a .sets) (p-start .pre .1 .1) (c .if5 .taken)
 
 wide-requires : tie.Need-wide-requires
 wide-requires c κs = search needs
@@ -69,18 +76,24 @@ line-of-requires c κs = search needs
 
 covers-requires : tie.Need-covers-requires
 covers-requires c κs =
-    let a = c .before .before .before .before .before .before .before .before .before .before .before .before .before .args in (
-      index-few (recordIn (a .tags .now)) (a .a) (a .sets) (c .before .low .result) (c .before .before .before .before .before .before .before .before .before .before .before .before .before .pre .1 .1) (c .before .before .before .if5 .left)
+    let p-if5 = c .before .before .before in
+    let p-start = p-if5 .before .before .before .before .before .before .before .before .before .before in
+    let a = p-start .args in (
+      index-few (recordIn (a .tags .now)) (a .a) (a .sets) (c .before .low .result) (p-start .pre .1 .1) (p-if5 .if5 .left)
           (c .before .low .ensures ∙ ap (λ (n : ℕ). lowBits (n / 128) (a .sets - 1)) (c .before .before .wide .ensures)),
-      c .before .before .before .before .before .before .before .before .before .before .before .before .before .pre .0 .1,
+      p-start .pre .0 .1,
     )
 
 returns-6 : tie.Need-returns-6
 returns-6 c =
-    let a = c .before .before .before .before .before .before .before .before .before .before .before .before .before .before .args in
-    l1d-way-covered (recordIn (a .tags .now)) (a .i) (a .f) (a .a) (c .before .before .before .before .before .before .before .before .before .before .before .before .before .before .pre .0 .0) (c .before .before .before .before .before .before .before .before .before .before .before .before .if1 .left) (c .before .before .before .before .before .before .before .before .before .before .before .live .result) (c .before .before .before .before .before .before .before .before .before .before .before .live .ensures) (c .before .before .before .before .before .before .before .before .before .before .if2 .taken)
-    (c .before .before .before .before .before .before .before .before .before .if3 .left) (c .before .before .before .before .before .before .external-ok .result) (c .before .before .before .before .before .before .external-ok .ensures ∙ external-is (a .tags .now) 64 (a .a) (c .before .before .before .before .before .before .before .before .before .if3 .left)) (c .before .before .before .before .before .if4 .taken) (a .sets) (c .before .before .before .before .before .before .before .before .before .before .before .before .before .before .pre .1 .1) (c .before .before .before .before .if5 .left)
-    (c .before .before .low .result) (c .before .before .low .ensures ∙ ap (λ (n : ℕ). lowBits (n / 128) (a .sets - 1)) (c .before .before .before .wide .ensures)) (c .covers .result) (c .covers .ensures ∙ ap (λ (b : ℕ). anyOf (λ y. holds y b) (l2SetAt (recordIn (a .tags .now)) (c .before .before .low .result) .lines)) (c .before .line-of .ensures))
+    let p-wide = c .before .before .before in let p-if5 = p-wide .before in let p-if4 = p-if5 .before in
+    let p-external-ok = p-if4 .before in let p-if3 = p-external-ok .before .before .before in
+    let p-if2 = p-if3 .before in let p-live = p-if2 .before in let p-if1 = p-live .before in
+    let p-start = p-if1 .before .before in
+    let a = p-start .args in
+    l1d-way-covered (recordIn (a .tags .now)) (a .i) (a .f) (a .a) (p-start .pre .0 .0) (p-if1 .if1 .left) (p-live .live .result) (p-live .live .ensures) (p-if2 .if2 .taken)
+    (p-if3 .if3 .left) (p-external-ok .external-ok .result) (p-external-ok .external-ok .ensures ∙ external-is (a .tags .now) 64 (a .a) (p-if3 .if3 .left)) (p-if4 .if4 .taken) (a .sets) (p-start .pre .1 .1) (p-if5 .if5 .left)
+    (c .before .before .low .result) (c .before .before .low .ensures ∙ ap (λ (n : ℕ). lowBits (n / 128) (a .sets - 1)) (p-wide .wide .ensures)) (c .covers .result) (c .covers .ensures ∙ ap (λ (b : ℕ). anyOf (λ y. holds y b) (l2SetAt (recordIn (a .tags .now)) (c .before .before .low .result) .lines)) (c .before .line-of .ensures))
 
 pub l1d-way-spec : {M : Type 1} → statement M
 l1d-way-spec =

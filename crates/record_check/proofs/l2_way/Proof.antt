@@ -40,9 +40,11 @@ live-requires c κs = search needs
 
 returns-2 : tie.Need-returns-2
 returns-2 c =
-    let a = c .before .before .before .before .before .before .before .before .args in
-    l2-way-live (recordIn (a .tags .now)) (a .j) (a .f) (a .a) (c .before .before .before .before .before .before .if1 .left) (c .live .result) (c .before .external-ok .result) (a .sets) (c .before .before .before .before .low .result)
-    (c .live .ensures) (λ h. c .before .external-ok .ensures ∙ external-is (a .tags .now) 128 (a .a) h) (c .before .before .before .before .before .before .before .before .pre .1 .0) (c .before .before .before .before .before .before .before .before .pre .1 .1) (c .before .before .before .before .low .ensures ∙ ap (λ (n : ℕ). lowBits n (a .sets * 128 - 1)) (c .before .before .before .before .before .wide .ensures))
+    let p-low = c .before .before .before .before in let p-wide = p-low .before in let p-if1 = p-wide .before in
+    let p-start = p-if1 .before .before in
+    let a = p-start .args in
+    l2-way-live (recordIn (a .tags .now)) (a .j) (a .f) (a .a) (p-if1 .if1 .left) (c .live .result) (c .before .external-ok .result) (a .sets) (p-low .low .result)
+    (c .live .ensures) (λ h. c .before .external-ok .ensures ∙ external-is (a .tags .now) 128 (a .a) h) (p-start .pre .1 .0) (p-start .pre .1 .1) (p-low .low .ensures ∙ ap (λ (n : ℕ). lowBits n (a .sets * 128 - 1)) (p-wide .wide .ensures))
 
 pub l2-way-spec : {M : Type 1} → statement M
 l2-way-spec =

@@ -1,4 +1,5 @@
--- `refusals::access_due` meets its contract: the tests in the order of their numbers. Assumes nothing. Each return is a law of specs/Due over what the tests before it said.
+-- `refusals::access_due` meets its contract: the tests in the order of their numbers. Assumes nothing. Each return is
+-- a law of specs/Due over what the tests before it said.
 use Rattle.refusals.specs.Due.{aligned, Asked, dueOf, access-three, access-four, access-five, access-last}
 use Rattle.model.specs.Refusals.{unless, sizeOk}
 use mathlib.Core.Bool.{true}

@@ -1,4 +1,5 @@
--- `run::end_of` meets its contract: each return is a case of the definition, by the tests on its way and what its callees ensure.
+-- `run::end_of` meets its contract: each return is a case of the definition, by the tests on its way and what its
+-- callees ensure.
 use Rattle.run.specs.Executed.{endOf}
 use mathlib.Core.Path.{refl}
 use Rattle.run.proofs.end_of.Statement.{statement}

@@ -1,4 +1,5 @@
--- `run::run` meets its contract: what is left to do gives the whole. Each command is one step of the model, by what its function ensures.
+-- `run::run` meets its contract: what is left to do gives the whole. Each command is one step of the model, by what
+-- its function ensures.
 use Rattle.run.specs.Executed.{sourceOf, endOf, noAnswer, answerOf, Executed, executes, turn, stopped, at-end, Going, goes-on, told-one, told-all, Firm, firm-next, firm-stops, firm-ends}
 use Rattle.tags.specs.Words.{recordWords, recordIn}
 use Rattle.access.specs.declared.Answer.{Answer}

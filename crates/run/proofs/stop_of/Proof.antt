@@ -1,4 +1,5 @@
--- `run::stop_of` meets its contract: each return is a case of the definition, by the tests on its way and what its callees ensure.
+-- `run::stop_of` meets its contract: each return is a case of the definition, by the tests on its way and what its
+-- callees ensure.
 use Rattle.run.specs.Executed.{stopOf}
 use borrow.Author.Tests.{not-true, not-false, le-leb, lt-leb}
 use native.Mathlib.Omega.{arith}

@@ -35,12 +35,18 @@ line-holds-requires-2 c κs = search needs
 -- src/lib.rt:86:9
 returns-2 : tie.Need-returns-2
 unfolding l1dFind wayHolding
-returns-2 c = (rw ((ap (λ (x : Line). holds x (c .before .before .before .before .before .before .before .args .b)) (sym (c .before .before .before .before .before .l1d-line .ensures)) ∙ sym (c .before .before .before .before .line-holds .ensures) ∙ c .before .before .before .if1 .left), (ap (λ (x : Line). holds x (c .before .before .before .before .before .before .before .args .b)) (sym (c .before .before .l1d-line2 .ensures)) ∙ sym (c .before .line-holds2 .ensures) ∙ c .if2 .taken)) refl, omega arith)
+returns-2 c =
+    let p-if1 = c .before .before .before in let p-line-holds = p-if1 .before in
+    let p-l1d-line = p-line-holds .before in let p-start = p-l1d-line .before .before in
+    (rw ((ap (λ (x : Line). holds x (p-start .args .b)) (sym (p-l1d-line .l1d-line .ensures)) ∙ sym (p-line-holds .line-holds .ensures) ∙ p-if1 .if1 .left), (ap (λ (x : Line). holds x (p-start .args .b)) (sym (c .before .before .l1d-line2 .ensures)) ∙ sym (c .before .line-holds2 .ensures) ∙ c .if2 .taken)) refl, omega arith)
 
 -- src/lib.rt:78:1
 returns-3 : tie.Need-returns-3
 unfolding l1dFind wayHolding
-returns-3 c = (rw ((ap (λ (x : Line). holds x (c .before .before .before .before .before .before .before .args .b)) (sym (c .before .before .before .before .before .l1d-line .ensures)) ∙ sym (c .before .before .before .before .line-holds .ensures) ∙ c .before .before .before .if1 .left), (ap (λ (x : Line). holds x (c .before .before .before .before .before .before .before .args .b)) (sym (c .before .before .l1d-line2 .ensures)) ∙ sym (c .before .line-holds2 .ensures) ∙ c .if2 .left)) refl, omega arith)
+returns-3 c =
+    let p-if1 = c .before .before .before in let p-line-holds = p-if1 .before in
+    let p-l1d-line = p-line-holds .before in let p-start = p-l1d-line .before .before in
+    (rw ((ap (λ (x : Line). holds x (p-start .args .b)) (sym (p-l1d-line .l1d-line .ensures)) ∙ sym (p-line-holds .line-holds .ensures) ∙ p-if1 .if1 .left), (ap (λ (x : Line). holds x (p-start .args .b)) (sym (c .before .before .l1d-line2 .ensures)) ∙ sym (c .before .line-holds2 .ensures) ∙ c .if2 .left)) refl, omega arith)
 
 pub l1d-find-spec : {M : Type 1} → statement M
 l1d-find-spec =

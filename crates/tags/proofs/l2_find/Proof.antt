@@ -35,7 +35,10 @@ line-holds-requires-2 c κs = search needs
 -- src/lib.rt:99:9
 returns-2 : tie.Need-returns-2
 unfolding l2Find wayHolding
-returns-2 c = (rw ((ap (λ (x : Line). holds x (c .before .before .before .before .before .before .before .args .b)) (sym (c .before .before .before .before .before .l2-line .ensures)) ∙ sym (c .before .before .before .before .line-holds .ensures) ∙ c .before .before .before .if1 .left), (ap (λ (x : Line). holds x (c .before .before .before .before .before .before .before .args .b)) (sym (c .before .before .l2-line2 .ensures)) ∙ sym (c .before .line-holds2 .ensures) ∙ c .if2 .taken)) refl, omega arith)
+returns-2 c =
+    let p-if1 = c .before .before .before in let p-line-holds = p-if1 .before in
+    let p-l2-line = p-line-holds .before in let p-start = p-l2-line .before .before in
+    (rw ((ap (λ (x : Line). holds x (p-start .args .b)) (sym (p-l2-line .l2-line .ensures)) ∙ sym (p-line-holds .line-holds .ensures) ∙ p-if1 .if1 .left), (ap (λ (x : Line). holds x (p-start .args .b)) (sym (c .before .before .l2-line2 .ensures)) ∙ sym (c .before .line-holds2 .ensures) ∙ c .if2 .taken)) refl, omega arith)
 
 -- src/lib.rt:101:19
 l2-line-requires-3 : tie.Need-l2-line-requires-3
@@ -48,7 +51,11 @@ line-holds-requires-3 c κs = search needs
 -- src/lib.rt:102:9
 returns-3 : tie.Need-returns-3
 unfolding l2Find wayHolding
-returns-3 c = (rw ((ap (λ (x : Line). holds x (c .before .before .before .before .before .before .before .before .before .before .args .b)) (sym (c .before .before .before .before .before .before .before .before .l2-line .ensures)) ∙ sym (c .before .before .before .before .before .before .before .line-holds .ensures) ∙ c .before .before .before .before .before .before .if1 .left), (ap (λ (x : Line). holds x (c .before .before .before .before .before .before .before .before .before .before .args .b)) (sym (c .before .before .before .before .before .l2-line2 .ensures)) ∙ sym (c .before .before .before .before .line-holds2 .ensures) ∙ c .before .before .before .if2 .left), (ap (λ (x : Line). holds x (c .before .before .before .before .before .before .before .before .before .before .args .b)) (sym (c .before .before .l2-line3 .ensures)) ∙ sym (c .before .line-holds3 .ensures) ∙ c .if3 .taken)) refl, omega arith)
+returns-3 c =
+    let p-if2 = c .before .before .before in let p-line-holds2 = p-if2 .before in
+    let p-l2-line2 = p-line-holds2 .before in let p-if1 = p-l2-line2 .before in let p-line-holds = p-if1 .before in
+    let p-l2-line = p-line-holds .before in let p-start = p-l2-line .before .before in
+    (rw ((ap (λ (x : Line). holds x (p-start .args .b)) (sym (p-l2-line .l2-line .ensures)) ∙ sym (p-line-holds .line-holds .ensures) ∙ p-if1 .if1 .left), (ap (λ (x : Line). holds x (p-start .args .b)) (sym (p-l2-line2 .l2-line2 .ensures)) ∙ sym (p-line-holds2 .line-holds2 .ensures) ∙ p-if2 .if2 .left), (ap (λ (x : Line). holds x (p-start .args .b)) (sym (c .before .before .l2-line3 .ensures)) ∙ sym (c .before .line-holds3 .ensures) ∙ c .if3 .taken)) refl, omega arith)
 
 -- src/lib.rt:104:19
 l2-line-requires-4 : tie.Need-l2-line-requires-4
@@ -61,12 +68,22 @@ line-holds-requires-4 c κs = search needs
 -- src/lib.rt:105:9
 returns-4 : tie.Need-returns-4
 unfolding l2Find wayHolding
-returns-4 c = (rw ((ap (λ (x : Line). holds x (c .before .before .before .before .before .before .before .before .before .before .before .before .before .args .b)) (sym (c .before .before .before .before .before .before .before .before .before .before .before .l2-line .ensures)) ∙ sym (c .before .before .before .before .before .before .before .before .before .before .line-holds .ensures) ∙ c .before .before .before .before .before .before .before .before .before .if1 .left), (ap (λ (x : Line). holds x (c .before .before .before .before .before .before .before .before .before .before .before .before .before .args .b)) (sym (c .before .before .before .before .before .before .before .before .l2-line2 .ensures)) ∙ sym (c .before .before .before .before .before .before .before .line-holds2 .ensures) ∙ c .before .before .before .before .before .before .if2 .left), (ap (λ (x : Line). holds x (c .before .before .before .before .before .before .before .before .before .before .before .before .before .args .b)) (sym (c .before .before .before .before .before .l2-line3 .ensures)) ∙ sym (c .before .before .before .before .line-holds3 .ensures) ∙ c .before .before .before .if3 .left), (ap (λ (x : Line). holds x (c .before .before .before .before .before .before .before .before .before .before .before .before .before .args .b)) (sym (c .before .before .l2-line4 .ensures)) ∙ sym (c .before .line-holds4 .ensures) ∙ c .if4 .taken)) refl, omega arith)
+returns-4 c =
+    let p-if3 = c .before .before .before in let p-line-holds3 = p-if3 .before in
+    let p-l2-line3 = p-line-holds3 .before in let p-if2 = p-l2-line3 .before in let p-line-holds2 = p-if2 .before in
+    let p-l2-line2 = p-line-holds2 .before in let p-if1 = p-l2-line2 .before in let p-line-holds = p-if1 .before in
+    let p-l2-line = p-line-holds .before in let p-start = p-l2-line .before .before in
+    (rw ((ap (λ (x : Line). holds x (p-start .args .b)) (sym (p-l2-line .l2-line .ensures)) ∙ sym (p-line-holds .line-holds .ensures) ∙ p-if1 .if1 .left), (ap (λ (x : Line). holds x (p-start .args .b)) (sym (p-l2-line2 .l2-line2 .ensures)) ∙ sym (p-line-holds2 .line-holds2 .ensures) ∙ p-if2 .if2 .left), (ap (λ (x : Line). holds x (p-start .args .b)) (sym (p-l2-line3 .l2-line3 .ensures)) ∙ sym (p-line-holds3 .line-holds3 .ensures) ∙ p-if3 .if3 .left), (ap (λ (x : Line). holds x (p-start .args .b)) (sym (c .before .before .l2-line4 .ensures)) ∙ sym (c .before .line-holds4 .ensures) ∙ c .if4 .taken)) refl, omega arith)
 
 -- src/lib.rt:91:1
 returns-5 : tie.Need-returns-5
 unfolding l2Find wayHolding
-returns-5 c = (rw ((ap (λ (x : Line). holds x (c .before .before .before .before .before .before .before .before .before .before .before .before .before .args .b)) (sym (c .before .before .before .before .before .before .before .before .before .before .before .l2-line .ensures)) ∙ sym (c .before .before .before .before .before .before .before .before .before .before .line-holds .ensures) ∙ c .before .before .before .before .before .before .before .before .before .if1 .left), (ap (λ (x : Line). holds x (c .before .before .before .before .before .before .before .before .before .before .before .before .before .args .b)) (sym (c .before .before .before .before .before .before .before .before .l2-line2 .ensures)) ∙ sym (c .before .before .before .before .before .before .before .line-holds2 .ensures) ∙ c .before .before .before .before .before .before .if2 .left), (ap (λ (x : Line). holds x (c .before .before .before .before .before .before .before .before .before .before .before .before .before .args .b)) (sym (c .before .before .before .before .before .l2-line3 .ensures)) ∙ sym (c .before .before .before .before .line-holds3 .ensures) ∙ c .before .before .before .if3 .left), (ap (λ (x : Line). holds x (c .before .before .before .before .before .before .before .before .before .before .before .before .before .args .b)) (sym (c .before .before .l2-line4 .ensures)) ∙ sym (c .before .line-holds4 .ensures) ∙ c .if4 .left)) refl, omega arith)
+returns-5 c =
+    let p-if3 = c .before .before .before in let p-line-holds3 = p-if3 .before in
+    let p-l2-line3 = p-line-holds3 .before in let p-if2 = p-l2-line3 .before in let p-line-holds2 = p-if2 .before in
+    let p-l2-line2 = p-line-holds2 .before in let p-if1 = p-l2-line2 .before in let p-line-holds = p-if1 .before in
+    let p-l2-line = p-line-holds .before in let p-start = p-l2-line .before .before in
+    (rw ((ap (λ (x : Line). holds x (p-start .args .b)) (sym (p-l2-line .l2-line .ensures)) ∙ sym (p-line-holds .line-holds .ensures) ∙ p-if1 .if1 .left), (ap (λ (x : Line). holds x (p-start .args .b)) (sym (p-l2-line2 .l2-line2 .ensures)) ∙ sym (p-line-holds2 .line-holds2 .ensures) ∙ p-if2 .if2 .left), (ap (λ (x : Line). holds x (p-start .args .b)) (sym (p-l2-line3 .l2-line3 .ensures)) ∙ sym (p-line-holds3 .line-holds3 .ensures) ∙ p-if3 .if3 .left), (ap (λ (x : Line). holds x (p-start .args .b)) (sym (c .before .before .l2-line4 .ensures)) ∙ sym (c .before .line-holds4 .ensures) ∙ c .if4 .left)) refl, omega arith)
 
 pub l2-find-spec : {M : Type 1} → statement M
 l2-find-spec =

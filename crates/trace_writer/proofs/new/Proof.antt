@@ -1,6 +1,6 @@
--- `trace_writer::new` meets its contract: a walk of its MIR, by hand. The borrow of the output goes into the result as
--- it is, beside the number 0. The parameter is spent: the result names its lifetime, so nothing is had of it at exit, and
--- `out .entry` is all that the contract can say.
+-- `trace_writer::new` meets its contract: a walk of its MIR, by hand. The borrow of the output goes into the result
+-- as it is, beside the number 0. The parameter is spent: the result names its lifetime, so nothing is had of it at
+-- exit, and `out .entry` is all that the contract can say.
 use mathlib.Core.Path.{refl}
 use Prim.Native.Nat.{ℕ}
 use mathlib.Core.List.{[], _∷_, List}

@@ -1,4 +1,5 @@
--- `view::view` meets its contract: empty where a number is due; else the 64 bytes at the address, of external memory (Then2) or of SRAM (Else2).
+-- `view::view` meets its contract: empty where a number is due; else the 64 bytes at the address, of external memory
+-- (Then2) or of SRAM (Else2).
 use Rattle.view.specs.Seen.{Seen, view-refused, view-sram, view-external, view-tells, is-low, is-high}
 use Rattle.tags.specs.Words.{recordIn}
 use Rattle.model.specs.Memories.{externalBase}

@@ -1,4 +1,5 @@
--- `view::view_into` meets its contract: a short buffer and a number that is due leave the buffer as it is; else its front gets the 64 bytes.
+-- `view::view_into` meets its contract: a short buffer and a number that is due leave the buffer as it is; else its
+-- front gets the 64 bytes.
 use Rattle.view.specs.Into.{into-short, into-refused, into-external, into-sram}
 use Rattle.tags.specs.Words.{recordIn}
 use mathlib.Core.Path.{ap, _∙_}
@@ -16,7 +17,8 @@ view-due-requires c κs = search needs
 
 returns-2 : tie.Need-returns-2
 returns-2 c =
-    let a = (c .before .before .before .before .before .before .before) .args in into-refused (recordIn (a .tags .now)) (a .address) (a .l2 .now) (a .ext .now) (a .seen .now) ((c .before .before .if1) .left) ((c .before .view-due) .result) ((c .before .view-due) .ensures) ((c .if2) .taken)
+    let p-start = c .before .before .before .before .before .before .before in
+    let a = p-start .args in into-refused (recordIn (a .tags .now)) (a .address) (a .l2 .now) (a .ext .now) (a .seen .now) ((c .before .before .if1) .left) ((c .before .view-due) .result) ((c .before .view-due) .ensures) ((c .if2) .taken)
 
 is-external-requires : tie.Need-is-external-requires
 is-external-requires c κs = search needs
@@ -32,8 +34,11 @@ same-length c = search needs
 
 returns-3 : tie.Need-returns-3
 returns-3 c =
-    let a = (c .before .before .before .before .before .before .before .before .before .before .before .before .before .before) .args in into-external (recordIn (a .tags .now)) (a .address) (a .l2 .now) (a .ext .now) (a .seen .now) ((c .before .before .before .before .before .before .before .before .before .if1) .left) ((c .before .before .before .before .before .before .before .before .view-due) .result) ((c .before .before .before .before .before .before .before .before .view-due) .ensures) ((c .before .before .before .before .before .before .before .if2) .left)
-    ((c .before .before .move64) .last .0) ((c .before .before .before .external-place) .result) ((c .before .before .before .before .before .before .is-external) .ensures ∙ ap not ((c .before .before .before .before .before .if3) .taken)) ((c .before .before .before .external-place) .ensures .0) ((c .before .before .move64) .ensures)
+    let p-external-place = c .before .before .before in let p-if3 = p-external-place .before .before in
+    let p-is-external = p-if3 .before in let p-if2 = p-is-external .before in let p-view-due = p-if2 .before in
+    let p-if1 = p-view-due .before in let p-start = p-if1 .before .before .before .before .before in
+    let a = p-start .args in into-external (recordIn (a .tags .now)) (a .address) (a .l2 .now) (a .ext .now) (a .seen .now) ((p-if1 .if1) .left) ((p-view-due .view-due) .result) ((p-view-due .view-due) .ensures) ((p-if2 .if2) .left)
+    ((c .before .before .move64) .last .0) ((p-external-place .external-place) .result) ((p-is-external .is-external) .ensures ∙ ap not ((p-if3 .if3) .taken)) ((p-external-place .external-place) .ensures .0) ((c .before .before .move64) .ensures)
 
 place-of-requires : tie.Need-place-of-requires
 place-of-requires c κs = search needs
@@ -46,8 +51,11 @@ same-length-2 c = search needs
 
 returns-4 : tie.Need-returns-4
 returns-4 c =
-    let a = (c .before .before .before .before .before .before .before .before .before .before .before .before .before .before) .args in into-sram (recordIn (a .tags .now)) (a .address) (a .l2 .now) (a .ext .now) (a .seen .now) ((c .before .before .before .before .before .before .before .before .before .if1) .left) ((c .before .before .before .before .before .before .before .before .view-due) .result) ((c .before .before .before .before .before .before .before .before .view-due) .ensures) ((c .before .before .before .before .before .before .before .if2) .left)
-    ((c .before .before .move642) .last .0) ((c .before .before .before .place-of) .result) ((c .before .before .before .before .before .before .is-external) .ensures ∙ ap not ((c .before .before .before .before .before .if3) .left)) ((c .before .before .before .place-of) .ensures .0) ((c .before .before .move642) .ensures)
+    let p-place-of = c .before .before .before in let p-if3 = p-place-of .before .before in
+    let p-is-external = p-if3 .before in let p-if2 = p-is-external .before in let p-view-due = p-if2 .before in
+    let p-if1 = p-view-due .before in let p-start = p-if1 .before .before .before .before .before in
+    let a = p-start .args in into-sram (recordIn (a .tags .now)) (a .address) (a .l2 .now) (a .ext .now) (a .seen .now) ((p-if1 .if1) .left) ((p-view-due .view-due) .result) ((p-view-due .view-due) .ensures) ((p-if2 .if2) .left)
+    ((c .before .before .move642) .last .0) ((p-place-of .place-of) .result) ((p-is-external .is-external) .ensures ∙ ap not ((p-if3 .if3) .left)) ((p-place-of .place-of) .ensures .0) ((c .before .before .move642) .ensures)
 
 pub view-into-spec : {M : Type 1} → statement M
 view-into-spec =

@@ -1,4 +1,5 @@
--- `geometry::L2::data_at` meets its contract: each return is a case of the definition, by the tests on its way and what its callees ensure.
+-- `geometry::L2::data_at` meets its contract: each return is a case of the definition, by the tests on its way and
+-- what its callees ensure.
 use Rattle.geometry.specs.Geometry.{slot-bound}
 use Rattle.model.specs.Lines.{l2Slot}
 use native.Mathlib.Omega.{arith}

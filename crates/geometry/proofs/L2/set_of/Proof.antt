@@ -1,4 +1,5 @@
--- `geometry::L2::set_of` meets its contract: a remainder by a constant where the number of sets is that constant, else by the number itself.
+-- `geometry::L2::set_of` meets its contract: a remainder by a constant where the number of sets is that constant,
+-- else by the number itself.
 use Prim.Native.Nat.{ℕ, _/_, _%_}
 use native.Mathlib.Nat.{mod-lt}
 use native.Mathlib.Omega.{arith}

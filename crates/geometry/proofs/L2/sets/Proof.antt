@@ -1,8 +1,10 @@
--- `geometry::L2::sets` meets its contract: each case of the code is a case of `cacheSize`, by 512; a number that none names has no sets.
+-- `geometry::L2::sets` meets its contract: each case of the code is a case of `cacheSize`, by 512; a number that none
+-- names has no sets.
 use Rattle.model.specs.Memories.{cacheSize}
 use native.Mathlib.Omega.{arith}
-use mathlib.Core.Path.{_≡_, refl, sym}
-use borrow.Author.Tests.{ne-eqb}
+use Prim.Native.Nat.{ℕ, _/_}
+use mathlib.Core.Path.{refl, sym, ap}
+use Rattle.geometry.specs.Geometry.{no-cache}
 use Rattle.geometry.proofs.L2.sets.Statement.{statement}
 use Rattle.geometry.proofs.L2.sets.Tie as tie
 
@@ -27,16 +29,10 @@ unfolding cacheSize
 returns-5 c = (rw (c .match .keys5) refl, omega arith)
 
 returns-6 : tie.Need-returns-6
-unfolding cacheSize
-returns-6 c =
-    let m = c .before .before .args .mode in let other = c .before .match .rest in
-    (rw (ne-eqb m 1 (other .0 .0 .0 .1), ne-eqb m 2 (other .0 .0 .1), ne-eqb m 3 (other .0 .1), ne-eqb m 7 (other .1)) refl, omega arith)
+returns-6 c = let r = c .before .match .rest in (sym (ap (λ (n : ℕ). n / 512) (no-cache (c .before .before .args .mode) (r .0 .0 .0 .1) (r .0 .0 .1) (r .0 .1) (r .1))), omega arith)
 
 returns-7 : tie.Need-returns-7
-unfolding cacheSize
-returns-7 c =
-    let m = c .before .before .args .mode in let other = c .before .match .rest in
-    (rw (ne-eqb m 1 (other .0 .0 .0 .1), ne-eqb m 2 (other .0 .0 .1), ne-eqb m 3 (other .0 .1), ne-eqb m 7 (other .1)) refl, omega arith)
+returns-7 c = let r = c .before .match .rest in (sym (ap (λ (n : ℕ). n / 512) (no-cache (c .before .before .args .mode) (r .0 .0 .0 .1) (r .0 .0 .1) (r .0 .1) (r .1))), omega arith)
 
 pub sets-spec : {M : Type 1} → statement M
 sets-spec =
