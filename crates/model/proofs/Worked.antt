@@ -2,6 +2,8 @@
 -- memory's number and value, and the bytes that a view shows. Rows of one table, and one theorem, `worked`, which
 -- holds by computing: a definition that is not the paper's fails at a value here. Each of the four mistakes that
 -- paper 01 names has a row, and so have the servers, the view, writebacks, mode and MAR changes and drops.
+-- The first command of a row meets checks 1 and 2, the others are carried out without: to go through all lent bytes
+-- and lines at each is half of the time of the check, and a record that is well formed stays so (`Stays`).
 use Prim.Native.Nat.{ℕ}
 use mathlib.Core.List.{List, [], _∷_, map, _++_}
 use mathlib.Core.Path.{_≡_, refl}
@@ -9,7 +11,7 @@ use lib.ListN.{replicate}
 use Rattle.model.specs.Bytes.{little}
 use Rattle.model.specs.Records.{State, freshState}
 use Rattle.model.specs.Trace.{command}
-use Rattle.model.specs.Calls.{Reply, Call, oneCommand, look, called}
+use Rattle.model.specs.Calls.{Reply, Call, oneCommand, freshStart, look, called, step, viewDone}
 use Rattle.model.specs.Flat.{Flat, FlatReply, freshFlat, flatCalled}
 use Rattle.model.specs.Opened.{opened}
 
@@ -67,12 +69,22 @@ row n ps = record { behind = n; places = ps }
 unfoldable pub both : Reply → FlatReply → (State → Flat → List (List ℕ)) → List (List ℕ)
 both r g rest = (r .number ∷ r .server ∷ r .value ∷ g .number ∷ g .value ∷ little (r .bytes) ∷ []) ∷ rest (r .next) (g .next)
 
+-- behind checks 1 and 2
+unfoldable pub stepped : Call → State → Reply
+stepped (oneCommand c) z = step c z
+stepped freshStart z = called freshStart z
+stepped (look a) z = viewDone a z
+
 unfoldable pub along : List Place → State → Flat → List (List ℕ)
 along [] z f = []
-along (p ∷ ps) z f = both (called (p .call) z) (flatCalled (p .call) f) (along ps)
+along (p ∷ ps) z f = both (stepped (p .call) z) (flatCalled (p .call) f) (along ps)
+
+unfoldable pub begun : List Place → State → Flat → List (List ℕ)
+begun [] z f = []
+begun (p ∷ ps) z f = both (called (p .call) z) (flatCalled (p .call) f) (along ps)
 
 unfoldable pub started : List Place → List ℕ → List (List ℕ)
-started ps e = along ps (freshState 32768 e) (freshFlat 32768 e)
+started ps e = begun ps (freshState 32768 e) (freshFlat 32768 e)
 
 unfoldable pub given : Row → List (List ℕ)
 given r = started (r .places) ((1 ∷ replicate 63 0) ++ ((2 ∷ replicate 63 0) ++ replicate (r .behind) 0))
@@ -153,39 +165,39 @@ evicted =
 
 -- ---- each row holds by computing; the table, and the theorem about it
 sram-holds : given sram ≡ stated sram
-unfolding opened both along started given stated sram
+unfolding opened both stepped along begun started given stated sram
 sram-holds = refl
 
 external-holds : given external ≡ stated external
-unfolding opened both along started given stated external
+unfolding opened both stepped along begun started given stated external
 external-holds = refl
 
 modeZero-holds : given modeZero ≡ stated modeZero
-unfolding opened both along started given stated modeZero
+unfolding opened both stepped along begun started given stated modeZero
 modeZero-holds = refl
 
 replaced-holds : given replaced ≡ stated replaced
-unfolding opened both along started given stated replaced
+unfolding opened both stepped along begun started given stated replaced
 replaced-holds = refl
 
 modes-holds : given modes ≡ stated modes
-unfolding opened both along started given stated modes
+unfolding opened both stepped along begun started given stated modes
 modes-holds = refl
 
 views-holds : given views ≡ stated views
-unfolding opened both along started given stated views
+unfolding opened both stepped along begun started given stated views
 views-holds = refl
 
 throughL2-holds : given throughL2 ≡ stated throughL2
-unfolding opened both along started given stated throughL2
+unfolding opened both stepped along begun started given stated throughL2
 throughL2-holds = refl
 
 lastSet-holds : given lastSet ≡ stated lastSet
-unfolding opened both along started given stated lastSet
+unfolding opened both stepped along begun started given stated lastSet
 lastSet-holds = refl
 
 evicted-holds : given evicted ≡ stated evicted
-unfolding opened both along started given stated evicted
+unfolding opened both stepped along begun started given stated evicted
 evicted-holds = refl
 
 pub table : List Row

@@ -1,5 +1,4 @@
 pub mod Idle
 pub mod Lent
-pub mod Marks
 pub mod Sets
 pub mod All

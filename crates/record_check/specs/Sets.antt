@@ -18,8 +18,9 @@ use Rattle.model.specs.declared.Record.{Record}
 use Rattle.tags.specs.Few.{twice-two, twice-four}
 use Rattle.record_check.specs.Idle.{freshLine, freshSet, l2-idle}
 use Rattle.tags.specs.Words.{word, lineIn, order2In, order4In, l1dIn, l2In, recordIn}
-use Rattle.record_check.specs.Lent.{l1dWay, l2Way, l1dOkIn, l2OkIn, liveIn, emptyIn, onceIn}
-use Rattle.record_check.specs.Marks.{two-bytes, marked-empty, marked-live, l1d-way-empty, l2-way-empty, l2-way-placed, l2-above}
+use Rattle.record_check.specs.Lent.{l1dOkIn, l2OkIn, onceIn}
+use Rattle.way_check.specs.Lent.{l1dWay, l2Way, liveIn, emptyIn}
+use Rattle.way_check.specs.Marks.{two-bytes, marked-empty, marked-live, l1d-way-empty, l2-way-empty, l2-way-placed, l2-above}
 
 -- ---- an order of two: its bytes are 1, 0 or 0, 1
 pub order-2 : (o : ℕ) → (eqb (o % 65536) 1 || eqb (o % 65536) 256) ≡ permuted2 (order2In o)

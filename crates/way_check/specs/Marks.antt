@@ -19,7 +19,7 @@ use Rattle.model.specs.declared.Line.{Line}
 use Rattle.model.specs.declared.Record.{Record}
 use Rattle.tags.specs.Few.{any-four}
 use Rattle.tags.specs.Words.{word, lineIn, recordIn, l2In, l2-at}
-use Rattle.record_check.specs.Lent.{l1dWay, l2Way, liveIn, emptyIn, externalIn, lowBits}
+use Rattle.way_check.specs.Lent.{l1dWay, l2Way, liveIn, emptyIn, externalIn, lowBits}
 
 -- ---- tests that the code joins otherwise
 pub holds-joined : (f a b : ℕ) (t : Bool) → t ≡ liveIn (f % 65536) → (t && eqb a b) ≡ holds (lineIn f a) b

@@ -1,16 +1,16 @@
--- `record_check::l1d_way` meets its contract: each way through is one law of specs/Marks over plain numbers. Assumes
+-- `way_check::l1d_way` meets its contract: each way through is one law of specs/Marks over plain numbers. Assumes
 -- nothing.
 use Rattle.model.specs.Basics.{anyOf}
 use Rattle.model.specs.Lines.{holds}
 use Rattle.model.specs.Records.{l2SetAt}
 use Rattle.tags.specs.Words.{recordIn}
-use Rattle.record_check.specs.Marks.{external-is, l1d-way-empty, l1d-way-off, l1d-way-sram, l1d-way-outside, l1d-way-alone, l1d-way-covered, index-few}
-use Rattle.record_check.specs.Lent.{lowBits}
+use Rattle.way_check.specs.Marks.{external-is, l1d-way-empty, l1d-way-off, l1d-way-sram, l1d-way-outside, l1d-way-alone, l1d-way-covered, index-few}
+use Rattle.way_check.specs.Lent.{lowBits}
 use Prim.Native.Nat.{ℕ, _-_, _/_}
 use mathlib.Core.Path.{ap, _∙_}
 use borrow.Author.Needs.{needs}
-use Rattle.record_check.proofs.l1d_way.Statement.{statement}
-use Rattle.record_check.proofs.l1d_way.Tie as tie
+use Rattle.way_check.proofs.l1d_way.Statement.{statement}
+use Rattle.way_check.proofs.l1d_way.Tie as tie
 
 returns : tie.Need-returns
 returns c = let a = c .before .before .args in l1d-way-empty (recordIn (a .tags .now)) (a .i) (a .f) (a .a) (c .if1 .taken)

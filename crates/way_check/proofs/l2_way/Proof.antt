@@ -1,12 +1,12 @@
--- `record_check::l2_way` meets its contract: an empty way, or any other. Assumes nothing.
+-- `way_check::l2_way` meets its contract: an empty way, or any other. Assumes nothing.
 use Rattle.tags.specs.Words.{recordIn}
-use Rattle.record_check.specs.Marks.{external-is, l2-way-empty, l2-way-live}
-use Rattle.record_check.specs.Lent.{lowBits}
+use Rattle.way_check.specs.Marks.{external-is, l2-way-empty, l2-way-live}
+use Rattle.way_check.specs.Lent.{lowBits}
 use Prim.Native.Nat.{ℕ, _-_, _*_}
 use mathlib.Core.Path.{ap, _∙_}
 use borrow.Author.Needs.{needs}
-use Rattle.record_check.proofs.l2_way.Statement.{statement}
-use Rattle.record_check.proofs.l2_way.Tie as tie
+use Rattle.way_check.proofs.l2_way.Statement.{statement}
+use Rattle.way_check.proofs.l2_way.Tie as tie
 
 returns : tie.Need-returns
 returns c = let a = c .before .before .args in l2-way-empty (recordIn (a .tags .now)) (a .j) (a .f) (a .a) (c .if1 .taken)
