@@ -1,0 +1,124 @@
+-- What both sentences rest on, and the first of them (`same-behaviour`). A call that checks 1 and 2 refuse changes
+-- nothing; any other starts and ends in a `Pair` (`call-both`), for whatever relation of bytes. For the first sentence
+-- any two bytes may stand for an address: a `Pair` then says that two states have one record and equal lengths.
+use Prim.Native.Nat.{ℕ}
+use mathlib.Core.Bool.{true, false}
+use mathlib.Core.Path.{_≡_, refl, sym}
+use mathlib.Core.List.{List}
+use lib.ListN.{length}
+use lib.Dec.{eqb}
+use borrow.Author.Tests.{eqb-true, eq-eqb}
+use Rattle.model.specs.Bytes.{littleBytes}
+use Rattle.model.specs.Memories.{l1dLength}
+use Rattle.model.specs.Records.{State, state, freshRecord, freshState}
+use Rattle.model.specs.Refusals.{lentL1d, lentL2, lentExternal, lentDue, viewLentDue, viewDue}
+use Rattle.model.specs.Trace.{command}
+use Rattle.model.specs.Calls.{Reply, refused, carriedOut, step, call, freshOk, freshCall, viewDone, Call, oneCommand, freshStart, look, called}
+use Rattle.model.specs.Laws.{length-littleBytes}
+use Rattle.two_runs.specs.TwoRuns.{SameButStored, FitAlike, SameButWritten, commands, starts, looks, ListsSameButWritten, Shared, SharedAlong, SameBehaviour}
+use Rattle.two_runs.specs.TwoRuns as Says
+use Rattle.two_runs.proofs.Areas.{Pairing, Twins, Area}
+use Rattle.two_runs.proofs.Pair.{cond-both, Layout, layoutOf, Pair, one-record}
+use Rattle.two_runs.proofs.Calling.{Replies, start-pair, step-both}
+
+-- ---- what goes by the record and the lengths alone
+pub lent-due : (z z′ : State) → SameButStored z z′ → lentDue z ≡ lentDue z′
+unfolding lentDue lentL1d lentL2 lentExternal
+lent-due z z′ s = rw (s .rec, s .l1d, s .l2, s .ext) refl
+
+pub view-due : (z z′ : State) → SameButStored z z′ → (a : ℕ) → viewDue (z .rec) (z .l2) (z .ext) a ≡ viewDue (z′ .rec) (z′ .l2) (z′ .ext) a
+unfolding viewDue viewLentDue lentL2 lentExternal
+view-due z z′ s a = rw (s .rec, s .l2, s .ext) refl
+
+pub pair-stored : {P : Pairing} {g : Layout} {z z′ : State} → Pair P g z z′ → SameButStored z z′
+pair-stored q = record { rec = q .same; l1d = sym (q .sizes .l1dSame); l2 = sym (q .sizes .l2Same); ext = sym (q .sizes .extSame) }
+
+pub pair-legal : {P : Pairing} {g : Layout} {z z′ : State} → Pair P g z z′ → freshOk (z .l1d) (z .l2) (z .ext) ≡ true
+unfolding freshOk
+pair-legal {z = z} q =
+    let h = q .sizes in rw (eq-eqb (length (z .l1d)) l1dLength (h .l1dLength), h .l2Length, h .extLength, h .l2Legal, h .extLegal) refl
+
+-- ---- one command: what holds of two refusals, and of two replies that have everything in common, holds of the two
+-- calls
+module _ (P : Pairing) (none : (a : ℕ) → P a 0 0) (z z′ : State) (s : SameButStored z z′)
+    (start : lentDue z ≡ 0 → Pair P (layoutOf (z .rec)) z z′)
+    (k a b v v′ : ℕ) (f : k ≡ 1 → FitAlike a v v′ × Twins P b a (littleBytes v a) (littleBytes v′ a)) where
+  pub call-both : (C : Reply → Reply → Type 0) → ((n : ℕ) → C (refused n z) (refused n z′)) → ((x x′ : Reply) → Replies P k a b x x′ → C x x′) →
+      C (call (command k a b v) z) (call (command k a b v′) z′)
+  unfolding call
+  call-both C refusal reply =
+      rw (← (lent-due z z′ s))
+      (cond-both C (eqb (lentDue z) 0) (step (command k a b v) z) (refused (lentDue z) z) (step (command k a b v′) z′) (refused (lentDue z) z′)
+      (λ t. reply (step (command k a b v) z) (step (command k a b v′) z′)
+      (one-record (Pair P (layoutOf (z .rec))) (Replies P k a b) (step (command k a b v)) (step (command k a b v′)) z
+      (λ d m e q. step-both none q a b v v′ k f) z′ (s .rec) (start (eqb-true (lentDue z) 0 t))))
+      (λ _. refusal (lentDue z)))
+
+-- ---- a fresh start: likewise
+module _ (z z′ : State) (s : SameButStored z z′) where
+  fresh-ok : freshOk (z .l1d) (z .l2) (z .ext) ≡ freshOk (z′ .l1d) (z′ .l2) (z′ .ext)
+  unfolding freshOk
+  fresh-ok = rw (s .l1d, s .l2, s .ext) refl
+
+  pub fresh-both : (C : Reply → Reply → Type 0) → C (carriedOut (freshState (length (z .l2)) (z .ext))) (carriedOut (freshState (length (z′ .l2)) (z′ .ext))) →
+      (freshOk (z .l1d) (z .l2) (z .ext) ≡ false →
+      C (refused 1 (state (freshRecord 32768 128) (z .l1d) (z .l2) (z .ext))) (refused 1 (state (freshRecord 32768 128) (z′ .l1d) (z′ .l2) (z′ .ext)))) →
+      C (freshCall (z .l1d) (z .l2) (z .ext)) (freshCall (z′ .l1d) (z′ .l2) (z′ .ext))
+  unfolding freshCall
+  fresh-both C start refusal =
+      rw (← fresh-ok)
+      (cond-both C (freshOk (z .l1d) (z .l2) (z .ext)) (carriedOut (freshState (length (z .l2)) (z .ext)))
+      (refused 1 (state (freshRecord 32768 128) (z .l1d) (z .l2) (z .ext))) (carriedOut (freshState (length (z′ .l2)) (z′ .ext)))
+      (refused 1 (state (freshRecord 32768 128) (z′ .l1d) (z′ .l2) (z′ .ext))) (λ _. start) refusal)
+
+  pub fresh-stored : SameButStored (freshState (length (z .l2)) (z .ext)) (freshState (length (z′ .l2)) (z′ .ext))
+  unfolding freshState
+  fresh-stored = let l = s .l2 in let e = s .ext in record { rec = rw (l, e) refl; l1d = refl; l2 = rw l refl; ext = e }
+
+-- ==== the first sentence: any two bytes may stand for an address
+abbrev Any : Pairing
+Any a c d = _≡_ {A = ℕ} 0 0
+
+any : {b p n : ℕ} {m m′ : List ℕ} → Area Any b p n m m′
+any = record { byte = λ _ _. refl }
+
+-- what two calls share, and what the next two need
+record Same (x x′ : Reply) : Type 0 where
+  number : x .number ≡ x′ .number
+  server : x .server ≡ x′ .server
+  next : SameButStored (x .next) (x′ .next)
+
+shared : {x x′ : Reply} → Same x x′ → Shared x x′
+shared r = record { number = r .number; server = r .server; rec = r .next .rec }
+
+command-same : (z z′ : State) → SameButStored z z′ → (k a b v v′ : ℕ) → (k ≡ 1 → FitAlike a v v′) →
+    Same (call (command k a b v) z) (call (command k a b v′) z′)
+command-same z z′ s k a b v v′ f =
+    call-both Any (λ _. refl) z z′ s
+    (λ u. start-pair Any z z′ (s .rec) (s .l1d) (s .l2) (s .ext) u (λ _ _ _. any) (λ _ _ _. any) any any)
+    k a b v v′ (λ e. (f e, record { long = length-littleBytes v a; long′ = length-littleBytes v′ a; byte = λ _ _. refl }))
+    Same (λ n. record { number = refl; server = refl; next = s })
+    (λ x x′ r. let p = r .next in
+    record { number = r .number; server = r .server; next = pair-stored (p .1) })
+
+fresh-same : (z z′ : State) → SameButStored z z′ → Same (called freshStart z) (called freshStart z′)
+fresh-same z z′ s =
+    fresh-both z z′ s Same (record { number = refl; server = refl; next = fresh-stored z z′ s })
+    (λ _. record { number = refl; server = refl; next = record { rec = refl; l1d = s .l1d; l2 = s .l2; ext = s .ext } })
+
+look-same : (z z′ : State) → SameButStored z z′ → (a : ℕ) → Same (called (look a) z) (called (look a) z′)
+unfolding viewDone
+look-same z z′ s a = record { number = view-due z z′ s a; server = refl; next = s }
+
+called-same : (c c′ : Call) → SameButWritten c c′ → (z z′ : State) → SameButStored z z′ → Same (called c z) (called c′ z′)
+called-same (oneCommand c) (oneCommand c′) (commands {k} {a} {b} {v} {v′} f) z z′ s = command-same z z′ s k a b v v′ f
+called-same freshStart freshStart starts z z′ s = fresh-same z z′ s
+called-same (look a) (look a′) (looks {a = y}) z z′ s = look-same z z′ s y
+
+pub same-behaviour : SameBehaviour
+same-behaviour z z′ s cs cs′ h = along h z z′ s
+  where
+    along : {cs cs′ : List Call} → ListsSameButWritten cs cs′ → (z z′ : State) → SameButStored z z′ → SharedAlong cs cs′ z z′
+    along Says.ListsSameButWritten.end z z′ s = Says.SharedAlong.end
+    along (Says.ListsSameButWritten.next {c} {c′} d h) z z′ s =
+        let r = called-same c c′ d z z′ s in Says.SharedAlong.next (shared r) (along h (called c z .next) (called c′ z′ .next) (r .next))

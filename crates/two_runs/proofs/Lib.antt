@@ -1,0 +1,12 @@
+pub mod Areas
+pub mod Held
+pub mod Pair
+pub mod Leaving
+pub mod Serving
+pub mod Sweeping
+pub mod Calling
+pub mod Behaviour
+pub mod Along
+pub mod Looking
+pub mod OneByte
+pub mod Differ

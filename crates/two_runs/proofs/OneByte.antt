@@ -1,0 +1,190 @@
+-- The second sentence (`one-byte-stays`): one call after another keeps `Along`, and answers the same in every byte that
+-- does not stand for address x. Why: `call-both` with the relation of bytes that are equal but for address x; a fresh
+-- start leaves no line and SRAM zero; a view shows a stretch of SRAM or of external memory.
+use Prim.Native.Nat.{ℕ, zero, suc, _+_, _*_, _/_, _<_}
+use mathlib.Core.Bool.{true, false}
+use mathlib.Core.Path.{_≡_, refl, sym, ap, _∙_}
+use mathlib.Core.List.{List, [], _∷_}
+use native.Mathlib.Omega.{arith}
+use lib.ListN.{length, getD, replicate, List·getD-eq-default}
+use lib.Dec.{ltb}
+use borrow.Author.Tests.{ltb-true, ltb-false}
+use Rattle.model.specs.Bytes.{little, littleBytes}
+use Rattle.model.specs.Records.{State, state, l1dLineAt, l2LineAt, freshL1dSet, freshL2Set, freshRecord, freshState}
+use Rattle.model.specs.Trace.{command}
+use Rattle.model.specs.Calls.{Reply, call, freshOk, freshCall, viewDone, Call, oneCommand, freshStart, look, called}
+use Rattle.model.specs.Laws.{bool, false-true, length-littleBytes}
+use Rattle.model.specs.declared.Line.{Line}
+use Rattle.agreement.proofs.Tables.{l1dStore, l2Store, fresh-line}
+use Rattle.agreement.proofs.Changes.{l2-fresh}
+use Rattle.two_runs.specs.TwoRuns.{SameBytesBut, ValueFor, SameAnswerBut, SameBut, SameButAlong, OneByteStays}
+use Rattle.two_runs.specs.TwoRuns as Says
+use Rattle.two_runs.proofs.Sweeping.{l1d-fresh}
+use Rattle.two_runs.proofs.Calling.{Answer}
+use Rattle.two_runs.proofs.Behaviour.{view-due, call-both, fresh-both, fresh-stored}
+use Rattle.two_runs.proofs.Along.{Byte, zero-byte, equal-byte, Along, along-start, along-says, along-pair, pair-along}
+use Rattle.two_runs.proofs.Looking.{look-bytes}
+
+-- what two calls have in common, and what the next two need
+record Stays (x : ℕ) (c : Call) (y y′ : Reply) : Type 0 where
+  number : y .number ≡ y′ .number
+  server : y .server ≡ y′ .server
+  answer : SameAnswerBut x c y y′
+  along : Along x (y .next) (y′ .next)
+
+equal-bytes : {Stands : ℕ → Type 0} {bs bs′ : List ℕ} → bs ≡ bs′ → SameBytesBut Stands bs bs′
+equal-bytes e = record { long = ap length e; byte = λ k _. ap (λ (l : List ℕ). getD l k 0) e }
+
+-- a reply that is the same but for the state
+same-reply : {x : ℕ} {c : Call} {y y′ : Reply} → y .number ≡ y′ .number → y .server ≡ y′ .server → y .value ≡ y′ .value → y .bytes ≡ y′ .bytes →
+    Along x (y .next) (y′ .next) → Stays x c y y′
+same-reply n s v b h =
+    record {
+      number = n;
+      server = s;
+      answer = record { value = equal-bytes (ap (λ (w : ℕ). littleBytes w 8) v); handedBack = equal-bytes b };
+      along = h;
+    }
+
+-- ---- bytes of a value
+value-byte : (n : ℕ) (bs : List ℕ) → ((i : ℕ) → i < length bs → getD bs i 0 < 256) → (k : ℕ) → k < n → getD (littleBytes (little bs) n) k 0 ≡ getD bs k 0
+unfolding little littleBytes
+value-byte zero bs h k l = absurd (omega arith)
+value-byte (suc n) [] h zero l = refl
+value-byte (suc n) [] h (suc k) l = value-byte n [] h k (omega arith)
+value-byte (suc n) (b ∷ bs) h zero l = let g = h 0 (omega arith) in omega arith
+value-byte (suc n) (b ∷ bs) h (suc k) l =
+    let g = h 0 (omega arith) in
+    let e : (b + 256 * little bs) / 256 ≡ little bs = omega arith in
+    rw e (value-byte n bs (λ i j. h (suc i) (omega arith)) k (omega arith))
+
+written-byte : (v n k : ℕ) → getD (littleBytes v n) k 0 < 256
+unfolding littleBytes
+written-byte v zero k = omega arith
+written-byte v (suc n) zero = omega arith
+written-byte v (suc n) (suc k) = written-byte (v / 256) n k
+
+same-value : (x k a b u v v′ : ℕ) → Answer (Byte x) k a b v v′ →
+    SameBytesBut (ValueFor (oneCommand (command k a b u)) x) (littleBytes v 8) (littleBytes v′ 8)
+same-value x k a b u v v′ r =
+    let l = r .twins .long in let l′ = r .twins .long′ in let e = r .value in let e′ = r .value′ in
+    let m = length-littleBytes v 8 in let m′ = length-littleBytes v′ 8 in
+    record {
+      long = m ∙ sym m′;
+      byte = λ i n.
+          bool (ltb i 8)
+          (λ t. let t′ = ltb-true i 8 t in
+          rw (e, e′) (value-byte 8 (r .bs) (λ j h. r .twins .byte j (omega arith) .below) i t′
+          ∙ bool (ltb i (r .count))
+          (λ y. let y′ = ltb-true i (r .count) y in let c = r .reads i y′ in r .twins .byte i y′ .same (λ g. n (c .0, c .1, g)))
+          (λ y. let y′ = ltb-false i (r .count) y in
+          List·getD-eq-default (r .bs) 0 {n = i} (omega arith) ∙ sym (List·getD-eq-default (r .bs′) 0 {n = i} (omega arith)))
+          ∙ sym (value-byte 8 (r .bs′) (λ j h. r .twins .byte j (omega arith) .below′) i t′)))
+          (λ t. let t′ = ltb-false i 8 t in
+          List·getD-eq-default (littleBytes v 8) 0 {n = i} (omega arith) ∙ sym (List·getD-eq-default (littleBytes v′ 8) 0 {n = i} (omega arith)));
+    }
+
+-- ---- one command
+command-stays : (x : ℕ) (z z′ : State) → Along x z z′ → (k a b v : ℕ) →
+    Stays x (oneCommand (command k a b v)) (call (command k a b v) z) (call (command k a b v) z′)
+command-stays x z z′ h k a b v =
+    call-both (Byte x) (zero-byte x) z z′ (h .stored) (along-pair x z z′ h) k a b v v
+    (λ _. (
+      λ _. refl,
+      record {
+        long = length-littleBytes v a;
+        long′ = length-littleBytes v a;
+        byte = λ i _. equal-byte refl (written-byte v a i);
+      },
+    ))
+    (Stays x (oneCommand (command k a b v))) (λ n. same-reply refl refl refl refl h)
+    (λ y y′ r. let p = r .next in
+    record {
+      number = r .number;
+      server = r .server;
+      answer = record { value = same-value x k a b v (y .value) (y′ .value) (r .answer); handedBack = equal-bytes (r .bytes) };
+      along = pair-along (h .external) (p .1);
+    })
+
+-- ---- a fresh start: nothing is held, SRAM is zero, or L2 is as it was lent
+zeros : (n i : ℕ) → _≡_ {A = ℕ} (getD (replicate n 0) i 0) 0
+zeros zero i = refl
+zeros (suc n) zero = refl
+zeros (suc n) (suc i) = zeros n i
+
+l1d-empty : (l e s w : ℕ) → l1dLineAt (freshRecord l e) s w .valid ≡ true → ⊥
+unfolding freshRecord
+l1d-empty l e s w v = false-true (sym (ap (λ (y : Line). y .valid) (fresh-line l1dStore freshL1dSet 128 l1d-fresh s w)) ∙ v)
+
+l2-empty : (l e t w : ℕ) → l2LineAt (freshRecord l e) t w .valid ≡ true → ⊥
+unfolding freshRecord
+l2-empty l e t w v = false-true (sym (ap (λ (y : Line). y .valid) (fresh-line l2Store freshL2Set 512 l2-fresh t w)) ∙ v)
+
+module _ (x : ℕ) (z z′ : State) (h : Along x z z′) where
+  started : Along x (freshState (length (z .l2)) (z .ext)) (freshState (length (z′ .l2)) (z′ .ext))
+  unfolding freshState
+  started =
+      let l = length (z .l2) in let l′ = length (z′ .l2) in
+      let m : (i : ℕ) → _≡_ {A = ℕ} (getD (replicate l 0) i 0) (getD (replicate l′ 0) i 0) = λ i. zeros l i ∙ sym (zeros l′ i) in
+      record {
+        external = h .external;
+        stored = fresh-stored z z′ (h .stored);
+        l1d = λ s w v. absurd (l1d-empty l (length (z .ext)) s w v);
+        l2 = λ t w v. absurd (l2-empty l (length (z .ext)) t w v);
+        sram = λ i _. let a = zeros l i in (m i, omega arith);
+        ext = h .ext;
+        lent = λ _ i. let a = zeros l i in (m i, omega arith);
+      }
+
+  not-started : freshOk (z .l1d) (z .l2) (z .ext) ≡ false →
+      Along x (state (freshRecord 32768 128) (z .l1d) (z .l2) (z .ext)) (state (freshRecord 32768 128) (z′ .l1d) (z′ .l2) (z′ .ext))
+  not-started u =
+      let s = h .stored in
+      record {
+        external = h .external;
+        stored = record { rec = refl; l1d = s .l1d; l2 = s .l2; ext = s .ext };
+        l1d = λ s w v. absurd (l1d-empty 32768 128 s w v);
+        l2 = λ t w v. absurd (l2-empty 32768 128 t w v);
+        sram = λ i _. h .lent u i;
+        ext = h .ext;
+        lent = h .lent;
+      }
+
+  fresh-stays : Stays x freshStart (freshCall (z .l1d) (z .l2) (z .ext)) (freshCall (z′ .l1d) (z′ .l2) (z′ .ext))
+  fresh-stays =
+      fresh-both z z′ (h .stored) (Stays x freshStart) (same-reply refl refl refl refl started)
+      (λ u. same-reply refl refl refl refl (not-started u))
+
+  -- ---- one look behind L1D
+  look-stays : (a : ℕ) → Stays x (look a) (called (look a) z) (called (look a) z′)
+  unfolding viewDone
+  look-stays a =
+      record {
+        number = view-due z z′ (h .stored) a;
+        server = refl;
+        answer = record { value = equal-bytes refl; handedBack = look-bytes x z z′ h a };
+        along = h;
+      }
+
+-- ---- one call, and the whole list
+called-stays : (x : ℕ) (c : Call) (z z′ : State) → Along x z z′ → Stays x c (called c z) (called c z′)
+called-stays x (oneCommand c) z z′ h = command-stays x z z′ h (c .code) (c .first) (c .second) (c .value)
+called-stays x freshStart z z′ h = fresh-stays x z z′ h
+called-stays x (look a) z z′ h = look-stays x z z′ h a
+
+says : (x : ℕ) (c : Call) (y y′ : Reply) → Stays x c y y′ → SameBut x c y y′
+says x c y y′ r =
+    record {
+      shared = record { number = r .number; server = r .server; rec = r .along .stored .rec };
+      answer = r .answer;
+      after = along-says x (y .next) (y′ .next) (r .along);
+    }
+
+pub one-byte-stays : OneByteStays
+one-byte-stays x z z′ o cs = go cs z z′ (along-start x z z′ o)
+  where
+    go : (cs : List Call) (z z′ : State) → Along x z z′ → SameButAlong x cs z z′
+    go [] z z′ h = Says.SameButAlong.end
+    go (c ∷ cs) z z′ h =
+        let r = called-stays x c z z′ h in
+        Says.SameButAlong.next (says x c (called c z) (called c z′) r) (go cs (called c z .next) (called c z′ .next) (r .along))
