@@ -67,7 +67,7 @@ smaller-bound a b =
     (λ t. let h = leb-false a b t in rw t (omega arith, omega arith))
 
 -- ---- a fresh set holds nothing, and its order is a permutation
-l1d-fresh : (w : ℕ) → getD (freshL1dSet .lines) w emptyLine ≡ emptyLine
+pub l1d-fresh : (w : ℕ) → getD (freshL1dSet .lines) w emptyLine ≡ emptyLine
 l1d-fresh zero = refl
 l1d-fresh (suc zero) = refl
 l1d-fresh (suc (suc w)) = refl

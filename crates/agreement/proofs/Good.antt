@@ -11,13 +11,14 @@ use mathlib.Core.Path.{_≡_, refl, sym, ap, _∙_}
 use mathlib.Core.Logic.{_≢_, _⊎_, inl, inr, ⊎-elim}
 use mathlib.Core.List.{List}
 use native.Mathlib.Omega.{arith}
+use native.Mathlib.Nat.{mul-le-mul-right, suc-mul}
 use lib.ListN.{length, getD}
 use lib.Seq.{getD-set-other}
 use lib.Dec.{ltb, eqb}
 use borrow.Author.Tests.{ltb-true, ltb-false, eqb-true, eqb-false, eq-eqb}
 use Rattle.model.specs.Bytes.{stored}
 use Rattle.model.specs.Memories.{externalBase, cacheSize, isMode}
-use Rattle.model.specs.Lines.{l1dSetOf, l1dData, l2Slot, l1dLine, l2Line, emptyLine, holds, l1dGet, l2Get, l2Put, l1dUse, l2Use}
+use Rattle.model.specs.Lines.{l1dSetOf, l1dData, l2Slot, l2DataIn, l1dLine, l2Line, emptyLine, holds, l1dGet, l2Get, l2Put, l1dUse, l2Use}
 use Rattle.model.specs.Records.{State, withRecord, withL1d, withL2, withExternal, sramOf, l2SetsOf, mode0, l2SetOf, l2Data, marBit, noL2Set, l1dSetAt, l2SetAt, l1dLineAt, l2LineAt, withL1dLine, withL2Line, freshL2Set}
 use Rattle.model.specs.Ways.{wayHolding, lowestInvalid, l1dFind, l2Find, l1dVictim, l2Victim, l1dWay, l2Way, inL1d, inL2, useL1d, useL2}
 use Rattle.model.specs.Homes.{homeIsL2}
@@ -234,36 +235,27 @@ pub slot-bound : (n s w : ℕ) → w < 4 → s < n → l2Slot n s w < 4 * n
 unfolding l2Slot
 slot-bound n s w hw hs = four-ways (λ (k : ℕ). k * n + s < 4 * n) (omega arith) (omega arith) (omega arith) (omega arith) w hw
 
--- way and set from the slot
-slot-once : (n s w s′ w′ : ℕ) → w < 4 → w′ < 4 → s < n → s′ < n → w * n + s ≡ w′ * n + s′ → (w ≡ w′) × (s ≡ s′)
-slot-once n s w s′ w′ hw hw′ hs hs′ =
-    four-ways (λ (k : ℕ). k * n + s ≡ w′ * n + s′ → (k ≡ w′) × (s ≡ s′))
-    (four-ways (λ (j : ℕ). 0 * n + s ≡ j * n + s′ → (0 ≡ j) × (s ≡ s′)) (λ e. omega arith) (λ e. omega arith) (λ e. omega arith) (λ e. omega arith) w′ hw′)
-    (four-ways (λ (j : ℕ). 1 * n + s ≡ j * n + s′ → (1 ≡ j) × (s ≡ s′)) (λ e. omega arith) (λ e. omega arith) (λ e. omega arith) (λ e. omega arith) w′ hw′)
-    (four-ways (λ (j : ℕ). 2 * n + s ≡ j * n + s′ → (2 ≡ j) × (s ≡ s′)) (λ e. omega arith) (λ e. omega arith) (λ e. omega arith) (λ e. omega arith) w′ hw′)
-    (four-ways (λ (j : ℕ). 3 * n + s ≡ j * n + s′ → (3 ≡ j) × (s ≡ s′)) (λ e. omega arith) (λ e. omega arith) (λ e. omega arith) (λ e. omega arith) w′ hw′)
-    w hw
+-- two slots are at different places among all slots, a line's length apart, so that their bytes do not overlap
+ways-apart : (n s w s′ w′ : ℕ) → s < n → w < w′ → w * n + s + 1 ≤ w′ * n + s′
+ways-apart n s w s′ w′ hs h = let a = mul-le-mul-right n h in let b = suc-mul w n in omega arith
 
-slot-other : (n s w s′ w′ : ℕ) → s < n → s′ < n → w < 4 → w′ < 4 → Other s w s′ w′ → l2Slot n s′ w′ ≢ l2Slot n s w
+slots-apart : (n s w s′ w′ : ℕ) → s < n → s′ < n → Other s w s′ w′ → (w * n + s + 1 ≤ w′ * n + s′) ⊎ (w′ * n + s′ + 1 ≤ w * n + s)
+slots-apart n s w s′ w′ hs hs′ o =
+    bool (ltb w w′) (λ t. inl (ways-apart n s w s′ w′ hs (ltb-true w w′ t)))
+    (λ t. bool (ltb w′ w) (λ t′. inr (ways-apart n s′ w′ s w hs′ (ltb-true w′ w t′)))
+    (λ t′. let h = ltb-false w w′ t in let h′ = ltb-false w′ w t′ in
+    let e : w′ ≡ w = omega arith in
+    bool (ltb s s′) (λ y. let g = ltb-true s s′ y in inl (rw e (omega arith)))
+    (λ y. bool (ltb s′ s) (λ y′. let g = ltb-true s′ s y′ in inr (rw e (omega arith)))
+    (λ y′. let g = ltb-false s s′ y in let g′ = ltb-false s′ s y′ in absurd (o (omega arith, e))))))
+
+pub l1d-apart : (s w s′ w′ : ℕ) → s < 128 → s′ < 128 → Other s w s′ w′ → (l1dData s w + 64 ≤ l1dData s′ w′) ⊎ (l1dData s′ w′ + 64 ≤ l1dData s w)
+l1d-apart s w s′ w′ hs hs′ o = ⊎-elim (λ h. inl (omega arith)) (λ h. inr (omega arith)) (slots-apart 128 s w s′ w′ hs hs′ o)
+
+pub l2-apart : (p n s w s′ w′ : ℕ) → s < n → s′ < n → Other s w s′ w′ →
+    (l2DataIn p n s w + 128 ≤ l2DataIn p n s′ w′) ⊎ (l2DataIn p n s′ w′ + 128 ≤ l2DataIn p n s w)
 unfolding l2Slot
-slot-other n s w s′ w′ h h′ hw hw′ o e = let k = slot-once n s′ w′ s w hw′ hw h′ h e in o (k .1, k .0)
-
--- two slots of n bytes each, at different places among all slots, do not overlap
-slots-apart : (n j j′ : ℕ) → j′ ≢ j → (n ≡ 64) ⊎ (n ≡ 128) → (j * n + n ≤ j′ * n) ⊎ (j′ * n + n ≤ j * n)
-slots-apart n j j′ d =
-    ⊎-elim
-    (λ e. bool (ltb j j′) (λ t. let h = ltb-true j j′ t in inl (rw e (omega arith))) (λ t. let h = ltb-false j j′ t in inr (rw e (omega arith))))
-    (λ e. bool (ltb j j′) (λ t. let h = ltb-true j j′ t in inl (rw e (omega arith))) (λ t. let h = ltb-false j j′ t in inr (rw e (omega arith))))
-
-l1d-apart : (s w s′ w′ : ℕ) → s < 128 → s′ < 128 → Other s w s′ w′ → (l1dData s w + 64 ≤ l1dData s′ w′) ⊎ (l1dData s′ w′ + 64 ≤ l1dData s w)
-l1d-apart s w s′ w′ h h′ o =
-    slots-apart 64 (w * 128 + s) (w′ * 128 + s′) (λ e. let k : w′ ≡ w = omega arith in o (omega arith, k)) (inl refl)
-
-l2-apart : (r : Record) (s w s′ w′ : ℕ) → s < l2SetsOf r → s′ < l2SetsOf r → w < 4 → w′ < 4 → Other s w s′ w′ →
-    (l2Data r s w + 128 ≤ l2Data r s′ w′) ⊎ (l2Data r s′ w′ + 128 ≤ l2Data r s w)
-l2-apart r s w s′ w′ h h′ hw hw′ o =
-    ⊎-elim (λ g. inl (omega arith)) (λ g. inr (omega arith))
-    (slots-apart 128 (l2Slot (l2SetsOf r) s w) (l2Slot (l2SetsOf r) s′ w′) (slot-other (l2SetsOf r) s w s′ w′ h h′ hw hw′ o) (inr refl))
+l2-apart p n s w s′ w′ hs hs′ o = ⊎-elim (λ h. inl (omega arith)) (λ h. inr (omega arith)) (slots-apart n s w s′ w′ hs hs′ o)
 
 module _ (z : State) (h : Tidy z) where
   -- an L1D slot lies in the L1D data; an L2 slot lies in L2 memory, behind SRAM
@@ -291,7 +283,7 @@ module _ (z : State) (h : Tidy z) where
   l2-rest F q t v o bs ht hv ho t′ v′ n k =
       let b = l2-bounds z F q t′ v′ k in
       other-slot 128 (z .l2) bs (l2Data (z .rec) t v) (l2Data (z .rec) t′ v′) o (l2-fits t v ht hv)
-      (l2-apart (z .rec) t v t′ v′ ht (b .0) hv (b .1) n) ho
+      (l2-apart (sramOf (z .rec)) (l2SetsOf (z .rec)) t v t′ v′ ht (b .0) n) ho
 
 -- ---- another record, and other bytes in all memories that the invariant sees
 abbrev pub withLists : State → Record → List ℕ → List ℕ → List ℕ → State

@@ -1,6 +1,8 @@
--- Bytes of two runs side by side. A relation P says which two bytes may stand for an address in the two runs; an `Area` is a stretch of two memories whose
--- bytes stand for addresses one after another. SRAM, external memory and every line of a cache are areas, so that what follows serves all of them.
--- Shown: a part taken out of an area, and bytes put into one, stand for what they stood for; bytes put elsewhere leave an area as it was.
+-- Bytes of two runs side by side. A relation P (`Pairing`) says which two bytes may stand for an address in the two
+-- runs; an `Area` is a stretch of two memories whose bytes stand for addresses one after another. SRAM, external memory
+-- and every line of a cache are areas, so that what follows serves all of them.
+-- Shown: a part taken out of an area, and bytes put into one, stand for what they stood for; bytes put elsewhere leave
+-- an area as it was. Why: in both runs the same bytes go from the same place to the same place.
 use Prim.Native.Nat.{ℕ, _+_, _-_, _≤_, _<_}
 use mathlib.Core.Path.{_≡_, refl, sym, _∙_, subst₃}
 use mathlib.Core.Logic.{_⊎_, ⊎-elim}

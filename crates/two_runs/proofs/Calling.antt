@@ -1,5 +1,7 @@
--- One call, in two runs at once. Shown: where checks 1 and 2 find nothing, two states of one record are a `Pair` (`start-pair`); a command on such states gives the
--- same number and server, bytes that stand for the same addresses, and a `Pair` again (`step-both`).
+-- One command, in two runs at once. Shown: where checks 1 and 2 find nothing, two states of one record are a `Pair`
+-- (`start-pair`); a command on such states gives the same number and server, bytes that stand for the same addresses,
+-- and a `Pair` again (`step-both`). Why: checks 3 to 10 go by the record and the call's numbers; of a value they ask
+-- only whether it fits.
 use Prim.Native.Nat.{ℕ, zero, suc, _+_, _%_, _≤_, _<_}
 use mathlib.Core.Bool.{Bool, true, cond, _&&_}
 use mathlib.Core.Path.{_≡_, refl, sym, ap, _∙_}

@@ -3,7 +3,7 @@
 -- value and the byte of the valid L1D line stand for the address; what is left in L1D once the line was dropped stands
 -- for none (`leftovers`). So the sentence could say no more of any of the three.
 use Prim.Native.Nat.{ℕ}
-use mathlib.Core.List.{List, [], _∷_, map}
+use mathlib.Core.List.{[], _∷_, map}
 use mathlib.Core.Path.{_≡_, refl}
 use lib.ListN.{replicate, getD}
 use Rattle.model.specs.Records.{State, freshState}

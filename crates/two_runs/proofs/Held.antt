@@ -1,18 +1,19 @@
--- The lines of one cache in two runs that have the same lines: each valid line stands where it may, and its bytes are an area for its address (`Held`).
--- Shown once for L1D and L2 (and a cache to come): what is left of it when lines leave or change only in order or dirtiness, and when one slot is filled or
--- written. Which line a slot holds after a change of the record comes from the list alone: no length of the record's arrays is asked for.
-use Prim.Native.Nat.{ℕ, zero, suc, _+_, _*_, _≤_, _<_}
+-- The lines of one cache in two runs that have the same lines: each valid line stands where it may, and its bytes are
+-- an area for its address (`Held`). Shown once for L1D and L2 (and a cache to come): what is left of it when lines
+-- leave or change only in order or dirtiness, and when one slot is filled or written.
+-- Why: a slot is the one that was changed or another (`replaces`), and slots do not overlap. Which line a slot holds
+-- after a change comes from the list alone: no length of the record's arrays is asked for.
+use Prim.Native.Nat.{ℕ, zero, suc, _<_}
 use mathlib.Core.Bool.{true}
 use mathlib.Core.Path.{_≡_, refl, sym, ap, _∙_}
 use mathlib.Core.Logic.{_⊎_, inl, inr, ⊎-elim}
 use mathlib.Core.List.{List, [], _∷_}
 use native.Mathlib.Omega.{arith}
-use native.Mathlib.Nat.{mul-le-mul-right, suc-mul}
 use lib.ListN.{length, getD, set, length-set, List·getD-eq-default}
 use lib.Seq.{getD-set-same}
 use lib.Dec.{eqb, ltb}
 use borrow.Author.Tests.{eqb-true, eqb-false, ltb-true, ltb-false}
-use Rattle.model.specs.Lines.{emptyLine, l1dData, l2Slot, l2DataIn}
+use Rattle.model.specs.Lines.{emptyLine}
 use Rattle.model.specs.Laws.{bool, false-true}
 use Rattle.model.specs.declared.Line.{Line}
 use Rattle.agreement.proofs.Level.{Same, Other, same-slot}
@@ -87,28 +88,6 @@ module _ (k : Store) (xs : List (k .OneSet)) (s w : ℕ) where
   pub exists-put : (x : Line) → Exists k (withLine k xs s w x) s w → Exists k xs s w
   exists-put x =
       exists-before (k .put (setIn k xs s) w x) (ap length (k .put-lines (setIn k xs s) w x) ∙ length-set (k .lines (setIn k xs s)) w x)
-
--- ---- slots of n bytes do not overlap
-ways-apart : (n s w s′ w′ : ℕ) → s < n → w < w′ → w * n + s + 1 ≤ w′ * n + s′
-ways-apart n s w s′ w′ hs h = let a = mul-le-mul-right n h in let b = suc-mul w n in omega arith
-
-pub slots-apart : (n s w s′ w′ : ℕ) → s < n → s′ < n → Other s w s′ w′ → (w * n + s + 1 ≤ w′ * n + s′) ⊎ (w′ * n + s′ + 1 ≤ w * n + s)
-slots-apart n s w s′ w′ hs hs′ o =
-    bool (ltb w w′) (λ t. inl (ways-apart n s w s′ w′ hs (ltb-true w w′ t)))
-    (λ t. bool (ltb w′ w) (λ t′. inr (ways-apart n s′ w′ s w hs′ (ltb-true w′ w t′)))
-    (λ t′. let h = ltb-false w w′ t in let h′ = ltb-false w′ w t′ in
-    let e : w′ ≡ w = omega arith in
-    bool (ltb s s′) (λ y. let g = ltb-true s s′ y in inl (rw e (omega arith)))
-    (λ y. bool (ltb s′ s) (λ y′. let g = ltb-true s′ s y′ in inr (rw e (omega arith)))
-    (λ y′. let g = ltb-false s s′ y in let g′ = ltb-false s′ s y′ in absurd (o (omega arith, e))))))
-
-pub l1d-apart : (s w s′ w′ : ℕ) → s < 128 → s′ < 128 → Other s w s′ w′ → (l1dData s w + 64 ≤ l1dData s′ w′) ⊎ (l1dData s′ w′ + 64 ≤ l1dData s w)
-l1d-apart s w s′ w′ hs hs′ o = ⊎-elim (λ h. inl (omega arith)) (λ h. inr (omega arith)) (slots-apart 128 s w s′ w′ hs hs′ o)
-
-pub l2-apart : (p n s w s′ w′ : ℕ) → s < n → s′ < n → Other s w s′ w′ →
-    (l2DataIn p n s w + 128 ≤ l2DataIn p n s′ w′) ⊎ (l2DataIn p n s′ w′ + 128 ≤ l2DataIn p n s w)
-unfolding l2Slot
-l2-apart p n s w s′ w′ hs hs′ o = ⊎-elim (λ h. inl (omega arith)) (λ h. inr (omega arith)) (slots-apart n s w s′ w′ hs hs′ o)
 
 -- ---- the lines held: `ok s w b` says where the line at b may stand, `at s w` where its n bytes begin
 pub record Held (P : Pairing) (ok : ℕ → ℕ → ℕ → Type 0) (n : ℕ) (line : ℕ → ℕ → Line) (at : ℕ → ℕ → ℕ) (m m′ : List ℕ) : Type 0 where

@@ -1,5 +1,8 @@
--- Lines that leave a cache, in two runs at once: an L1D line goes home, an L2 line takes in its halves and is written out. Shown: each step keeps `Pair`.
--- A lemma named `-pair` has the second state with the first one's record itself, one named `-both` has any two states of a `Pair`.
+-- Lines that leave a cache, in two runs at once: an L1D line goes home, an L2 line takes in its halves and is written
+-- out. Shown: each step keeps `Pair`. Why: the line's bytes are an area for its address, and so is the place they go
+-- to.
+-- A lemma named `-pair` has the second state with the first one's record itself, one named `-both` has any two states
+-- of a `Pair`.
 use Prim.Native.Nat.{ℕ, _+_, _-_, _%_, _≤_, _<_}
 use mathlib.Core.Bool.{Bool, true, false, cond}
 use mathlib.Core.Path.{_≡_, refl, sym, ap, _∙_}
@@ -48,7 +51,8 @@ module _ {P : Pairing} {g : Layout} where
     l2-line t v hv k =
         area-part (q .l2 .bytes t v k) (q .sizes .l2Same) (l2-room q t v (q .l2 .placed t v k .set) hv) 0 (omega arith) (omega arith) (omega arith)
 
-    -- ---- n bytes at a go into slot t, v, which has the bytes of its L2 line and, if the arrays have that slot at all, the line itself
+    -- ---- n bytes at a go into slot t, v, which has the bytes of its L2 line and, if the arrays have that slot at
+    -- all, the line itself
     pub putL2-pair : (t v : ℕ) {a n : ℕ} {bs bs′ : List ℕ} → Twins P a n bs bs′ → t < g .sets → v < 4 → a % 128 + n ≤ 128 →
         Area P (l2Line a) (l2Data (z .rec) t v) 128 (z .l2) m → (Exists l2Store (z .rec .l2) t v → Holding t v (l2Line a) z) →
         Pair P g (putL2 t v a bs z) (putL2 t v a bs′ (twin z d m e))

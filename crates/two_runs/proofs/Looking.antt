@@ -1,12 +1,12 @@
--- The view, in the two runs of the second sentence: its number is the same in both, and so is each byte of the line shown
--- that does not stand for address x. Why: a view that is not refused shows a stretch of SRAM or of external memory, and
--- both are areas (`look-tells`).
+-- The view, in the two runs of the second sentence: each byte of the line shown that does not stand for address x is
+-- the same in both. Why: a view that is not refused shows a stretch of SRAM or of external memory (`look-tells`), and
+-- both are areas.
 use Prim.Native.Nat.{ℕ, zero, suc, _+_, _-_, _≤_, _<_}
 use mathlib.Core.Bool.{_&&_}
 use mathlib.Core.Path.{_≡_, refl, sym, _∙_}
 use mathlib.Core.List.{List, []}
 use native.Mathlib.Omega.{arith}
-use lib.ListN.{length, getD, List·getD-eq-default}
+use lib.ListN.{length, List·getD-eq-default}
 use lib.Dec.{ltb, eqb}
 use borrow.Author.Tests.{ltb-true, ltb-false, leb-true, eqb-true, lt-ltb, le-ltb}
 use Rattle.model.specs.Bytes.{part}

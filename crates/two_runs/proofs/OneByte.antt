@@ -16,10 +16,9 @@ use Rattle.model.specs.Calls.{Reply, call, freshOk, freshCall, viewDone, Call, 
 use Rattle.model.specs.Laws.{bool, false-true, length-littleBytes}
 use Rattle.model.specs.declared.Line.{Line}
 use Rattle.agreement.proofs.Tables.{l1dStore, l2Store, fresh-line}
-use Rattle.agreement.proofs.Changes.{l2-fresh}
+use Rattle.agreement.proofs.Changes.{l1d-fresh, l2-fresh}
 use Rattle.two_runs.specs.TwoRuns.{SameBytesBut, ValueFor, SameAnswerBut, SameBut, SameButAlong, OneByteStays}
 use Rattle.two_runs.specs.TwoRuns as Says
-use Rattle.two_runs.proofs.Sweeping.{l1d-fresh}
 use Rattle.two_runs.proofs.Calling.{Answer}
 use Rattle.two_runs.proofs.Behaviour.{view-due, call-both, fresh-both, fresh-stored}
 use Rattle.two_runs.proofs.Along.{Byte, zero-byte, equal-byte, Along, along-start, along-says, along-pair, pair-along}

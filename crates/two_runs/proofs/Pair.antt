@@ -1,6 +1,9 @@
--- Two states side by side (`Pair`): the same record, memories of the same lengths, each line where it may stand, and bytes of SRAM, of external memory and of
--- valid lines that P allows for the address they stand for. Shown: each small step that changes a line, an order or bytes keeps it, in both runs at once.
--- Why: which step is taken goes by the record alone, and it moves each byte to a place that stands for the same address.
+-- Two states side by side (`Pair`): the same record, memories of the same lengths, each line where it may stand, and
+-- bytes of SRAM, of external memory and of valid lines that P allows for the address they stand for. Nothing is said of
+-- dirty or clean lines, nor of which copy is the newest: each place has an address of its own, whoever is newer.
+-- Shown: each small step that changes a line, an order or bytes keeps it, in both runs at once.
+-- Why: which step is taken goes by the record alone, and it moves each byte to a place that stands for the same
+-- address.
 use Prim.Native.Nat.{ℕ, _+_, _*_, _-_, _%_, _≤_, _<_}
 use mathlib.Core.Bool.{Bool, true, false, cond}
 use mathlib.Core.Path.{_≡_, refl, sym, _∙_, subst}
@@ -20,9 +23,9 @@ use Rattle.model.specs.Laws.{length-stored}
 use Rattle.model.specs.declared.Line.{Line}
 use Rattle.model.specs.declared.Record.{Record}
 use Rattle.agreement.proofs.Tables.{l1dStore, l2Store}
-use Rattle.agreement.proofs.Good.{slot-bound, l1d-used-line, l2-used-line}
+use Rattle.agreement.proofs.Good.{slot-bound, l1d-apart, l2-apart, l1d-used-line, l2-used-line}
 use Rattle.two_runs.proofs.Areas.{Pairing, Twins, Area, area-part, area-stored, area-elsewhere}
-use Rattle.two_runs.proofs.Held.{replaces, l1d-apart, l2-apart, Held, held-same, held-emptied, held-put}
+use Rattle.two_runs.proofs.Held.{replaces, Held, held-same, held-emptied, held-put}
 
 -- ---- a choice by the same test in both runs
 pub cond-both {ℓ κ} : {A : Type ℓ} (R : A → A → Type κ) (b : Bool) (x y x′ y′ : A) → (b ≡ true → R x x′) → (b ≡ false → R y y′) →
@@ -53,7 +56,8 @@ pub record L2Ok (g : Layout) (t v b : ℕ) : Type 0 where
   pub low : externalBase ≤ b
   pub high : b + 128 ≤ externalBase + g .ext
 
--- the layout is the record's, whose L, E and mode are l, x and mode; both runs' memories have its lengths; and it is a legal one
+-- the layout is the record's, whose L, E and mode are l, x and mode; both runs' memories have its lengths; and it is a
+-- legal one
 pub record Sizes (g : Layout) (l x mode : ℕ) (d m e d′ m′ e′ : List ℕ) : Type 0 where
   pub sram : sramLength l mode ≡ g .sram
   pub sets : l2Sets mode ≡ g .sets
@@ -108,7 +112,8 @@ sizes-with h d₁ m₁ e₁ d₂ m₂ e₂ a a′ b b′ c c′ =
       extLegal = h .extLegal;
     }
 
--- ---- the second run may be taken to have the first one's record itself: then every test and every choice of a way computes to the same
+-- ---- the second run may be taken to have the first one's record itself: then every test and every choice of a way
+-- computes to the same
 abbrev pub twin : State → List ℕ → List ℕ → List ℕ → State
 twin z d m e = state (z .rec) d m e
 

@@ -1,5 +1,6 @@
--- Accesses, in two runs at once: what L2 does for a miss, the line that L1D gets, a read and a write whole. Shown: the same server, bytes that stand for the
--- same addresses, and `Pair` again.
+-- Accesses, in two runs at once: what L2 does for a miss, the line that L1D gets, a read and a write whole. Shown: the
+-- same server, bytes that stand for the same addresses, and `Pair` again. Why: hit or miss, the way and the server go
+-- by the record; the line fetched is an area at its home and so in its way.
 use Prim.Native.Nat.{ℕ, _+_, _-_, _/_, _%_, _≤_, _<_}
 use mathlib.Core.Bool.{Bool, true, false, not, cond}
 use mathlib.Core.Path.{_≡_, refl, sym, ap, _∙_, subst}

@@ -1,14 +1,15 @@
--- Commands over many lines, and mode and MAR changes, in two runs at once. Shown: each keeps `Pair`, with the sizes of the new mode after a mode change.
+-- Commands over many lines, and mode and MAR changes, in two runs at once. Shown: each keeps `Pair`, with the sizes of
+-- the new mode after a mode change. Why: the lines that a loop goes through go by the record, and each turn keeps it.
 use Prim.Native.Nat.{ℕ, zero, suc, _+_, _*_, _/_, _%_, _≤_, _<_}
 use mathlib.Core.Path.{_≡_, refl, sym, ap, _∙_}
 use mathlib.Core.List.{List}
 use native.Mathlib.Omega.{arith}
-use lib.ListN.{length, getD}
-use lib.Dec.{ltb, eqb}
+use lib.ListN.{length}
+use lib.Dec.{ltb}
 use borrow.Author.Tests.{ltb-true, ltb-false}
 use Rattle.model.specs.Basics.{each}
 use Rattle.model.specs.Memories.{cacheSize, sramLength}
-use Rattle.model.specs.Lines.{l1dSetOf, l2Sets, upperHalf, emptyLine}
+use Rattle.model.specs.Lines.{l1dSetOf, l2Sets, upperHalf}
 use Rattle.model.specs.Records.{State, state, mode0, sramOf, l2SetsOf, l2SetOf, l2LineAt, freshL1dSet, freshL2Set}
 use Rattle.model.specs.Ways.{l1dWay, l2Way, inL1d, inL2, emptyL1d}
 use Rattle.model.specs.Homes.{writeOutL2, writebackL2, evictL2}
@@ -19,7 +20,7 @@ use Rattle.model.specs.Laws.{bool}
 use Rattle.agreement.proofs.Tables.{l1dStore, l2Store, fresh-line}
 use Rattle.agreement.proofs.Good.{l1d-hit, l2-hit, cache-whole}
 use Rattle.agreement.proofs.Tested.{legalL2-tells}
-use Rattle.agreement.proofs.Changes.{zero-length, zero-below, zero-above, smaller-bound, l2-fresh}
+use Rattle.agreement.proofs.Changes.{zero-length, zero-below, zero-above, smaller-bound, l1d-fresh, l2-fresh}
 use Rattle.two_runs.proofs.Areas.{Pairing, moved}
 use Rattle.two_runs.proofs.Held.{held-none}
 use Rattle.two_runs.proofs.Pair.{cond-both, Layout, Pair, Keeps, twin, lift}
@@ -135,12 +136,6 @@ module _ {P : Pairing} {g : Layout} where
       (l2SetsOf (flushL1d z .rec) * 4) (flushL1d z) (state (flushL1d z .rec) d m e) q₁)
       (flushL1d z′)
       (each-both (Pair P g) (λ k. writebackL1d (k / 2) (k % 2)) (λ k. writebackL1d-both (k / 2) (k % 2) (omega arith)) 256 z z′ q)
-
--- a fresh set holds nothing
-pub l1d-fresh : (w : ℕ) → getD (freshL1dSet .lines) w emptyLine ≡ emptyLine
-l1d-fresh zero = refl
-l1d-fresh (suc zero) = refl
-l1d-fresh (suc (suc w)) = refl
 
 -- the layout of another mode
 abbrev pub inMode : Layout → ℕ → Layout

@@ -106,8 +106,8 @@ pub record SameButOneByte (x : ℕ) (z z′ : State) : Type 0 where
   pub extBytes : Bytes (z .ext)
   pub extBytes′ : Bytes (z′ .ext)
 
--- ---- "they differ afterwards in no byte of any answer, ..": its value is 8 bytes, little-endian, beside what is handed
--- back
+-- ---- "they differ afterwards in no byte of any answer, ..": its value is 8 bytes, little-endian, beside what is
+-- handed back
 pub record SameAnswerBut (x : ℕ) (c : Call) (y y′ : Reply) : Type 0 where
   pub value : SameBytesBut (ValueFor c x) (littleBytes (y .value) 8) (littleBytes (y′ .value) 8)
   pub handedBack : SameBytesBut (HandedBackFor c x) (y .bytes) (y′ .bytes)
