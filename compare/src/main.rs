@@ -9,6 +9,7 @@ mod plant;
 mod report;
 mod sections;
 mod shrink;
+mod two_runs;
 mod writing;
 
 use std::panic;
@@ -31,7 +32,7 @@ compare: the calls of the boundary against the reference model
   --seed S             the seed of all that is random (default 640101)
   --bench-trace PATH   the program bench-trace, to be compared as well
   --section NAME       only this section: records, lists, traces, refusals, views,
-                       short-runs, writing
+                       short-runs, writing, two-runs
   --group K            only group K of that section
   --input K            nothing but input K of bench-trace
   --now PATH           a file that says which group is being run
@@ -178,6 +179,11 @@ fn run(arguments: &Arguments) -> Result<bool, String> {
         "commands written: {}, refused with 11: {}, with 16: {}",
         met.puts[0], met.puts[1], met.puts[2]
     );
+    println!(
+        "pairs of calls that differ in data: {}, in one byte: {}; of these, answers that differ in \
+         it: {}, held lines: {}",
+        met.two_runs.data, met.two_runs.one_byte, met.two_runs.parted, met.two_runs.held
+    );
     let faults = met.possible_faults();
     println!(
         "ill-formed records made: {}; of each fault in each mode: {} at least",
@@ -307,6 +313,7 @@ fn met_everything(met: &Met) -> bool {
         && met.untouched > 10_000
         && met.written_back > 500
         && met.puts.iter().all(|&count| count > 1_000)
+        && met.two_runs.all().iter().all(|&count| count > 500)
         && met.long_runs > 0
         && met.short_runs == 4_681
         && met.externals.iter().all(|&count| count > 0)

@@ -76,6 +76,7 @@ pub struct Met {
     pub numbers: [u64; 19],
     /// Commands that were written, and those refused with 11 and with 16.
     pub puts: [u64; 3],
+    pub two_runs: TwoRuns,
     pub servers: [u64; 5],
     pub modes: [u64; 8],
     /// Accesses to each MAR range with the bit 0 and with the bit 1.
@@ -99,6 +100,23 @@ pub struct Met {
     pub externals: [u64; 5],
     /// Records made, by fault and by mode; those of no legal mode stand last.
     pub faults: [[u64; 6]; 25],
+}
+
+/// What was met in two runs of one list.
+#[derive(Clone, Default, Debug)]
+pub struct TwoRuns {
+    /// Pairs of calls of runs that differ in data, and in one byte.
+    pub data: u64,
+    pub one_byte: u64,
+    /// Answers, and valid lines after a call, that do differ in that byte.
+    pub parted: u64,
+    pub held: u64,
+}
+
+impl TwoRuns {
+    pub fn all(&self) -> [u64; 4] {
+        [self.data, self.one_byte, self.parted, self.held]
+    }
 }
 
 impl Met {

@@ -7,7 +7,7 @@ use std::process::{ExitStatus, Output};
 use std::sync::OnceLock;
 
 use oracle::flat::Flat;
-use oracle::geometry::L1d;
+use oracle::geometry::{external_offset, sram_size, L1d, EXTERNAL_BASE, L2};
 use oracle::machine::{SERVER_L1D, SERVER_L2};
 use oracle::trace::ANSWER_BYTES;
 use oracle::writer::Put;
@@ -61,6 +61,15 @@ enum Plant {
     PutOrder,
     PutRun,
     PutAgain,
+    DataNumber,
+    DataServer,
+    DataVictim,
+    ValueBehind,
+    ViewNeighbour,
+    FillNeighbour,
+    FetchNeighbour,
+    SramLeftover,
+    ExternalLeftover,
     BenchOutput,
     BenchStatus,
 }
@@ -76,7 +85,7 @@ const fn planted(plant: Plant, name: &'static str, about: &'static str) -> Plant
     Planted { plant, name, about }
 }
 
-pub const PLANTS: [Planted; 44] = [
+pub const PLANTS: [Planted; 53] = [
     planted(Plant::ReadValue, "read-value", "a 4-byte read from L2 cache gets 1 more"),
     planted(Plant::ReadOrder, "read-order", "a read hit in L1D turns its set's order around"),
     planted(Plant::WriteNumber, "write-number", "a write refused with 6 gets 5"),
@@ -119,6 +128,15 @@ pub const PLANTS: [Planted; 44] = [
     planted(Plant::PutOrder, "put-order", "16 comes before 11 where no byte is left"),
     planted(Plant::PutRun, "put-run", "a run over two commands put has one answer more"),
     planted(Plant::PutAgain, "put-again", "a trace that ends in 09 is another written again"),
+    planted(Plant::DataNumber, "data-number", "one of two runs: a write of an odd value gets 6"),
+    planted(Plant::DataServer, "data-server", "..: a read of an odd value has another server"),
+    planted(Plant::DataVictim, "data-victim", "..: a read of an odd value turns an order around"),
+    planted(Plant::ValueBehind, "value-behind", "..: a 1-byte read answers the next byte too"),
+    planted(Plant::ViewNeighbour, "view-neighbour", "..: a view shows the line beside it"),
+    planted(Plant::FillNeighbour, "fill-neighbour", "..: L1D is filled with the line beside it"),
+    planted(Plant::FetchNeighbour, "fetch-neighbour", "..: L2 fetches the line beside it"),
+    planted(Plant::SramLeftover, "sram-leftover", "..: what L1D drops goes into SRAM's sum"),
+    planted(Plant::ExternalLeftover, "external-leftover", "..: a mode change sums up L1D's bytes"),
     planted(Plant::BenchOutput, "bench-output", "bench-trace prints a line more after an 8"),
     planted(Plant::BenchStatus, "bench-status", "bench-trace fails after a 7"),
 ];
@@ -243,6 +261,66 @@ pub fn view(number: &mut u8, seen: &mut [u8], record: &mut CRecord) {
 pub fn view_number(number: &mut u8) {
     if CHOSEN.get() == Some(&Plant::ViewNumberAlone) && *number == 5 {
         *number = 4;
+    }
+}
+
+/// What a call of one of two runs gave back, and the record and the memories after
+/// it: data has steered it.
+pub fn steered(command: &Command, called: &mut CAnswer, record: &mut CRecord, lent: Lent) {
+    let Some(plant) = CHOSEN.get() else { return };
+    if called.number != 0 {
+        return;
+    }
+    let sum = |bytes: &[u8]| bytes.iter().fold(0, |sum, byte| sum ^ byte);
+    match (plant, *command) {
+        (Plant::DataNumber, Command::Write { value, .. }) if value % 2 == 1 => called.number = 6,
+        (Plant::DataServer, Command::Read { .. }) if called.value % 2 == 1 => {
+            called.server = 5 - called.server;
+        }
+        (Plant::DataVictim, Command::Read { address, .. }) if called.value % 2 == 1 => {
+            record.l1d[L1d::set_of(address)].order.swap(0, 1);
+        }
+        (Plant::ValueBehind, Command::Read { size: 1, address }) if address >= EXTERNAL_BASE => {
+            let behind = lent.ext.get(external_offset(address) + 1);
+            called.value |= u64::from(behind.copied().unwrap_or(0)) << 8;
+        }
+        (Plant::FillNeighbour, Command::Read { address, .. }) if called.server != SERVER_L1D => {
+            let line = L1d::line_address(address);
+            let set = L1d::set_of(address);
+            for (way, held) in record.l1d[set].lines.iter().enumerate() {
+                if held.valid == 1 && held.address == line && line >= EXTERNAL_BASE {
+                    let from = external_offset(line ^ L1d::LINE);
+                    let to = L1d::offset(set, way);
+                    lent.l1d[to..to + 64].copy_from_slice(&lent.ext[from..from + 64]);
+                }
+            }
+        }
+        (Plant::FetchNeighbour, Command::Read { address, .. }) if called.server == 4 => {
+            let line = L2::line_address(address);
+            let mode = record.mode.into();
+            let Some(set) = L2::set_of(mode, address) else { return };
+            for (way, held) in record.l2[set].lines.iter().enumerate() {
+                let from = external_offset(line ^ L2::LINE);
+                if held.valid == 1 && held.address == line && from + 128 <= lent.ext.len() {
+                    let to = L2::offset(sram_size(record.l2len, mode), L2::sets(mode), set, way);
+                    lent.l2[to..to + 128].copy_from_slice(&lent.ext[from..from + 128]);
+                }
+            }
+        }
+        (Plant::SramLeftover, Command::L1dInvalidateAll) => lent.l2[0] ^= sum(lent.l1d),
+        (Plant::ExternalLeftover, Command::Mode { .. }) => {
+            lent.ext[0] ^= sum(lent.l1d);
+        }
+        _ => {}
+    }
+}
+
+/// What a view in one of two runs showed.
+pub fn steered_view(address: u32, number: u8, seen: &mut [u8], ext: &[u8]) {
+    let planted = CHOSEN.get() == Some(&Plant::ViewNeighbour);
+    if planted && number == 0 && address >= EXTERNAL_BASE {
+        let from = external_offset(address ^ L1d::LINE);
+        seen.copy_from_slice(&ext[from..from + 64]);
     }
 }
 

@@ -57,16 +57,22 @@ pub fn report(case: &Case) {
 }
 
 fn report_record(record: &Record) {
-    println!(
+    println!("{}", record_words(record));
+}
+
+/// A record: its numbers, and the sets that are not fresh.
+pub fn record_words(record: &Record) -> String {
+    let mut words = format!(
         "record: L {} E {} mode {} MAR {} {}",
         record.l, record.e, record.mode, record.mar128, record.mar129
     );
     for (set, held) in record.l1d.iter().enumerate().filter(|(_, set)| **set != L1dSet::FRESH) {
-        println!("  L1D set {set}: {}", set_words(&held.lines, &held.order));
+        words += &format!("\n  L1D set {set}: {}", set_words(&held.lines, &held.order));
     }
     for (set, held) in record.l2.iter().enumerate().filter(|(_, set)| **set != L2Set::FRESH) {
-        println!("  L2 set {set}: {}", set_words(&held.lines, &held.order));
+        words += &format!("\n  L2 set {set}: {}", set_words(&held.lines, &held.order));
     }
+    words
 }
 
 /// The ways of a set that are not empty, and its order.
@@ -118,7 +124,7 @@ pub fn trace_words(trace: &[u8]) -> Vec<String> {
     words
 }
 
-fn command_words(command: &Command) -> String {
+pub fn command_words(command: &Command) -> String {
     let whole = format!("{command:?}");
     let name = whole.split(' ').next().unwrap_or_default();
     match *command {

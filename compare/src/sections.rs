@@ -1,4 +1,4 @@
-//! What is compared: seven sections, each made of groups, each group of a few
+//! What is compared: eight sections, each made of groups, each group of a few
 //! lists of calls. A group is known by its section and number, and equal seeds
 //! give equal groups.
 
@@ -14,6 +14,7 @@ use oracle::{Command, Line, Record};
 
 use crate::pair::{compare, Met, OddByte, OddPlace, Op, Start};
 use crate::shrink::Case;
+use crate::two_runs;
 use crate::writing;
 
 /// A section: its name, its share of the calls in parts of 100, how many groups
@@ -33,7 +34,7 @@ pub enum Group {
     Words(fn(&mut Rng, u64, &mut Met) -> Option<String>),
 }
 
-pub const SECTIONS: [Section; 7] = [
+pub const SECTIONS: [Section; 8] = [
     Section {
         name: "records",
         share: 40,
@@ -84,6 +85,13 @@ pub const SECTIONS: [Section; 7] = [
         about: "commands written into outputs, and read back",
         group: Group::Words(writing::group),
     },
+    Section {
+        name: "two-runs",
+        share: 20,
+        groups: 0,
+        about: "two runs that differ in data, or in one byte, set against each other",
+        group: Group::Words(two_runs::group),
+    },
 ];
 
 /// Compares a list; a difference makes it a case.
@@ -99,7 +107,7 @@ fn plain(rng: &mut Rng, setup: Setup) -> Start {
 
 /// C's record has a byte for the mode and for each MAR bit. A larger number of
 /// the generators becomes 255, which is as little a mode or a bit.
-fn in_bytes(mut record: Box<Record>) -> Box<Record> {
+pub fn in_bytes(mut record: Box<Record>) -> Box<Record> {
     record.mode = record.mode.min(255);
     record.mar128 = record.mar128.min(255);
     record.mar129 = record.mar129.min(255);

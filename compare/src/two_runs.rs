@@ -1,0 +1,598 @@
+//! The section `two-runs`: one list of single calls, made twice through the
+//! boundary, and the two runs set against each other (02, U8). The reference
+//! model has no part in it but to draw records and calls.
+//!
+//! "two runs that differ only in stored or written data, with each written value
+//! fitting its size in both, share all refusals, servers, counts and the record.
+//! Where they differ only in one byte of external memory at the start, ... they
+//! differ afterwards in no byte of any answer, of external memory, of SRAM or of
+//! a valid line that doesn't stand for that address."
+
+use std::panic::{catch_unwind, AssertUnwindSafe};
+
+use oracle::gen::{
+    command, hot_for, ill_formed_record, l_for, look_address, make_length_wrong,
+    well_formed_record_in_mode, Hot, Mix, Rng, Setup, E_BOTH_RANGES, FAULTS, LEGAL_MODES,
+    WRONG_LENGTHS,
+};
+use oracle::geometry::{external_offset, sram_size, L1d, EXTERNAL_BASE, L1D_BYTES, L2};
+use oracle::record::{L1dSet, L2Set, Line, Record};
+use oracle::Command;
+
+use crate::boundary::{self, record_difference, record_of, CAnswer, CLine, Held, Lent};
+use crate::now;
+use crate::pair::Met;
+use crate::plant;
+use crate::report::{command_words, left, record_words};
+use crate::sections::in_bytes;
+use crate::shrink::Size;
+
+/// A single call: trace runs and U7's writer are left out. Of a write, the value
+/// that the second run writes.
+#[derive(Clone, PartialEq, Eq)]
+enum Step {
+    Fresh,
+    Direct { command: Command, other: u64 },
+    View { address: u32 },
+}
+
+/// What the two runs differ in.
+#[derive(Clone, Copy, PartialEq, Eq)]
+enum Differ {
+    /// In data: the bytes that are lent to the second run are drawn from this
+    /// seed, and its writes have values of their own.
+    Data { filling: u64 },
+    /// In one byte of external memory at the start, which is so much more in the
+    /// second run.
+    OneByte { offset: usize, more: u8 },
+}
+
+#[derive(Clone, PartialEq, Eq)]
+struct Case {
+    record: Box<Record>,
+    /// The lengths of L1D, L2 and external memory.
+    lengths: [usize; 3],
+    /// The seed of the bytes that are lent to the first run; 0 for bytes that are 0.
+    filling: u64,
+    differ: Differ,
+    steps: Vec<Step>,
+}
+
+/// What is wrong, and in words. A case that is made smaller keeps its kind.
+#[derive(Clone, Copy, PartialEq, Eq)]
+enum Kind {
+    Number,
+    Server,
+    Record,
+    Value,
+    Viewed,
+    External,
+    Sram,
+    L1dLine,
+    L2Line,
+    Panic,
+}
+
+struct Wrong {
+    kind: Kind,
+    what: String,
+}
+
+/// How many cases a group has.
+const CASES: u64 = 4;
+
+/// Runs one group; a difference, made small and in words.
+pub fn group(rng: &mut Rng, group: u64, met: &mut Met) -> Option<String> {
+    for turn in group * CASES..(group + 1) * CASES {
+        let case = some_case(rng, turn);
+        let mut reached = 0;
+        if let Some(wrong) = check(&case, met, &mut reached) {
+            return Some(words(&smallest(case, wrong, reached)));
+        }
+    }
+    None
+}
+
+// ------------------------------------------------------------------ cases
+
+/// A case: every mode in turn, data and one byte in turn; from a fresh start, from
+/// an ill-formed record or wrong lengths now and then, mostly from any record.
+fn some_case(rng: &mut Rng, turn: u64) -> Case {
+    let mode = LEGAL_MODES[turn as usize % LEGAL_MODES.len()];
+    let l = l_for(rng, mode);
+    let large = turn % 128 == 127;
+    let e = if large {
+        E_BOTH_RANGES
+    } else {
+        rng.pick(&[128, 256, 1_024, 8_192, 65_536, 65_536, 131_072, 6 * 65_536])
+    };
+    let mut setup = Setup {
+        record: well_formed_record_in_mode(rng, l, e, mode),
+        l1d: vec![0; L1D_BYTES],
+        l2: vec![0; l as usize],
+        ext: vec![0; e as usize],
+    };
+    let mut lines = hot_for(rng, &setup.record);
+    let differ = if turn / 5 % 2 == 0 {
+        Differ::Data { filling: rng.next_u64() }
+    } else {
+        Differ::OneByte { offset: some_offset(rng, &mut lines), more: 1 + rng.below(255) as u8 }
+    };
+    let mut steps = Vec::new();
+    match rng.below(16) {
+        0..=3 => {
+            let mar = |number| Command::Mar { number, bit: 1 };
+            let begin = [mar(128), mar(129), Command::Mode { mode }];
+            steps.push(Step::Fresh);
+            steps.extend(begin.map(|command| Step::Direct { command, other: 0 }));
+        }
+        4 => {
+            let fault = rng.pick(&FAULTS);
+            if let Some(record) = ill_formed_record(rng, l, e, mode, fault) {
+                setup.record = in_bytes(record);
+            }
+        }
+        5 => {
+            let wrong = rng.pick(&WRONG_LENGTHS);
+            make_length_wrong(rng, &mut setup, wrong);
+        }
+        _ => {}
+    }
+    for _ in 0..if large { 30 } else { 20 + rng.below(150) } {
+        steps.push(some_step(rng, &lines, &differ));
+    }
+    let lengths = [setup.l1d.len(), setup.l2.len(), setup.ext.len()];
+    Case { record: setup.record, lengths, filling: rng.next_u64(), differ, steps }
+}
+
+/// A byte of external memory in a line that calls come back to; from here on they
+/// do so more often.
+fn some_offset(rng: &mut Rng, lines: &mut Hot) -> usize {
+    let external: Vec<u32> =
+        lines.lines.iter().copied().filter(|&line| line >= EXTERNAL_BASE).collect();
+    let line = if external.is_empty() { EXTERNAL_BASE } else { rng.pick(&external) };
+    let offset = external_offset(line).min(lines.e as usize - 64) + rng.below(64) as usize;
+    for _ in 0..lines.lines.len() {
+        lines.lines.push(line ^ rng.pick(&[0, 0, 64]));
+    }
+    offset
+}
+
+fn some_step(rng: &mut Rng, lines: &Hot, differ: &Differ) -> Step {
+    match rng.below(200) {
+        0 => Step::Fresh,
+        1..=16 => Step::View { address: look_address(rng, lines) },
+        _ => {
+            // A byte that is written is soon the same in both runs.
+            let mix = match differ {
+                Differ::Data { .. } => Mix::ALL,
+                Differ::OneByte { .. } => Mix { write: 40, ..Mix::ALL },
+            };
+            let command = command(rng, lines, &mix);
+            let other = match (command, differ) {
+                (Command::Write { size, value, .. }, Differ::Data { .. }) => {
+                    other_value(rng, size, value)
+                }
+                (Command::Write { value, .. }, Differ::OneByte { .. }) => value,
+                _ => 0,
+            };
+            Step::Direct { command, other }
+        }
+    }
+}
+
+/// Another value, which fits its size if the first one does: that both fail to fit
+/// is asked too.
+fn other_value(rng: &mut Rng, size: u32, value: u64) -> u64 {
+    let bound = match size {
+        1 | 2 | 4 => 1u64 << (8 * size),
+        _ => return rng.next_u64(),
+    };
+    if value < bound {
+        rng.next_u64() % bound
+    } else {
+        bound + rng.next_u64() % (u64::MAX - bound)
+    }
+}
+
+// ------------------------------------------------------------- comparison
+
+/// One of the two runs.
+struct Run {
+    record: Box<Held>,
+    l1d: Vec<u8>,
+    l2: Vec<u8>,
+    ext: Vec<u8>,
+}
+
+/// What a call answered: number, server and value, and what a view shows.
+struct Said {
+    answer: CAnswer,
+    seen: [u8; L1d::LINE as usize],
+}
+
+impl Run {
+    fn new(case: &Case, filling: u64) -> Run {
+        let mut rng = Rng::new(filling);
+        let mut memory = |length: usize| {
+            let mut bytes = vec![0; length];
+            if filling != 0 {
+                rng.fill(&mut bytes);
+            }
+            bytes
+        };
+        let [l1d, l2, ext] = case.lengths.map(&mut memory);
+        Run { record: Held::new(&record_of(&case.record)), l1d, l2, ext }
+    }
+
+    fn step(&mut self, step: &Step, second: bool) -> Said {
+        let mut seen = [0; L1d::LINE as usize];
+        let none = CAnswer { value: 0, number: 0, server: 0 };
+        let lent = Lent { l1d: &mut self.l1d, l2: &mut self.l2, ext: &mut self.ext };
+        let answer = match step {
+            Step::Fresh => boundary::fresh(&mut self.record, lent),
+            Step::Direct { command, other } => {
+                let command = match *command {
+                    Command::Write { size, address, .. } if second => {
+                        Command::Write { size, address, value: *other }
+                    }
+                    command => command,
+                };
+                let mut answer = boundary::direct(&mut self.record, &command, lent);
+                let lent = Lent { l1d: &mut self.l1d, l2: &mut self.l2, ext: &mut self.ext };
+                plant::steered(&command, &mut answer, &mut self.record, lent);
+                answer
+            }
+            Step::View { address } => {
+                let number = boundary::view(&self.record, *address, &self.l2, &self.ext, &mut seen);
+                plant::steered_view(*address, number, &mut seen, &self.ext);
+                CAnswer { number, ..none }
+            }
+        };
+        Said { answer, seen }
+    }
+}
+
+/// The first thing that is wrong with a case; a panic is wrong too. `reached` is
+/// the number of the present call.
+fn check(case: &Case, met: &mut Met, reached: &mut usize) -> Option<Wrong> {
+    match catch_unwind(AssertUnwindSafe(|| compare(case, met, reached))) {
+        Ok(Ok(())) => None,
+        Ok(Err(wrong)) => Some(wrong),
+        Err(_) => Some(Wrong { kind: Kind::Panic, what: now::last_panic() }),
+    }
+}
+
+fn compare(case: &Case, met: &mut Met, reached: &mut usize) -> Result<(), Wrong> {
+    let mut one = Run::new(case, case.filling);
+    let mut other = match case.differ {
+        Differ::Data { filling } => Run::new(case, filling),
+        Differ::OneByte { offset, more } => {
+            let mut other = Run::new(case, case.filling);
+            // A memory of the wrong length may lack the byte.
+            if let Some(byte) = other.ext.get_mut(offset) {
+                *byte = byte.wrapping_add(more);
+            }
+            other
+        }
+    };
+    for (place, step) in case.steps.iter().enumerate() {
+        *reached = place;
+        let (said, other_said) = (one.step(step, false), other.step(step, true));
+        met.calls += 2;
+        shared(&one, &said, &other, &other_said)?;
+        match case.differ {
+            Differ::Data { .. } => met.two_runs.data += 1,
+            Differ::OneByte { offset, .. } => {
+                met.two_runs.one_byte += 1;
+                let parted =
+                    said.answer.value != other_said.answer.value || said.seen != other_said.seen;
+                met.two_runs.parted += u64::from(parted);
+                same_answer_but(EXTERNAL_BASE + offset as u32, step, &said, &other_said)?;
+                same_state_but(offset, &one, &other, met)?;
+            }
+        }
+    }
+    Ok(())
+}
+
+fn expect(kind: Kind, same: bool, what: impl FnOnce() -> String) -> Result<(), Wrong> {
+    if same {
+        Ok(())
+    } else {
+        Err(Wrong { kind, what: what() })
+    }
+}
+
+/// "share all refusals, servers, counts and the record"
+fn shared(one: &Run, said: &Said, other: &Run, other_said: &Said) -> Result<(), Wrong> {
+    let (ours, theirs) = (said.answer, other_said.answer);
+    expect(Kind::Number, ours.number == theirs.number, || {
+        format!("the number is {} in one run, {} in the other", ours.number, theirs.number)
+    })?;
+    expect(Kind::Server, ours.server == theirs.server, || {
+        format!("the server is {} in one run, {} in the other", ours.server, theirs.server)
+    })?;
+    expect(Kind::Record, **one.record == **other.record, || {
+        format!("the records differ: {}", record_difference(&one.record, &other.record))
+    })
+}
+
+/// Where two stretches of bytes differ in one that does not stand for address x;
+/// the first byte stands for `from`. A byte that stands for no address may not
+/// differ either: `from` is `None`.
+fn differs(one: &[u8], other: &[u8], from: Option<u32>, x: u32) -> Option<usize> {
+    if one == other {
+        return None;
+    }
+    let stands = |place: usize| from.is_some_and(|from| u64::from(from) + place as u64 == x.into());
+    one.iter().zip(other).enumerate().position(|(place, (a, b))| a != b && !stands(place))
+}
+
+/// "in no byte of any answer ... that doesn't stand for that address": byte k of
+/// what a read of n bytes at a answers stands for a + k, for k below n; byte k of
+/// what a view of the line at a shows for a + k.
+fn same_answer_but(x: u32, step: &Step, said: &Said, other: &Said) -> Result<(), Wrong> {
+    let (ours, theirs) = (said.answer.value.to_le_bytes(), other.answer.value.to_le_bytes());
+    let (read, rest) = match *step {
+        Step::Direct { command: Command::Read { size, address }, .. } => {
+            let size = size.min(8) as usize;
+            (differs(&ours[..size], &theirs[..size], Some(address), x), size)
+        }
+        _ => (None, 0),
+    };
+    let behind = differs(&ours[rest..], &theirs[rest..], None, x).map(|place| rest + place);
+    if let Some(place) = read.or(behind) {
+        let (ours, theirs) = (said.answer.value, other.answer.value);
+        let what = format!("byte {place} of the value is another: {ours:#x} and {theirs:#x}");
+        return Err(Wrong { kind: Kind::Value, what });
+    }
+    let from = match *step {
+        Step::View { address } => Some(address),
+        _ => None,
+    };
+    let seen = differs(&said.seen, &other.seen, from, x);
+    expect(Kind::Viewed, seen.is_none(), || {
+        let place = seen.unwrap_or_default();
+        let (ours, theirs) = (said.seen[place], other.seen[place]);
+        format!("byte {place} of the view is another: {ours:#04x} and {theirs:#04x}")
+    })
+}
+
+/// "in no byte ... of external memory, of SRAM or of a valid line that doesn't stand
+/// for that address". Bytes of L1D and L2 that are in no valid line may differ.
+fn same_state_but(offset: usize, one: &Run, other: &Run, met: &mut Met) -> Result<(), Wrong> {
+    let x = EXTERNAL_BASE + offset as u32;
+    let found = |kind, name: String, place: Option<usize>| {
+        expect(kind, place.is_none(), || {
+            format!("byte {} of {name} is another", place.unwrap_or_default())
+        })
+    };
+    let place = differs(&one.ext, &other.ext, Some(EXTERNAL_BASE), x);
+    found(Kind::External, "external memory".into(), place)?;
+    let record = &one.record;
+    let sram = sram_size(record.l2len, record.mode.into()) as usize;
+    let (ours, theirs) = (one.l2.get(..sram), other.l2.get(..sram));
+    let place = differs(ours.unwrap_or(&one.l2), theirs.unwrap_or(&other.l2), None, x);
+    found(Kind::Sram, "SRAM".into(), place)?;
+    let mut line = |kind, cache: &str, line: &CLine, from: usize, bytes: (&[u8], &[u8])| {
+        let length = if kind == Kind::L1dLine { L1d::LINE } else { L2::LINE } as usize;
+        // An ill-formed record may place a line outside its memory.
+        let parts = (bytes.0.get(from..from + length), bytes.1.get(from..from + length));
+        let (true, (Some(ours), Some(theirs))) = (line.valid == 1, parts) else { return Ok(()) };
+        met.two_runs.held += u64::from(ours != theirs);
+        let place = differs(ours, theirs, Some(line.address), x);
+        found(kind, format!("the {cache} line at {:#x}", line.address), place)
+    };
+    for (set, held) in record.l1d.iter().enumerate() {
+        for (way, at) in held.lines.iter().enumerate() {
+            line(Kind::L1dLine, "L1D", at, L1d::offset(set, way), (&one.l1d, &other.l1d))?;
+        }
+    }
+    let sets = L2::sets(record.mode.into());
+    for (set, held) in record.l2.iter().enumerate() {
+        for (way, at) in held.lines.iter().enumerate() {
+            let from = L2::offset(sram as u32, sets, set, way);
+            line(Kind::L2Line, "L2", at, from, (&one.l2, &other.l2))?;
+        }
+    }
+    Ok(())
+}
+
+// ---------------------------------------------------------------- smaller
+
+/// How many smaller cases are tried at most.
+const TRIES: usize = 4_000;
+
+struct Found {
+    case: Case,
+    wrong: Wrong,
+    /// The call after which it was seen, which is the last one.
+    tries: usize,
+}
+
+impl Found {
+    /// Whether the same kind of thing is wrong with this case; if so it is taken,
+    /// up to the call after which it is seen.
+    fn take(&mut self, mut case: Case) -> bool {
+        if self.tries >= TRIES || case == self.case {
+            return false;
+        }
+        self.tries += 1;
+        let mut reached = 0;
+        match check(&case, &mut Met::default(), &mut reached) {
+            Some(wrong) if wrong.kind == self.wrong.kind => {
+                case.steps.truncate(reached + 1);
+                (self.case, self.wrong) = (case, wrong);
+                true
+            }
+            _ => false,
+        }
+    }
+
+    /// Tries the case with something changed in it.
+    fn change(&mut self, change: impl FnOnce(&mut Case)) -> bool {
+        let mut case = self.case.clone();
+        change(&mut case);
+        self.take(case)
+    }
+}
+
+fn smallest(mut case: Case, wrong: Wrong, reached: usize) -> Found {
+    // Nothing after the difference matters.
+    case.steps.truncate(reached + 1);
+    let mut found = Found { case, wrong, tries: 0 };
+    loop {
+        let before = found.case.clone();
+        found.change(|case| case.filling = 0);
+        fewer_steps(&mut found);
+        same_values(&mut found);
+        fewer_lines(&mut found);
+        if found.case == before || found.tries >= TRIES {
+            return found;
+        }
+    }
+}
+
+fn fewer_steps(found: &mut Found) {
+    let mut length = found.case.steps.len().div_ceil(2);
+    while length > 0 {
+        let mut from = 0;
+        while from < found.case.steps.len() {
+            let to = (from + length).min(found.case.steps.len());
+            if !found.change(|case| drop(case.steps.drain(from..to))) {
+                from += length;
+            }
+        }
+        length /= 2;
+    }
+}
+
+/// Lets writes have the same value in both runs.
+fn same_values(found: &mut Found) {
+    for place in 0..found.case.steps.len() {
+        found.change(|case| {
+            if let Some(Step::Direct { command: Command::Write { value, .. }, other }) =
+                case.steps.get_mut(place)
+            {
+                *other = *value;
+            }
+        });
+    }
+}
+
+/// Makes sets of the record fresh, many at once first, then single ways empty.
+fn fewer_lines(found: &mut Found) {
+    let mut length = 256;
+    while length > 0 {
+        for from in (0..L1d::SETS + L2::SETS_HELD).step_by(length) {
+            found.change(|case| {
+                let record = &mut case.record;
+                for set in from..(from + length).min(L1d::SETS + L2::SETS_HELD) {
+                    match set.checked_sub(L1d::SETS) {
+                        Some(set) => record.l2[set] = L2Set::FRESH,
+                        None => record.l1d[set] = L1dSet::FRESH,
+                    }
+                }
+            });
+        }
+        length /= 4;
+    }
+    for set in 0..L1d::SETS {
+        for way in 0..L1d::WAYS {
+            found.change(|case| case.record.l1d[set].lines[way] = Line::EMPTY);
+        }
+    }
+    for set in 0..L2::SETS_HELD {
+        for way in 0..L2::WAYS {
+            found.change(|case| case.record.l2[set].lines[way] = Line::EMPTY);
+        }
+    }
+}
+
+fn words(found: &Found) -> String {
+    let Case { record, lengths: [l1d, l2, ext], filling, differ, steps } = &found.case;
+    let ways = record.l1d.iter().flat_map(|set| set.lines);
+    let ways = ways.chain(record.l2.iter().flat_map(|set| set.lines));
+    let lines = ways.filter(|line| *line != Line::EMPTY).count();
+    let size = Size { calls: steps.len(), lines, ..Size::default() };
+    let filled = if *filling == 0 { "all 0" } else { "random" };
+    let differ = match differ {
+        Differ::Data { .. } => "in the other run random, and other values are written".into(),
+        Differ::OneByte { offset, more } => {
+            format!("in the other run external byte {offset} ({offset:#x}) is {more:#04x} more")
+        }
+    };
+    let mut text = format!(
+        "{}\nmemories: L1D {l1d} L2 {l2} external {ext} bytes\n  bytes: {filled}; {differ}\n{}",
+        left(&size),
+        record_words(record)
+    );
+    for (place, step) in steps.iter().enumerate() {
+        text += &match step {
+            Step::Fresh => format!("\n{place}: fresh start"),
+            Step::View { address } => format!("\n{place}: view of {address:#x}"),
+            Step::Direct { command, other } => match command {
+                Command::Write { .. } => {
+                    format!("\n{place}: {}, other value {other:#x}", command_words(command))
+                }
+                _ => format!("\n{place}: {}", command_words(command)),
+            },
+        };
+    }
+    text + &format!("\nafter call {}: {}", steps.len() - 1, found.wrong.what)
+}
+
+#[cfg(test)]
+mod tests {
+    use super::{check, differs, other_value, Case, Differ, Step};
+    use crate::pair::Met;
+    use oracle::gen::Rng;
+    use oracle::geometry::EXTERNAL_BASE;
+    use oracle::{Command, Record};
+
+    #[test]
+    fn a_byte_that_stands_for_the_address_may_differ() {
+        let (one, other) = ([1, 2, 3], [1, 9, 3]);
+        assert_eq!(differs(&one, &other, Some(100), 101), None);
+        assert_eq!(differs(&one, &other, Some(100), 100), Some(1));
+        assert_eq!(differs(&one, &other, None, 101), Some(1));
+        assert_eq!(differs(&one, &one, None, 101), None);
+    }
+
+    #[test]
+    fn another_value_fits_where_the_first_one_does() {
+        let mut rng = Rng::new(1);
+        for _ in 0..1_000 {
+            assert!(other_value(&mut rng, 1, 255) < 256);
+            assert!(other_value(&mut rng, 1, 256) >= 256);
+            assert!(other_value(&mut rng, 4, 0) < 1 << 32);
+            assert!(other_value(&mut rng, 4, u64::MAX) >= 1 << 32);
+        }
+    }
+
+    /// A read of the byte differs, and so does its line; nothing else does, and what is
+    /// left once the line was dropped is not looked at.
+    #[test]
+    fn the_byte_itself_is_no_difference() {
+        let direct = |command| Step::Direct { command, other: 0 };
+        let read = Command::Read { size: 4, address: EXTERNAL_BASE };
+        let steps = vec![
+            direct(Command::Mar { number: 128, bit: 1 }),
+            direct(read),
+            Step::View { address: EXTERNAL_BASE },
+            direct(Command::L1dInvalidateAll),
+        ];
+        let case = Case {
+            record: Record::fresh(32_768, 128),
+            lengths: [16_384, 32_768, 128],
+            filling: 5,
+            differ: Differ::OneByte { offset: 2, more: 1 },
+            steps,
+        };
+        let mut met = Met::default();
+        assert!(check(&case, &mut met, &mut 0).is_none());
+        // The read, the view; the line after the read and after the view.
+        assert_eq!((met.two_runs.parted, met.two_runs.held), (2, 2));
+    }
+}
