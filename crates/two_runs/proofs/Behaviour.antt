@@ -15,7 +15,7 @@ use Rattle.model.specs.Refusals.{lentL1d, lentL2, lentExternal, lentDue, viewLe
 use Rattle.model.specs.Trace.{command}
 use Rattle.model.specs.Calls.{Reply, refused, carriedOut, step, call, freshOk, freshCall, viewDone, Call, oneCommand, freshStart, look, called}
 use Rattle.model.specs.Laws.{length-littleBytes}
-use Rattle.two_runs.specs.TwoRuns.{SameButStored, FitAlike, SameButWritten, commands, starts, looks, ListsSameButWritten, Shared, SharedAlong, SameBehaviour}
+use Rattle.two_runs.specs.TwoRuns.{SameButStored, FitAlike, SameButWritten, sameCommand, sameStart, sameLook, ListsSameButWritten, Shared, SharedAlong, SameBehaviour}
 use Rattle.two_runs.specs.TwoRuns as Says
 use Rattle.two_runs.proofs.Areas.{Pairing, Twins, Area}
 use Rattle.two_runs.proofs.Pair.{cond-both, Layout, layoutOf, Pair, one-record}
@@ -111,9 +111,9 @@ unfolding viewDone
 look-same z z′ s a = record { number = view-due z z′ s a; server = refl; next = s }
 
 called-same : (c c′ : Call) → SameButWritten c c′ → (z z′ : State) → SameButStored z z′ → Same (called c z) (called c′ z′)
-called-same (oneCommand c) (oneCommand c′) (commands {k} {a} {b} {v} {v′} f) z z′ s = command-same z z′ s k a b v v′ f
-called-same freshStart freshStart starts z z′ s = fresh-same z z′ s
-called-same (look a) (look a′) (looks {a = y}) z z′ s = look-same z z′ s y
+called-same (oneCommand c) (oneCommand c′) (sameCommand {k} {a} {b} {v} {v′} f) z z′ s = command-same z z′ s k a b v v′ f
+called-same freshStart freshStart sameStart z z′ s = fresh-same z z′ s
+called-same (look a) (look a′) (sameLook {a = y}) z z′ s = look-same z z′ s y
 
 pub same-behaviour : SameBehaviour
 same-behaviour z z′ s cs cs′ h = along h z z′ s

@@ -35,9 +35,9 @@ abbrev pub FitAlike : ℕ → ℕ → ℕ → Type 0
 FitAlike n v v′ = sizeOk n ≡ true → valueOk n v ≡ valueOk n v′
 
 pub data SameButWritten : Call → Call → Type 0 where
-  commands : {k a b v v′ : ℕ} → (k ≡ 1 → FitAlike a v v′) → SameButWritten (oneCommand (command k a b v)) (oneCommand (command k a b v′))
-  starts : SameButWritten freshStart freshStart
-  looks : {a : ℕ} → SameButWritten (look a) (look a)
+  sameCommand : {k a b v v′ : ℕ} → (k ≡ 1 → FitAlike a v v′) → SameButWritten (oneCommand (command k a b v)) (oneCommand (command k a b v′))
+  sameStart : SameButWritten freshStart freshStart
+  sameLook : {a : ℕ} → SameButWritten (look a) (look a)
 
 -- call by call along two lists, which so have the same length
 pub data ListsSameButWritten : List Call → List Call → Type 0 where
@@ -125,8 +125,8 @@ pub record SameStateBut (x : ℕ) (z z′ : State) : Type 0 where
       (k : ℕ) → k < l2LineLength → (LineFor (l2LineAt (z .rec) t v .address) x k → ⊥) →
       getD (z .l2) (l2Data (z .rec) t v + k) 0 ≡ getD (z′ .l2) (l2Data (z .rec) t v + k) 0
 
--- ---- at one place of the list, the same call in both; and at every place. The first sentence holds of these runs too,
--- and is said with it.
+-- ---- at one place of the list, and at every place: the same calls in both, so that "each in transfer's buffer" will
+-- be "the same in both" where there are transfers. The first sentence holds of these runs too, and is said with it.
 pub record SameBut (x : ℕ) (c : Call) (y y′ : Reply) : Type 0 where
   pub shared : Shared y y′
   pub answer : SameAnswerBut x c y y′
