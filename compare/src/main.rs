@@ -313,7 +313,7 @@ fn met_everything(met: &Met) -> bool {
         && met.untouched > 10_000
         && met.written_back > 500
         && met.puts.iter().all(|&count| count > 1_000)
-        && met.two_runs.all().iter().all(|&count| count > 100)
+        && met.two_runs.met_everything()
         && met.long_runs > 0
         && met.short_runs == 4_681
         && met.externals.iter().all(|&count| count > 0)

@@ -111,11 +111,19 @@ pub struct TwoRuns {
     /// Answers, and valid lines after a call, that do differ in that byte.
     pub parted: u64,
     pub held: u64,
+    /// Pairs of commands by their code, by their number, and by the mode after them.
+    pub codes: [u64; 12],
+    pub numbers: [u64; 11],
+    pub modes: [u64; 8],
 }
 
 impl TwoRuns {
-    pub fn all(&self) -> [u64; 4] {
-        [self.data, self.one_byte, self.parted, self.held]
+    /// Whether everything came up that should.
+    pub fn met_everything(&self) -> bool {
+        let counts = [self.data, self.one_byte, self.parted, self.held];
+        let modes = LEGAL_MODES.iter().map(|&mode| self.modes[mode as usize]);
+        counts.into_iter().chain(modes).all(|count| count > 100)
+            && self.codes.iter().chain(&self.numbers).all(|&count| count > 20)
     }
 }
 

@@ -11,7 +11,7 @@
 use std::panic::{catch_unwind, AssertUnwindSafe};
 
 use oracle::gen::{
-    command, hot_for, ill_formed_record, l_for, look_address, make_length_wrong,
+    code, command, hot_for, ill_formed_record, l_for, look_address, make_length_wrong,
     well_formed_record_in_mode, Hot, Mix, Rng, Setup, E_BOTH_RANGES, FAULTS, LEGAL_MODES,
     WRONG_LENGTHS,
 };
@@ -281,6 +281,12 @@ fn compare(case: &Case, met: &mut Met, reached: &mut usize) -> Result<(), Wrong>
         let (said, other_said) = (one.step(step, false), other.step(step, true));
         met.calls += 2;
         shared(&one, &said, &other, &other_said)?;
+        if let Step::Direct { command, .. } = step {
+            met.two_runs.codes[usize::from(code(command))] += 1;
+            met.two_runs.numbers[usize::from(said.answer.number)] += 1;
+            // An ill-formed record may have no mode at all.
+            met.two_runs.modes[usize::from(one.record.mode) % 8] += 1;
+        }
         match case.differ {
             Differ::Data { .. } => met.two_runs.data += 1,
             Differ::OneByte { offset, .. } => {
