@@ -10,7 +10,7 @@ use lib.Dec.{eqb}
 use borrow.Author.Tests.{eqb-true, eq-eqb}
 use Rattle.model.specs.Bytes.{littleBytes}
 use Rattle.model.specs.Memories.{l1dLength}
-use Rattle.model.specs.Records.{State, state, freshRecord, freshState}
+use Rattle.model.specs.Records.{State, withRecord, freshRecord, freshState}
 use Rattle.model.specs.Refusals.{lentL1d, lentL2, lentExternal, lentDue, viewLentDue, viewDue}
 use Rattle.model.specs.Trace.{command}
 use Rattle.model.specs.Calls.{Reply, refused, carriedOut, step, call, freshOk, freshCall, viewDone, Call, oneCommand, freshStart, look, called}
@@ -62,14 +62,14 @@ module _ (z z′ : State) (s : SameButStored z z′) where
 
   pub fresh-both : (C : Reply → Reply → Type 0) → C (carriedOut (freshState (length (z .l2)) (z .ext))) (carriedOut (freshState (length (z′ .l2)) (z′ .ext))) →
       (freshOk (z .l1d) (z .l2) (z .ext) ≡ false →
-      C (refused 1 (state (freshRecord 32768 128) (z .l1d) (z .l2) (z .ext))) (refused 1 (state (freshRecord 32768 128) (z′ .l1d) (z′ .l2) (z′ .ext)))) →
+      C (refused 1 (withRecord z (freshRecord 32768 128))) (refused 1 (withRecord z′ (freshRecord 32768 128)))) →
       C (freshCall (z .l1d) (z .l2) (z .ext)) (freshCall (z′ .l1d) (z′ .l2) (z′ .ext))
   unfolding freshCall
   fresh-both C start refusal =
       rw (← fresh-ok)
       (cond-both C (freshOk (z .l1d) (z .l2) (z .ext)) (carriedOut (freshState (length (z .l2)) (z .ext)))
-      (refused 1 (state (freshRecord 32768 128) (z .l1d) (z .l2) (z .ext))) (carriedOut (freshState (length (z′ .l2)) (z′ .ext)))
-      (refused 1 (state (freshRecord 32768 128) (z′ .l1d) (z′ .l2) (z′ .ext))) (λ _. start) refusal)
+      (refused 1 (withRecord z (freshRecord 32768 128))) (carriedOut (freshState (length (z′ .l2)) (z′ .ext)))
+      (refused 1 (withRecord z′ (freshRecord 32768 128))) (λ _. start) refusal)
 
   pub fresh-stored : SameButStored (freshState (length (z .l2)) (z .ext)) (freshState (length (z′ .l2)) (z′ .ext))
   unfolding freshState

@@ -12,7 +12,7 @@ use native.Mathlib.Omega.{arith}
 use Rattle.model.specs.Bytes.{stored, part}
 use Rattle.model.specs.Memories.{externalBase}
 use Rattle.model.specs.Lines.{l1dSetOf, l1dData, lineOf, l2Line, upperHalf}
-use Rattle.model.specs.Records.{State, state, l2SetOf, l2Data, l1dLineAt, l2LineAt, withL1dLine, withL2Line}
+use Rattle.model.specs.Records.{State, withRecord, withExternal, l2SetOf, l2Data, l1dLineAt, l2LineAt, withL1dLine, withL2Line}
 use Rattle.model.specs.Ways.{l1dWay, l2Way, inL1d, inL2, emptyL1d, emptyL2}
 use Rattle.model.specs.Homes.{homeIsL2, putMemory, putL2, putHome, takeHalf, takeHalves, writeOutL2, writebackL2, evictL2}
 use Rattle.model.specs.Access.{writebackL1d, evictL1d}
@@ -96,7 +96,7 @@ module _ {P : Pairing} {g : Layout} where
 
     -- ---- the line in slot t, v becomes clean or dirty
     l2-marked : (t v : ℕ) (c : Bool) → l2LineAt (z .rec) t v .valid ≡ true → let r = withL2Line (z .rec) t v (lineOf (l2LineAt (z .rec) t v .address) c) in
-        Pair P g (state r (z .l1d) (z .l2) (z .ext)) (state r d m e)
+        Pair P g (withRecord z r) (withRecord (twin z d m e) r)
     unfolding withL2Line
     l2-marked t v c k =
         let x = lineOf (l2LineAt (z .rec) t v .address) c in
@@ -145,7 +145,7 @@ module _ {P : Pairing} {g : Layout} where
       let z′ = twin z d m e in let x = l2LineAt (z .rec) t v in let r = withL2Line (z .rec) t v (lineOf (x .address) false) in
       let e₁ = stored (z .ext) (x .address - externalBase) (part (z .l2) (l2Data (z .rec) t v) 128) in
       let e₂ = stored e (x .address - externalBase) (part m (l2Data (z .rec) t v) 128) in
-      let y = state r (z .l1d) (z .l2) e₁ in let y′ = state r d m e₂ in
+      let y = withExternal (withRecord z r) e₁ in let y′ = withExternal (withRecord z′ r) e₂ in
       cond-both (Pair P g) (x .valid) (cond (x .dirty) y z) z (cond (x .dirty) y′ z′) z′
       (λ k. cond-both (Pair P g) (x .dirty) y z y′ z′
       (λ _. let o = q .l2 .placed t v k in

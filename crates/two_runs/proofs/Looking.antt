@@ -11,7 +11,7 @@ use lib.Dec.{ltb, eqb}
 use borrow.Author.Tests.{ltb-true, ltb-false, leb-true, eqb-true, lt-ltb, le-ltb}
 use Rattle.model.specs.Bytes.{part}
 use Rattle.model.specs.Memories.{externalBase, legalL2, legalExternal}
-use Rattle.model.specs.Records.{State, state, sramOf, wellFormed}
+use Rattle.model.specs.Records.{State, withL1d, sramOf, wellFormed}
 use Rattle.model.specs.Homes.{memoryPart}
 use Rattle.model.specs.Refusals.{lowestDue, unless, multipleOf, lentL2, lentExternal, viewLentDue, placeOk, viewDue}
 use Rattle.model.specs.Calls.{viewCall}
@@ -63,7 +63,7 @@ twins-but x a n bs bs′ t =
 
 module _ (x : ℕ) (z : State) (d m e : List ℕ) (h : Along x z (twin z d m e)) (a : ℕ) where
   look-accepted : viewDue (z .rec) (z .l2) (z .ext) a ≡ 0 →
-      SameBytesBut (LineFor a x) (memoryPart a 64 (state (z .rec) [] (z .l2) (z .ext))) (memoryPart a 64 (state (z .rec) [] m e))
+      SameBytesBut (LineFor a x) (memoryPart a 64 (withL1d z [])) (memoryPart a 64 (withL1d (twin z d m e) []))
   unfolding memoryPart
   look-accepted u =
       let k = look-tells (z .rec) (z .l2) (z .ext) a u in let s = h .stored in let r₂ = k .l2Room in let r₃ = k .extRoom in
@@ -80,8 +80,8 @@ module _ (x : ℕ) (z : State) (d m e : List ℕ) (h : Along x z (twin z d m e))
   unfolding viewCall
   look-twin =
       rw (← (view-due z (twin z d m e) (h .stored) a))
-      (cond-both (SameBytesBut (LineFor a x)) (eqb (viewDue (z .rec) (z .l2) (z .ext) a) 0) (memoryPart a 64 (state (z .rec) [] (z .l2) (z .ext))) []
-      (memoryPart a 64 (state (z .rec) [] m e)) [] (λ t. look-accepted (eqb-true (viewDue (z .rec) (z .l2) (z .ext) a) 0 t))
+      (cond-both (SameBytesBut (LineFor a x)) (eqb (viewDue (z .rec) (z .l2) (z .ext) a) 0) (memoryPart a 64 (withL1d z [])) []
+      (memoryPart a 64 (withL1d (twin z d m e) [])) [] (λ t. look-accepted (eqb-true (viewDue (z .rec) (z .l2) (z .ext) a) 0 t))
       (λ _. record { long = refl; byte = λ _ _. refl }))
 
 pub look-bytes : (x : ℕ) (z z′ : State) → Along x z z′ → (a : ℕ) →

@@ -10,7 +10,7 @@ use lib.ListN.{length, getD, replicate, List·getD-eq-default}
 use lib.Dec.{ltb}
 use borrow.Author.Tests.{ltb-true, ltb-false}
 use Rattle.model.specs.Bytes.{little, littleBytes}
-use Rattle.model.specs.Records.{State, state, l1dLineAt, l2LineAt, freshL1dSet, freshL2Set, freshRecord, freshState}
+use Rattle.model.specs.Records.{State, withRecord, l1dLineAt, l2LineAt, freshL1dSet, freshL2Set, freshRecord, freshState}
 use Rattle.model.specs.Trace.{command}
 use Rattle.model.specs.Calls.{Reply, call, freshOk, freshCall, viewDone, Call, oneCommand, freshStart, look, called}
 use Rattle.model.specs.Laws.{bool, false-true, length-littleBytes}
@@ -136,7 +136,7 @@ module _ (x : ℕ) (z z′ : State) (h : Along x z z′) where
       }
 
   not-started : freshOk (z .l1d) (z .l2) (z .ext) ≡ false →
-      Along x (state (freshRecord 32768 128) (z .l1d) (z .l2) (z .ext)) (state (freshRecord 32768 128) (z′ .l1d) (z′ .l2) (z′ .ext))
+      Along x (withRecord z (freshRecord 32768 128)) (withRecord z′ (freshRecord 32768 128))
   not-started u =
       let s = h .stored in
       record {

@@ -16,7 +16,7 @@ use borrow.Author.Tests.{ltb-true, ltb-false}
 use Rattle.model.specs.Bytes.{stored, part}
 use Rattle.model.specs.Memories.{externalBase, legalL2, legalExternal, sramLength}
 use Rattle.model.specs.Lines.{l1dData, l2Sets, emptyLine, l1dUse, l2Use}
-use Rattle.model.specs.Records.{State, state, sramOf, l2SetsOf, l2Data, l1dLineAt, l2LineAt, withL1dLine, withL2Line}
+use Rattle.model.specs.Records.{State, withRecord, withL1d, withL2, withExternal, sramOf, l2SetsOf, l2Data, l1dLineAt, l2LineAt, withL1dLine, withL2Line}
 use Rattle.model.specs.Ways.{useL1d, useL2, emptyL1d, emptyL2}
 use Rattle.model.specs.Homes.{memoryPart, putMemory}
 use Rattle.model.specs.Laws.{length-stored}
@@ -115,12 +115,12 @@ sizes-with h d₁ m₁ e₁ d₂ m₂ e₂ a a′ b b′ c c′ =
 -- ---- the second run may be taken to have the first one's record itself: then every test and every choice of a way
 -- computes to the same
 abbrev pub twin : State → List ℕ → List ℕ → List ℕ → State
-twin z d m e = state (z .rec) d m e
+twin z d m e = withExternal (withL2 (withL1d z d) m) e
 
 pub one-record {ℓ} : {A : Type ℓ} (Q : State → State → Type 0) (R : A → A → Type 0) (f f′ : State → A) (z : State) →
     ((d m e : List ℕ) → Q z (twin z d m e) → R (f z) (f′ (twin z d m e))) → (z′ : State) → z .rec ≡ z′ .rec → Q z z′ → R (f z) (f′ z′)
 one-record Q R f f′ z h z′ s q =
-    let e : twin z (z′ .l1d) (z′ .l2) (z′ .ext) ≡ z′ = λ i. state (s i) (z′ .l1d) (z′ .l2) (z′ .ext) in
+    let e : twin z (z′ .l1d) (z′ .l2) (z′ .ext) ≡ z′ = λ i. withRecord z′ (s i) in
     subst (λ (y : State). R (f z) (f′ y)) e (h (z′ .l1d) (z′ .l2) (z′ .ext) (subst (λ (y : State). Q z y) (sym e) q))
 
 pub lift {ℓ} : {P : Pairing} {g : Layout} {A : Type ℓ} (R : A → A → Type 0) (f : State → A) (z : State) →
@@ -190,7 +190,8 @@ module _ {P : Pairing} {g : Layout} {z : State} {d m e : List ℕ} (q : Pair P g
   pub l1d-put : (s w o : ℕ) {i a k : ℕ} (x : Line) {bs bs′ : List ℕ} → s < 128 → w < 2 → o + k ≤ 64 → l1dData s w + o ≡ i → Twins P a k bs bs′ →
       (l1dLineAt (withL1dLine (z .rec) s w x) s w .valid ≡ true → L1dOk g s w (x .address)) →
       (l1dLineAt (withL1dLine (z .rec) s w x) s w .valid ≡ true → Area P (x .address) (l1dData s w) 64 (stored (z .l1d) i bs) (stored d i bs′)) →
-      Pair P g (state (withL1dLine (z .rec) s w x) (stored (z .l1d) i bs) (z .l2) (z .ext)) (state (withL1dLine (z .rec) s w x) (stored d i bs′) m e)
+      Pair P g (withL1d (withRecord z (withL1dLine (z .rec) s w x)) (stored (z .l1d) i bs))
+      (withL1d (withRecord (twin z d m e) (withL1dLine (z .rec) s w x)) (stored d i bs′))
   unfolding withL1dLine
   l1d-put s w o {i} {a} {k} x {bs} {bs′} hs hw f j t ok new =
       let d₁ = stored (z .l1d) i bs in let d₂ = stored d i bs′ in let r = l1d-room s w hs hw in
@@ -209,7 +210,8 @@ module _ {P : Pairing} {g : Layout} {z : State} {d m e : List ℕ} (q : Pair P g
   pub l2-put : (t v o : ℕ) {i a k : ℕ} (x : Line) {bs bs′ : List ℕ} → t < g .sets → v < 4 → o + k ≤ 128 → l2Data (z .rec) t v + o ≡ i → Twins P a k bs bs′ →
       (l2LineAt (withL2Line (z .rec) t v x) t v .valid ≡ true → L2Ok g t v (x .address)) →
       (l2LineAt (withL2Line (z .rec) t v x) t v .valid ≡ true → Area P (x .address) (l2Data (z .rec) t v) 128 (stored (z .l2) i bs) (stored m i bs′)) →
-      Pair P g (state (withL2Line (z .rec) t v x) (z .l1d) (stored (z .l2) i bs) (z .ext)) (state (withL2Line (z .rec) t v x) d (stored m i bs′) e)
+      Pair P g (withL2 (withRecord z (withL2Line (z .rec) t v x)) (stored (z .l2) i bs))
+      (withL2 (withRecord (twin z d m e) (withL2Line (z .rec) t v x)) (stored m i bs′))
   unfolding withL2Line
   l2-put t v o {i} {a} {k} x {bs} {bs′} ht hv f j tw ok new =
       let m₁ = stored (z .l2) i bs in let m₂ = stored m i bs′ in
@@ -240,7 +242,7 @@ module _ {P : Pairing} {g : Layout} {z : State} {d m e : List ℕ} (q : Pair P g
 
   -- bytes put into SRAM, into external memory, into either by the address
   low-pair : {a k : ℕ} {bs bs′ : List ℕ} → Twins P a k bs bs′ → a + k ≤ g .sram →
-      Pair P g (state (z .rec) (z .l1d) (stored (z .l2) a bs) (z .ext)) (state (z .rec) d (stored m a bs′) e)
+      Pair P g (withL2 z (stored (z .l2) a bs)) (withL2 (twin z d m e) (stored m a bs′))
   low-pair {a} {k} {bs} {bs′} t f =
       let h = q .sizes in let l = h .l2Length in let r = h .room in let s = h .sram in
       let m₁ = stored (z .l2) a bs in let m₂ = stored m a bs′ in
@@ -257,7 +259,7 @@ module _ {P : Pairing} {g : Layout} {z : State} {d m e : List ℕ} (q : Pair P g
       }
 
   pub high-pair : {a k : ℕ} {bs bs′ : List ℕ} → Twins P a k bs bs′ → externalBase ≤ a → a + k ≤ externalBase + g .ext →
-      Pair P g (state (z .rec) (z .l1d) (z .l2) (stored (z .ext) (a - externalBase) bs)) (state (z .rec) d m (stored e (a - externalBase) bs′))
+      Pair P g (withExternal z (stored (z .ext) (a - externalBase) bs)) (withExternal (twin z d m e) (stored e (a - externalBase) bs′))
   high-pair {a} {k} {bs} {bs′} t b f =
       let h = q .sizes in let x = h .extLength in let i = a - externalBase in
       record {
@@ -275,8 +277,7 @@ module _ {P : Pairing} {g : Layout} {z : State} {d m e : List ℕ} (q : Pair P g
       Pair P g (putMemory a bs z) (putMemory a bs′ (twin z d m e))
   unfolding putMemory
   putMemory-pair {a} {k} {bs} {bs′} t lo hi =
-      cond-both (Pair P g) (ltb a externalBase) (state (z .rec) (z .l1d) (stored (z .l2) a bs) (z .ext))
-      (state (z .rec) (z .l1d) (z .l2) (stored (z .ext) (a - externalBase) bs)) (state (z .rec) d (stored m a bs′) e)
-      (state (z .rec) d m (stored e (a - externalBase) bs′))
+      cond-both (Pair P g) (ltb a externalBase) (withL2 z (stored (z .l2) a bs)) (withExternal z (stored (z .ext) (a - externalBase) bs))
+      (withL2 (twin z d m e) (stored m a bs′)) (withExternal (twin z d m e) (stored e (a - externalBase) bs′))
       (λ u. low-pair t (lo (ltb-true a externalBase u)))
       (λ u. let c = ltb-false a externalBase u in high-pair t c (hi c))

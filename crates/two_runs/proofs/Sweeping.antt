@@ -10,7 +10,7 @@ use borrow.Author.Tests.{ltb-true, ltb-false}
 use Rattle.model.specs.Basics.{each}
 use Rattle.model.specs.Memories.{cacheSize, sramLength}
 use Rattle.model.specs.Lines.{l1dSetOf, l2Sets, upperHalf}
-use Rattle.model.specs.Records.{State, state, mode0, sramOf, l2SetsOf, l2SetOf, l2LineAt, freshL1dSet, freshL2Set}
+use Rattle.model.specs.Records.{State, mode0, sramOf, l2SetsOf, l2SetOf, l2LineAt, freshL1dSet, freshL2Set}
 use Rattle.model.specs.Ways.{l1dWay, l2Way, inL1d, inL2, emptyL1d}
 use Rattle.model.specs.Homes.{writeOutL2, writebackL2, evictL2}
 use Rattle.model.specs.Access.{writebackL1d, evictL1d}
@@ -133,7 +133,7 @@ module _ {P : Pairing} {g : Layout} where
   flush-both z z′ q =
       lift (Pair P g) flushL2 (flushL1d z)
       (λ d m e q₁. each-both (Pair P g) (λ k. writeOutL2 (k / 4) (k % 4)) (λ k. writeOutL2-both (k / 4) (k % 4) (omega arith))
-      (l2SetsOf (flushL1d z .rec) * 4) (flushL1d z) (state (flushL1d z .rec) d m e) q₁)
+      (l2SetsOf (flushL1d z .rec) * 4) (flushL1d z) (twin (flushL1d z) d m e) q₁)
       (flushL1d z′)
       (each-both (Pair P g) (λ k. writebackL1d (k / 2) (k % 2)) (λ k. writebackL1d-both (k / 2) (k % 2) (omega arith)) 256 z z′ q)
 
