@@ -410,10 +410,10 @@ fn same_state_but(offset: usize, one: &Run, other: &Run, met: &mut Met) -> Resul
 /// How many smaller cases are tried at most.
 const TRIES: usize = 4_000;
 
+/// A case that fails, with the call after which it does as its last one.
 struct Found {
     case: Case,
     wrong: Wrong,
-    /// The call after which it was seen, which is the last one.
     tries: usize,
 }
 
