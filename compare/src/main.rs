@@ -32,7 +32,7 @@ compare: the calls of the boundary against the reference model
   --seed S             the seed of all that is random (default 640101)
   --bench-trace PATH   the program bench-trace, to be compared as well
   --section NAME       only this section: records, lists, traces, refusals, views,
-                       short-runs, writing, two-runs
+                       short-runs, writing, two-runs, dropped
   --group K            only group K of that section
   --input K            nothing but input K of bench-trace
   --now PATH           a file that says which group is being run
@@ -191,6 +191,10 @@ fn run(arguments: &Arguments) -> Result<bool, String> {
         faults.iter().map(|fault| fault.2).min().unwrap_or(0)
     );
     println!("short runs carried out: {}", met.short_runs);
+    println!(
+        "bytes set against their history: {}, of which not the last one written: {}",
+        met.history_bytes, met.older_bytes
+    );
     let everything = arguments.section.is_none() && arguments.input.is_none();
     if everything && arguments.calls >= 200_000 && !met_everything(&met) {
         println!("something that should be met was not: {met:?}");
@@ -316,6 +320,8 @@ fn met_everything(met: &Met) -> bool {
         && met.two_runs.met_everything()
         && met.long_runs > 0
         && met.short_runs == 4_681
+        && met.history_bytes > 10_000
+        && met.older_bytes > 100
         && met.externals.iter().all(|&count| count > 0)
         && met.possible_faults().iter().all(|&(_, _, count)| count > 0)
 }

@@ -5,6 +5,7 @@
 use std::panic::{catch_unwind, AssertUnwindSafe};
 
 use oracle::calls::{fresh_start, look, look_number};
+use oracle::dropped::History;
 use oracle::flat::Flat;
 use oracle::gen::{Fault, Setup, FAULTS, LEGAL_MODES, RANGE_BYTES};
 use oracle::geometry::{external_length_is_legal, l2_length_is_legal, EXTERNAL_BASE, L1D_BYTES};
@@ -47,6 +48,8 @@ pub struct Start {
     pub padding: u64,
     /// From fresh, with nothing dropped unwritten: flat memory has to agree.
     pub flat: bool,
+    /// From fresh, with lines dropped: each byte read keeps to its history.
+    pub history: bool,
 }
 
 /// One call, or a run with the same commands as single calls after it, or
@@ -96,6 +99,9 @@ pub struct Met {
     pub long_runs: u64,
     /// Short runs that were carried out.
     pub short_runs: u64,
+    /// Bytes read along lists with drops, and those not the last one written.
+    pub history_bytes: u64,
+    pub older_bytes: u64,
     /// Lists by the length of external memory, see `count_external`.
     pub externals: [u64; 5],
     /// Records made, by fault and by mode; those of no legal mode stand last.
@@ -179,6 +185,8 @@ pub enum Kind {
     /// A dirty line of external memory after a global writeback.
     Dirty,
     Bytes,
+    /// A sentence about dropped lines, by its place in the request.
+    Sentence(u8),
     Panic,
 }
 
@@ -217,6 +225,7 @@ struct Pair<'a> {
     theirs: Setup,
     odd: bool,
     flat: Option<Flat>,
+    history: Option<History>,
     met: &'a mut Met,
 }
 
@@ -249,6 +258,7 @@ fn make(start: &Start, ops: &[Op], met: &mut Met, reached: &mut usize) -> Result
         theirs: start.setup.clone(),
         odd: start.odd.iter().any(|odd| odd.value > 1),
         flat: start.flat.then(|| Flat::fresh(start.setup.record.l, &start.setup.ext)),
+        history: start.history.then(|| History::fresh(&start.setup)),
         met,
     };
     for (op, call) in ops.iter().enumerate() {
@@ -453,6 +463,9 @@ impl Pair<'_> {
         if self.flat.is_some() {
             self.flat = Some(Flat::fresh(self.theirs.record.l, &self.theirs.ext));
         }
+        if self.history.is_some() {
+            self.history = Some(History::fresh(&self.theirs));
+        }
         Ok(())
     }
 
@@ -474,7 +487,25 @@ impl Pair<'_> {
             self.met.written_back += 1;
         }
         self.expect_record(theirs.number == 0)?;
+        self.history(command, &ours)?;
         self.flat(command, &ours)
+    }
+
+    /// What the sentences about dropped lines say of a call's answer.
+    fn history(&mut self, command: &Command, ours: &Answer) -> Result<(), Wrong> {
+        let Some(history) = &mut self.history else { return Ok(()) };
+        let mut seen = *ours;
+        plant::history_answer(command, &mut seen);
+        let kept = plant::keeps_over(command).then(|| history.kept.clone());
+        let read = history.call(command, &seen).map_err(|broken| Wrong {
+            kind: Kind::Sentence(broken.sentence),
+            what: format!("dropped lines, sentence {}: {}", broken.sentence, broken.what),
+        })?;
+        history.kept.extend(kept.unwrap_or_default());
+        plant::history(command, history);
+        self.met.history_bytes += read.bytes;
+        self.met.older_bytes += read.older;
+        Ok(())
     }
 
     fn count(&mut self, command: &Command, answer: &Answer) {
@@ -564,6 +595,7 @@ impl Pair<'_> {
         }
         self.expect_record(carried_out.iter().any(|(_, answer)| answer.number == 0))?;
         for (command, answer) in &carried_out {
+            self.history(command, answer)?;
             self.flat_answer(command, answer)?;
         }
         if let (true, Some(flat)) = (global, &mut self.flat) {

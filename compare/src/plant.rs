@@ -6,12 +6,13 @@ use std::os::unix::process::ExitStatusExt;
 use std::process::{ExitStatus, Output};
 use std::sync::OnceLock;
 
+use oracle::dropped::History;
 use oracle::flat::Flat;
 use oracle::geometry::{external_offset, sram_size, L1d, EXTERNAL_BASE, L2};
 use oracle::machine::{SERVER_L1D, SERVER_L2};
 use oracle::trace::ANSWER_BYTES;
 use oracle::writer::Put;
-use oracle::Command;
+use oracle::{Answer, Command};
 
 use crate::boundary::{CAnswer, CRecord, CRun, CRunNumber, CShortRun, Lent};
 use crate::pair::SMALL;
@@ -70,6 +71,12 @@ enum Plant {
     FetchNeighbour,
     SramLeftover,
     ExternalLeftover,
+    HeldByte,
+    HeldLast,
+    DroppedUnsaid,
+    DroppedFlat,
+    KeptOverDrop,
+    KeptOverMode,
     BenchOutput,
     BenchStatus,
 }
@@ -85,7 +92,7 @@ const fn planted(plant: Plant, name: &'static str, about: &'static str) -> Plant
     Planted { plant, name, about }
 }
 
-pub const PLANTS: [Planted; 53] = [
+pub const PLANTS: [Planted; 59] = [
     planted(Plant::ReadValue, "read-value", "a 4-byte read from L2 cache gets 1 more"),
     planted(Plant::ReadOrder, "read-order", "a read hit in L1D turns its set's order around"),
     planted(Plant::WriteNumber, "write-number", "a write refused with 6 gets 5"),
@@ -137,6 +144,12 @@ pub const PLANTS: [Planted; 53] = [
     planted(Plant::FetchNeighbour, "fetch-neighbour", "..: L2 fetches the line beside it"),
     planted(Plant::SramLeftover, "sram-leftover", "..: what L1D drops goes into SRAM's sum"),
     planted(Plant::ExternalLeftover, "external-leftover", "..: a mode change sums up L1D's bytes"),
+    planted(Plant::HeldByte, "held-byte", "a 1-byte read of a list with drops gets 1 more"),
+    planted(Plant::HeldLast, "held-last", "a byte may read as the last one written alone"),
+    planted(Plant::DroppedUnsaid, "dropped-unsaid", "lines that were dropped are not noted"),
+    planted(Plant::DroppedFlat, "dropped-flat", "1 more goes to flat memory with drops"),
+    planted(Plant::KeptOverDrop, "kept-over-drop", "a byte keeps its value over a drop"),
+    planted(Plant::KeptOverMode, "kept-over-mode", "a byte keeps its value over a mode change"),
     planted(Plant::BenchOutput, "bench-output", "bench-trace prints a line more after an 8"),
     planted(Plant::BenchStatus, "bench-status", "bench-trace fails after a 7"),
 ];
@@ -371,6 +384,43 @@ pub fn flat_end(flat: &mut Flat) {
     match CHOSEN.get() {
         Some(Plant::FlatEnd) => change(flat.ext.last_mut()),
         Some(Plant::FlatSram) => change(flat.sram.last_mut()),
+        _ => {}
+    }
+}
+
+/// The answer of a call, as it is set against what its bytes held.
+pub fn history_answer(command: &Command, answer: &mut Answer) {
+    if let (Some(Plant::HeldByte), Command::Read { size: 1, .. }) = (CHOSEN.get(), command) {
+        answer.value = answer.value.wrapping_add(1) & 0xFF;
+    }
+}
+
+/// Whether bytes keep their values over this call, whatever it does to them.
+pub fn keeps_over(command: &Command) -> bool {
+    match CHOSEN.get() {
+        Some(Plant::KeptOverMode) => matches!(command, Command::Mode { .. }),
+        Some(Plant::KeptOverDrop) => matches!(
+            command,
+            Command::L2BlockInvalidate { .. }
+                | Command::L1dBlockInvalidate { .. }
+                | Command::L1dInvalidateAll
+        ),
+        _ => false,
+    }
+}
+
+/// What is known of the bytes after a call.
+pub fn history(command: &Command, history: &mut History) {
+    match (CHOSEN.get(), *command) {
+        (Some(Plant::HeldLast), _) => {
+            for (address, held) in &mut history.held {
+                held.retain(|value| history.last.get(address).is_none_or(|last| last == value));
+            }
+        }
+        (Some(Plant::DroppedUnsaid), _) => history.dropped.clear(),
+        (Some(Plant::DroppedFlat), Command::Write { size: 1, address, value }) => {
+            history.flat.write(1, address, (value + 1) & 0xFF);
+        }
         _ => {}
     }
 }

@@ -34,7 +34,7 @@ pub enum Group {
     Words(fn(&mut Rng, u64, &mut Met) -> Option<String>),
 }
 
-pub const SECTIONS: [Section; 8] = [
+pub const SECTIONS: [Section; 9] = [
     Section {
         name: "records",
         share: 40,
@@ -92,6 +92,14 @@ pub const SECTIONS: [Section; 8] = [
         about: "two runs that differ in data, or in one byte, set against each other",
         group: Group::Words(two_runs::group),
     },
+    // Behind the others, so that their groups stay what they were.
+    Section {
+        name: "dropped",
+        share: 10,
+        groups: 0,
+        about: "lists with drops, each byte read set against its history",
+        group: Group::Calls(dropped),
+    },
 ];
 
 /// Compares a list; a difference makes it a case.
@@ -102,7 +110,7 @@ fn check(start: Start, ops: Vec<Op>, met: &mut Met) -> Option<Case> {
 
 /// A list that begins with a record and memories, and with padding of any kind.
 fn plain(rng: &mut Rng, setup: Setup) -> Start {
-    Start { setup, odd: Vec::new(), padding: rng.next_u64(), flat: false }
+    Start { setup, odd: Vec::new(), padding: rng.next_u64(), flat: false, history: false }
 }
 
 /// C's record has a byte for the mode and for each MAR bit. A larger number of
@@ -292,6 +300,45 @@ fn lists(rng: &mut Rng, group: u64, met: &mut Met) -> Option<Case> {
     }
     let flat = mix.l1d_invalidate_all == 0;
     check(Start { flat, ..plain(rng, setup) }, ops, met)
+}
+
+/// A list from fresh that drops lines, with few lines that are come back to: each
+/// byte that is read keeps to its history.
+fn dropped(rng: &mut Rng, group: u64, met: &mut Met) -> Option<Case> {
+    let l = LEGAL_L[(group % 11).min(7) as usize];
+    let e = [65_536, 8_192, 6 * 65_536, 128, 65_536][group as usize % 5];
+    let mix = Mix {
+        l2_block_invalidate: 40,
+        l1d_block_invalidate: 40,
+        l1d_invalidate_all: 10,
+        mode: 4,
+        mar: 10,
+        ..Mix::ALL
+    };
+    let mut ext = vec![0; e as usize];
+    rng.fill(&mut ext);
+    let setup = Setup::fresh_over(l, ext);
+    let mut ops = Vec::new();
+    if rng.chance(7, 8) {
+        ops.push(Op::Direct(Command::Mar { number: 128, bit: 1 }));
+    }
+    let mut modes = LEGAL_MODES.to_vec();
+    modes.retain(|&mode| mode_is_legal(l, mode));
+    ops.push(Op::Direct(Command::Mode { mode: rng.pick(&modes) }));
+    let mut lines = hot(rng, l, e);
+    for _ in 0..1_500 {
+        match rng.below(1_000) {
+            0 => ops.push(Op::Fresh),
+            1..=3 => lines = hot(rng, l, e),
+            4..=8 => {
+                let trace = gen::trace(rng, &lines, &mix, 20, TraceKind::Valid).bytes;
+                ops.push(Op::Run { trace, answer_bytes: 150 + rng.below(60) as usize });
+            }
+            9..=12 => ops.push(Op::View { address: look_address(rng, &lines), buffer: 64 }),
+            _ => ops.push(Op::Direct(command(rng, &lines, &mix))),
+        }
+    }
+    check(Start { history: true, ..plain(rng, setup) }, ops, met)
 }
 
 fn global_writeback(rng: &mut Rng) -> Command {
@@ -835,7 +882,7 @@ fn carried_out(rng: &mut Rng, number: usize, met: &mut Met) -> Option<Case> {
     ext[0] |= 0x80;
     ext[0x2000] |= 0x40;
     let setup = Setup::fresh_over(65_536, ext);
-    let start = Start { setup, odd: Vec::new(), padding: rng.next_u64(), flat: true };
+    let start = Start { flat: true, ..plain(rng, setup) };
     let mut ops = vec![Op::ShortRunOf(number as u32), Op::Fresh, Op::Direct(short_runs::BEFORE)];
     for &digit in &short_runs::list()[number] {
         ops.push(Op::Direct(short_runs::command_of(digit).expect("a digit of the list")));

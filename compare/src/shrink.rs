@@ -116,9 +116,9 @@ impl Shrinker {
     /// reference model. That is not enough where an earlier call made it.
     fn start_before_the_last_call(&mut self) {
         let Case { start, ops, difference } = &self.case;
-        // Flat memory has to begin with a fresh start. A record with a byte that
-        // is no bool stays as it is.
-        if start.flat || !start.odd.is_empty() || difference.op == 0 {
+        // Flat memory and histories have to begin with a fresh start. A record with
+        // a byte that is no bool stays as it is.
+        if start.flat || start.history || !start.odd.is_empty() || difference.op == 0 {
             return;
         }
         let mut setup = start.setup.clone();
@@ -140,7 +140,8 @@ impl Shrinker {
         }
         let last = ops[difference.op..].to_vec();
         let padding = start.padding;
-        self.try_case(Start { setup, odd: Vec::new(), padding, flat: false }, last);
+        let start = Start { setup, odd: Vec::new(), padding, flat: false, history: false };
+        self.try_case(start, last);
     }
 
     /// Tries shorter external memories, which make all further tries quicker too,
@@ -331,8 +332,8 @@ impl Shrinker {
     /// Tries another record to begin with, if the change makes it another. The
     /// memories, which may be long, are copied only then.
     fn try_record(&mut self, change: impl FnOnce(&mut Record)) {
-        // Flat memory begins with a fresh record.
-        if self.case.start.flat {
+        // Flat memory and histories begin with a fresh record.
+        if self.case.start.flat || self.case.start.history {
             return;
         }
         let mut record = self.case.start.setup.record.clone();

@@ -6,7 +6,7 @@ use crate::commands::{self, l1d_block, l2_all, l2_block, L1dAction, L2Action};
 use crate::geometry::{
     external_length_is_legal, l2_length_is_legal, mode_is_legal, place, L1D_BYTES,
 };
-use crate::machine::{Machine, SERVER_NONE};
+use crate::machine::{Events, Machine, SERVER_NONE};
 use crate::modes::{change_mar, change_mode, holds_a_line_of};
 use crate::record::Record;
 use crate::trace::Command;
@@ -174,11 +174,24 @@ pub fn direct(
     ext: &mut [u8],
     command: &Command,
 ) -> Answer {
+    direct_with_events(record, l1d, l2, ext, command).0
+}
+
+/// A direct call, and what happened to lines in it.
+pub fn direct_with_events(
+    record: &mut Record,
+    l1d: &mut [u8],
+    l2: &mut [u8],
+    ext: &mut [u8],
+    command: &Command,
+) -> (Answer, Events) {
     let number = check_lent_and_record(record, l1d.len(), l2.len(), ext.len());
     if number != 0 {
-        return Answer::refused(number);
+        return (Answer::refused(number), Events::default());
     }
-    carry_out(&mut Machine { record, l1d, l2, ext }, command)
+    let mut machine = Machine::new(record, l1d, l2, ext);
+    let answer = carry_out(&mut machine, command);
+    (answer, machine.events)
 }
 
 /// "Fresh: mode 0, MAR bits 0, nothing valid, orders 1,0 and 3,2,1,0. L1D and

@@ -69,7 +69,7 @@ fn act_on_l2_line(machine: &mut Machine, set: usize, way: usize, action: L2Actio
         // written."
         L2Action::Invalidate => {
             machine.drop_halves(set, way);
-            machine.empty_l2_way(set, way);
+            machine.drop_l2_line(set, way);
         }
     }
 }
@@ -80,10 +80,13 @@ fn act_on_l2_line(machine: &mut Machine, set: usize, way: usize, action: L2Actio
 pub fn l1d_block(machine: &mut Machine, base: u32, count: u32, action: L1dAction) {
     for address in touched_lines(base, count, L1d::LINE) {
         if let Some((set, way)) = machine.record.find_l1d(address) {
-            if action == L1dAction::WritebackInvalidate {
-                machine.write_back_l1d_line(set, way);
+            match action {
+                L1dAction::WritebackInvalidate => {
+                    machine.write_back_l1d_line(set, way);
+                    machine.empty_l1d_way(set, way);
+                }
+                L1dAction::Invalidate => machine.drop_l1d_line(set, way),
             }
-            machine.empty_l1d_way(set, way);
         }
     }
 }
@@ -92,7 +95,7 @@ pub fn l1d_block(machine: &mut Machine, base: u32, count: u32, action: L1dAction
 pub fn l1d_invalidate_all(machine: &mut Machine) {
     for set in 0..L1d::SETS {
         for way in 0..L1d::WAYS {
-            machine.empty_l1d_way(set, way);
+            machine.drop_l1d_line(set, way);
         }
     }
 }

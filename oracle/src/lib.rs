@@ -8,6 +8,7 @@ pub mod access;
 pub mod bench;
 pub mod calls;
 pub mod commands;
+pub mod dropped;
 pub mod flat;
 pub mod gen;
 pub mod geometry;

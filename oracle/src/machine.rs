@@ -2,6 +2,8 @@
 //! Everything here is done to a well-formed record with memories of its
 //! lengths; `calls` and `trace` see to that.
 
+use std::ops::Range;
+
 use crate::geometry::{external_offset, L1d, EXTERNAL_BASE, L2};
 use crate::record::{used, victim_way, Line, Record};
 
@@ -19,6 +21,19 @@ pub struct Machine<'a> {
     pub l1d: &'a mut [u8],
     pub l2: &'a mut [u8],
     pub ext: &'a mut [u8],
+    pub events: Events,
+}
+
+/// What happened to lines, told by their addresses as it happened (02, U13).
+#[derive(Default)]
+pub struct Events {
+    /// "a writeback ... reached its external memory (for SRAM, its SRAM byte)":
+    /// the bytes of these lines went there. A writeback into L2 cache has not
+    /// reached it.
+    pub reached: Vec<Range<u32>>,
+    /// "a line that was dropped": a valid line that an invalidating command made
+    /// invalid unwritten, "128 bytes for L2's, 64 for L1D's".
+    pub dropped: Vec<Range<u32>>,
 }
 
 /// "The home is SRAM for SRAM. For external memory it is L2 cache, or external
@@ -29,6 +44,18 @@ pub enum Home {
     Sram { offset: usize },
     L2Line { set: usize, way: usize, offset: usize },
     External { offset: usize },
+}
+
+impl<'a> Machine<'a> {
+    /// Nothing has happened yet.
+    pub fn new(
+        record: &'a mut Record,
+        l1d: &'a mut [u8],
+        l2: &'a mut [u8],
+        ext: &'a mut [u8],
+    ) -> Machine<'a> {
+        Machine { record, l1d, l2, ext, events: Events::default() }
+    }
 }
 
 impl Machine<'_> {
@@ -140,9 +167,28 @@ impl Machine<'_> {
         let line_address = self.record.l2[set].lines[way].address;
         for half in [line_address, line_address + L1d::LINE] {
             if let Some((l1d_set, l1d_way)) = self.record.find_l1d(half) {
-                self.empty_l1d_way(l1d_set, l1d_way);
+                self.drop_l1d_line(l1d_set, l1d_way);
             }
         }
+    }
+
+    /// "drops them unwritten", one L1D line. An invalid way stays as it is.
+    pub fn drop_l1d_line(&mut self, set: usize, way: usize) {
+        let line = self.record.l1d[set].lines[way];
+        if line.valid {
+            self.events.dropped.push(line.address..line.address + L1d::LINE);
+        }
+        self.empty_l1d_way(set, way);
+    }
+
+    /// "Block invalidate: line and halves become invalid, nothing is written.":
+    /// the line alone.
+    pub fn drop_l2_line(&mut self, set: usize, way: usize) {
+        let line = self.record.l2[set].lines[way];
+        if line.valid {
+            self.events.dropped.push(line.address..line.address + L2::LINE);
+        }
+        self.empty_l2_way(set, way);
     }
 
     /// "a dirty line there is written back to its home"; "A writeback into L2
@@ -157,9 +203,16 @@ impl Machine<'_> {
         let length = L1d::LINE as usize;
         let from = L1d::offset(set, way);
         let bytes = &self.l1d[from..from + length];
+        let whole = line.address..line.address + L1d::LINE;
         match self.standing_home(line.address).expect("an external L1D line lies in an L2 line") {
-            Home::Sram { offset } => self.l2[offset..offset + length].copy_from_slice(bytes),
-            Home::External { offset } => self.ext[offset..offset + length].copy_from_slice(bytes),
+            Home::Sram { offset } => {
+                self.l2[offset..offset + length].copy_from_slice(bytes);
+                self.events.reached.push(whole);
+            }
+            Home::External { offset } => {
+                self.ext[offset..offset + length].copy_from_slice(bytes);
+                self.events.reached.push(whole);
+            }
             Home::L2Line { set, way, offset } => {
                 self.l2[offset..offset + length].copy_from_slice(bytes);
                 self.record.l2[set].lines[way].dirty = true;
@@ -178,6 +231,7 @@ impl Machine<'_> {
         let from = self.l2_offset(set, way);
         let to = external_offset(line.address);
         self.ext[to..to + length].copy_from_slice(&self.l2[from..from + length]);
+        self.events.reached.push(line.address..line.address + L2::LINE);
         self.record.l2[set].lines[way].dirty = false;
     }
 }

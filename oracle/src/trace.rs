@@ -141,7 +141,7 @@ pub fn run(
     if result.stop != 0 {
         return result;
     }
-    let mut machine = Machine { record, l1d, l2, ext };
+    let mut machine = Machine::new(record, l1d, l2, ext);
     while result.consumed < trace.len() {
         let Some((command, length)) = decode(&trace[result.consumed..]) else {
             result.stop = 11;

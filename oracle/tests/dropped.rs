@@ -1,0 +1,142 @@
+//! "Dropped lines" (02, U13): what counts as a writeback that reached a byte and
+//! as a line that was dropped, each on a small example, and the three sentences
+//! along lists of calls.
+
+use oracle::calls::direct_with_events;
+use oracle::dropped::{History, Read};
+use oracle::gen::{command, hot, Mix, Rng, Setup, LEGAL_L};
+use oracle::machine::Events;
+use oracle::Command;
+
+const A: u32 = 0x8000_0000;
+
+fn cached(mode: u32) -> Setup {
+    let mut setup = Setup::fresh(65_536, 65_536);
+    setup.mar(128, 1);
+    setup.mode(mode);
+    setup
+}
+
+fn events(setup: &mut Setup, command: Command) -> Events {
+    let Setup { record, l1d, l2, ext } = setup;
+    let (answer, events) = direct_with_events(record, l1d, l2, ext, &command);
+    assert_eq!(answer.number, 0);
+    events
+}
+
+/// In mode 0, and for SRAM, an L1D line goes where it is at home.
+#[test]
+fn a_line_of_l1d_reaches_its_memory() {
+    let mut setup = cached(0);
+    for base in [A, 64] {
+        setup.read(1, base);
+        setup.write(1, base, 5);
+        setup.read(1, base + 64);
+        let events = events(&mut setup, Command::L1dBlockWritebackInvalidate { base, count: 32 });
+        // The clean line behind it goes nowhere.
+        assert_eq!((events.reached, events.dropped), (vec![base..base + 64], vec![]));
+    }
+}
+
+/// L2 cache is not external memory; from there the line goes out whole.
+#[test]
+fn a_line_of_l2_reaches_its_memory_whole() {
+    let mut setup = cached(1);
+    setup.read(1, A + 64);
+    setup.write(1, A + 64, 5);
+    let into_l2 = Command::L1dBlockWritebackInvalidate { base: A, count: 32 };
+    let first = events(&mut setup, into_l2);
+    assert_eq!((first.reached, first.dropped), (vec![], vec![]));
+    let second = events(&mut setup, Command::L2WritebackAll);
+    assert_eq!((second.reached, second.dropped), (vec![A..A + 128], vec![]));
+    // It is clean now, and stays where it is.
+    let third = events(&mut setup, Command::L2WritebackAll);
+    assert_eq!((third.reached, third.dropped), (vec![], vec![]));
+}
+
+/// An L2 line that is put out goes to external memory too.
+#[test]
+fn a_line_that_is_put_out_reaches_its_memory() {
+    let mut setup = cached(1);
+    setup.write(1, A, 5);
+    for turn in 1..4 {
+        let read = Command::Read { size: 1, address: A + turn * 8_192 };
+        assert_eq!(events(&mut setup, read).reached, []);
+    }
+    let last = Command::Read { size: 1, address: A + 4 * 8_192 };
+    assert_eq!(events(&mut setup, last).reached, [A..A + 128]);
+}
+
+/// Valid lines are dropped, clean ones too; no other command drops one.
+#[test]
+fn lines_are_dropped() {
+    let mut setup = cached(1);
+    setup.read(1, A);
+    setup.read(1, A + 64);
+    setup.write(1, A + 64, 5);
+    setup.read(1, 0);
+    let all = events(&mut setup, Command::L1dInvalidateAll);
+    assert_eq!(all.dropped, [A..A + 64, 0..64, A + 64..A + 128]);
+    let block = Command::L2BlockInvalidate { base: A + 64, count: 1 };
+    assert_eq!(events(&mut setup, block).dropped, [A..A + 128]);
+    assert_eq!(events(&mut setup, block).dropped, []);
+    setup.read(1, A);
+    let halves = events(&mut setup, block);
+    assert_eq!((halves.reached, halves.dropped), (vec![], vec![A..A + 64, A..A + 128]));
+}
+
+/// A byte whose line was dropped reads as it stands behind: no other value than
+/// these two is taken.
+#[test]
+fn an_older_value_comes_back() {
+    let commands = [
+        Command::Read { size: 1, address: 64 },
+        Command::Write { size: 1, address: 64, value: 5 },
+        Command::L1dBlockInvalidate { base: 64, count: 1 },
+    ];
+    for value in 0..=255 {
+        let mut setup = Setup::fresh(65_536, 128);
+        let mut history = History::fresh(&setup);
+        for command in &commands {
+            let answer = setup.call(command);
+            history.call(command, &answer).unwrap();
+        }
+        let last = Command::Read { size: 1, address: 64 };
+        let answer = setup.call(&last);
+        assert_eq!(answer.value, 0);
+        let seen = history.call(&last, &oracle::Answer { value, ..answer });
+        match value {
+            0 => assert_eq!(seen, Ok(Read { bytes: 1, older: 1 })),
+            5 => assert_eq!(seen, Ok(Read { bytes: 1, older: 0 })),
+            _ => assert_eq!(seen.unwrap_err().sentence, 1),
+        }
+    }
+}
+
+/// The sentences hold along lists with drops, and older values are met.
+#[test]
+fn lists_with_drops_keep_to_the_sentences() {
+    let mix = Mix { l2_block_invalidate: 40, l1d_block_invalidate: 40, mode: 5, ..Mix::ALL };
+    let mut met = Read::default();
+    for (number, l) in LEGAL_L.into_iter().enumerate() {
+        let mut rng = Rng::new(4_000 + number as u64);
+        let e = [8_192, 65_536, 6 * 65_536][number % 3];
+        let mut ext = vec![0; e as usize];
+        rng.fill(&mut ext);
+        let mut setup = Setup::fresh_over(l, ext);
+        let mut history = History::fresh(&setup);
+        let lines = hot(&mut rng, l, e);
+        for turn in 0..6_000 {
+            let command = command(&mut rng, &lines, &mix);
+            let answer = setup.call(&command);
+            match history.call(&command, &answer) {
+                Ok(read) => {
+                    met.bytes += read.bytes;
+                    met.older += read.older;
+                }
+                Err(broken) => panic!("{l} {turn} {command:?}: {broken:?}"),
+            }
+        }
+    }
+    assert!(met.bytes > 50_000 && met.older > 500, "{met:?}");
+}
