@@ -133,7 +133,7 @@ impl History {
         let last = self.last.get(&address).copied();
         if last != Some(value) && !self.held_at(address).contains(&value) {
             let held = &self.held[&address];
-            return wrong(1, format!("last written {last:#04x?}, held {held:#04x?}"));
+            return wrong(1, format!("in hexadecimal: last written {last:x?}, held {held:x?}"));
         }
         // "Bytes in no line that was dropped read as flat memory."
         let (_, flat) = self.flat.read(1, address);

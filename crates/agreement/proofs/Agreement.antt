@@ -27,7 +27,7 @@ use Rattle.model.specs.Demand.{listedCode, listedCall, listed, compared, global
 use Rattle.model.specs.Laws.{bool, false-true, both-true, cond-elim, length-littleBytes}
 use Rattle.model.specs.declared.Command.{Command}
 use Rattle.agreement.proofs.Level.{Valid}
-use Rattle.agreement.proofs.Invariant.{Allowed, Layout}
+use Rattle.agreement.proofs.Invariant.{Allowed, seenOnly, Layout}
 use Rattle.agreement.proofs.Memory.{memoryByte, memory-low, memory-high, lowStored, highStored, low-length, high-length, Fits, read-length, read-at, written-same, wrote-memory}
 use Rattle.agreement.proofs.Good.{l1dLevel, l2Level, Good, Well, good-well}
 use Rattle.agreement.proofs.ReadWrite.{Step}
@@ -39,11 +39,11 @@ use Rattle.agreement.proofs.Tested.{legalL2-tells, legalExternal-tells,
 use Rattle.agreement.proofs.Flushes.{sweptL1d, change-swept}
 
 -- ---- chip and flat memory match: every byte that counts is flat memory's, and the sizes are the same
-abbrev flatByte : Flat → ℕ → ℕ
+abbrev pub flatByte : Flat → ℕ → ℕ
 flatByte f a = memoryByte (f .sram) (f .ext) a
 
 abbrev pub Is : Flat → Allowed
-Is f a c = c ≡ flatByte f a
+Is f = seenOnly (λ a c. c ≡ flatByte f a)
 
 pub record Matches (z : State) (f : Flat) : Type 0 where
   pub good : Good z (Is f)
@@ -64,7 +64,7 @@ matches-quiet z f m z′ q =
     sram-same a b = rw (a, b) refl
 
 -- ---- the same bytes at an address, and bytes put there
-flatPut-state : (a : ℕ) (bs : List ℕ) (f : Flat) → flatPut a bs f ≡ flat (f .l2len) (lowStored (f .sram) a bs) (highStored (f .ext) a bs)
+pub flatPut-state : (a : ℕ) (bs : List ℕ) (f : Flat) → flatPut a bs f ≡ flat (f .l2len) (lowStored (f .sram) a bs) (highStored (f .ext) a bs)
 unfolding flatPut lowStored highStored
 flatPut-state a bs f = bool (ltb a externalBase) (λ t. rw t refl) (λ t. rw t refl)
 

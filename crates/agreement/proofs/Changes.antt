@@ -97,15 +97,20 @@ l2-fresh-order =
       apart34 = λ e. absurd (omega arith);
     }
 
+-- ---- with fresh sets nothing is valid
+pub fresh-l1d-none : (r : Record) → r .l1d ≡ replicate 128 freshL1dSet → (s w : ℕ) → l1dLineAt r s w .valid ≡ false
+fresh-l1d-none r e s w = rw e (ap (λ (l : Line). l .valid) (fresh-line l1dStore freshL1dSet 128 l1d-fresh s w))
+
+pub fresh-l2-none : (r : Record) → r .l2 ≡ replicate 512 freshL2Set → (t v : ℕ) → l2LineAt r t v .valid ≡ false
+fresh-l2-none r e t v = rw e (ap (λ (l : Line). l .valid) (fresh-line l2Store freshL2Set 512 l2-fresh t v))
+
 -- ---- a state with fresh sets is good where the memories are right
 pub fresh-good : (z : State) (F : Allowed) → z .rec .l1d ≡ replicate 128 freshL1dSet → z .rec .l2 ≡ replicate 512 freshL2Set →
     Sizes (z .rec .l2len) (z .rec .extlen) (z .rec .mode) (z .l1d) (z .l2) (z .ext) →
-    ((a : ℕ) → Inside (layoutOf (z .rec)) a → F a (memoryOf z a)) → Good z F
+    ((a : ℕ) → Inside (layoutOf (z .rec)) a → F .right a (memoryOf z a)) → Good z F
 fresh-good z F e₁ e₂ sizes h =
-    let v₁ : (s w : ℕ) → l1dLineAt (z .rec) s w .valid ≡ false
-    = λ s w. rw e₁ (ap (λ (l : Line). l .valid) (fresh-line l1dStore freshL1dSet 128 l1d-fresh s w)) in
-    let v₂ : (s w : ℕ) → l2LineAt (z .rec) s w .valid ≡ false
-    = λ s w. rw e₂ (ap (λ (l : Line). l .valid) (fresh-line l2Store freshL2Set 512 l2-fresh s w)) in
+    let v₁ = fresh-l1d-none (z .rec) e₁ in
+    let v₂ = fresh-l2-none (z .rec) e₂ in
     record {
       tidy = record {
         sizes = sizes;
@@ -120,15 +125,20 @@ fresh-good z F e₁ e₂ sizes h =
         l1dRight = λ s w k. false-true (sym (v₁ s w) ∙ k);
         l2Right = λ s w k. false-true (sym (v₂ s w) ∙ k);
         memoryRight = λ a l _ _. h a l;
+        behind = record {
+          l2Held = λ s w k. false-true (sym (v₂ s w) ∙ k);
+          memoryHeld = λ a l. F .rightHeld a (memoryOf z a) (h a l);
+          l2Alike = λ s w k. false-true (sym (v₂ s w) ∙ k);
+        };
       };
     }
 
 -- ---- a mode change, once everything has gone out: F′ is F with SRAM kept below the smaller S and zero from there on
 module _ (z : State) (F F′ : Allowed) (q : Good z F) (m : ℕ) (ok : isMode m ≡ true) (hm : cacheSize m ≤ z .rec .l2len)
     (l1dNone : (s w : ℕ) → Valid (l1dLevel z) s w → ⊥) (l2Clean : (t v : ℕ) → Valid (l2Level z) t v → l2LineAt (z .rec) t v .dirty ≡ false)
-    (below : (a : ℕ) → a < externalBase → a < smaller (sramOf (z .rec)) (sramLength (z .rec .l2len) m) → (c : ℕ) → F a c → F′ a c)
-    (zeros : (a : ℕ) → a < externalBase → smaller (sramOf (z .rec)) (sramLength (z .rec .l2len) m) ≤ a → F′ a 0)
-    (above : (a : ℕ) → externalBase ≤ a → (c : ℕ) → F a c → F′ a c) where
+    (below : (a : ℕ) → a < externalBase → a < smaller (sramOf (z .rec)) (sramLength (z .rec .l2len) m) → (c : ℕ) → F .right a c → F′ .right a c)
+    (zeros : (a : ℕ) → a < externalBase → smaller (sramOf (z .rec)) (sramLength (z .rec .l2len) m) ≤ a → F′ .right a 0)
+    (above : (a : ℕ) → externalBase ≤ a → (c : ℕ) → F .right a c → F′ .right a c) where
   pub newMode-good : Good (newMode m z) F′
   unfolding newMode
   newMode-good =
@@ -230,5 +240,10 @@ module _ (z : State) (F : Allowed) (q : Good z F) (n b : ℕ) (allowed : (b ≡ 
           l1dRight = v .l1dRight;
           l2Right = v .l2Right;
           memoryRight = λ a l. v .memoryRight a (record { low = l .low; high = l .high });
+          behind = record {
+            l2Held = v .behind .l2Held;
+            memoryHeld = λ a l. v .behind .memoryHeld a (record { low = l .low; high = l .high });
+            l2Alike = v .behind .l2Alike;
+          };
         };
       }

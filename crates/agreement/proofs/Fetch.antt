@@ -171,7 +171,7 @@ module _ (z : State) (F : Allowed) (q : Good z F) (a n : ℕ) (f : AccessFits (l
 -- ---- the 64 bytes of the home of a's line
 pub record HomeRead (F : Allowed) (b : ℕ) (bs : List ℕ) : Type 0 where
   pub long : length bs ≡ 64
-  pub right : (i : ℕ) → i < 64 → F (b + i) (getD bs i 0)
+  pub right : (i : ℕ) → i < 64 → F .right (b + i) (getD bs i 0)
 
 pub homeLine-good : (z : State) (F : Allowed) → Good z F → (v a : ℕ) → AccessFits (layoutOf (z .rec)) (l1dLine a) 64 → Free 64 (l1dLevel z) a →
     (homeIsL2 (z .rec) a ≡ true → Hit (l2Level z) 4 (l2SetOf (z .rec) a) v (l2Line a)) → HomeRead F (l1dLine a) (homeLine v a z)

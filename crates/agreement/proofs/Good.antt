@@ -28,7 +28,7 @@ use Rattle.model.specs.declared.L1dSet.{L1dSet}
 use Rattle.model.specs.declared.L2Set.{L2Set}
 use Rattle.model.specs.declared.Record.{Record}
 use Rattle.agreement.proofs.Level.{Level, Valid, Other, Free, Replaced}
-use Rattle.agreement.proofs.Invariant.{Allowed, Layout, Invariant, invariant-same}
+use Rattle.agreement.proofs.Invariant.{Allowed, seenOnly, Layout, Invariant, invariant-same}
 use Rattle.agreement.proofs.Tables.{l1dStore, l2Store, levelOf, Table, table-line, replaced-line, table-used, line-used}
 use Rattle.agreement.proofs.Memory.{memoryByte, other-slot}
 
@@ -72,7 +72,7 @@ pub record Good (z : State) (F : Allowed) : Type 0 where
 
 -- any byte may stand anywhere: then only the record and the lengths count, as refusals 1 and 2 test them
 abbrev pub Anything : Allowed
-Anything a c = _≡_ {A = ℕ} 0 0
+Anything = seenOnly (λ _ _. _≡_ {A = ℕ} 0 0)
 
 abbrev pub Well : State → Type 0
 Well z = Good z Anything
@@ -88,6 +88,7 @@ good-well z F q =
         l1dRight = λ _ _ _ _ _. refl;
         l2Right = λ _ _ _ _ _ _. refl;
         memoryRight = λ _ _ _ _. refl;
+        behind = record { l2Held = λ _ _ _ _ _. refl; memoryHeld = λ _ _. refl; l2Alike = λ _ _ _ _ _ _. refl };
       };
     }
 

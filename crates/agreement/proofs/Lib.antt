@@ -1,4 +1,5 @@
 pub mod Agreement
+pub mod Behind
 pub mod Changes
 pub mod Cuts
 pub mod Drops

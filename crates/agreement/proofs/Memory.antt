@@ -5,7 +5,7 @@
 -- (Bytes), so that nothing above this file opens them.
 use Prim.Native.Nat.{ℕ, _+_, _*_, _-_, _/_, _%_, _≤_, _<_}
 use mathlib.Core.Bool.{cond}
-use mathlib.Core.Path.{_≡_, refl, sym, _∙_}
+use mathlib.Core.Path.{_≡_, refl, sym, _∙_, subst}
 use mathlib.Core.Logic.{_≢_, _⊎_, ⊎-elim}
 use mathlib.Core.List.{List}
 use native.Mathlib.Omega.{arith}
@@ -15,7 +15,7 @@ use borrow.Author.Tests.{ltb-true, ltb-false, lt-ltb, le-ltb}
 use Rattle.model.specs.Bytes.{stored, part}
 use Rattle.model.specs.Memories.{externalBase}
 use Rattle.model.specs.Laws.{bool, cond-elim, length-stored, length-part, stored-before, stored-in, stored-after, part-at}
-use Rattle.agreement.proofs.Invariant.{Allowed, carry}
+use Rattle.agreement.proofs.Invariant.{Allowed, Grows, seenOnly}
 
 -- ---- stored, said once: a byte inside is that of the bytes put there, a byte outside is what it was
 module _ (m bs : List ℕ) (p : ℕ) (fits : p + length bs ≤ length m) where
@@ -150,32 +150,49 @@ pub wrote-memory : (m e bs : List ℕ) (a : ℕ) → Fits m e a (length bs) → 
 wrote-memory m e bs a r h = record { inside = memory-in m e bs a r h; outside = memory-out m e bs a r }
 
 -- the same of what may stand where
+pub record Puts (P P′ : ℕ → ℕ → Type 0) (a : ℕ) (bs : List ℕ) : Type 0 where
+  pub inside : (c : ℕ) → a ≤ c → c < a + length bs → P′ c (getD bs (c - a) 0)
+  pub outside : (c : ℕ) → (a ≤ c → a + length bs ≤ c) → (d : ℕ) → P c d → P′ c d
+
+-- of what is right; and what was held still is, since lower places keep what they have
 pub record Written (F F′ : Allowed) (a : ℕ) (bs : List ℕ) : Type 0 where
-  pub inside : (c : ℕ) → a ≤ c → c < a + length bs → F′ c (getD bs (c - a) 0)
-  pub outside : (c : ℕ) → (a ≤ c → a + length bs ≤ c) → (d : ℕ) → F c d → F′ c d
+  pub puts : Puts (F .right) (F′ .right) a bs
+  pub grows : Grows F F′
 
-pub written-same : (f f′ : ℕ → ℕ) (a : ℕ) (bs : List ℕ) → Wrote f f′ a bs → Written (λ b c. c ≡ f b) (λ b c. c ≡ f′ b) a bs
-written-same f f′ a bs w = record { inside = λ c h k. sym (w .inside c h k); outside = λ c h d e. e ∙ sym (w .outside c h) }
+pub written-held : (F F′ : Allowed) (a : ℕ) (bs : List ℕ) → Written F F′ a bs → Puts (F .held) (F′ .held) a bs
+written-held F F′ a bs w =
+    record { inside = λ c h k. F′ .rightHeld c (getD bs (c - a) 0) (w .puts .inside c h k); outside = λ c _ d e. w .grows .held c d e }
 
-module _ (F F′ : Allowed) (a : ℕ) (bs : List ℕ) (k : Written F F′ a bs) where
+pub written-same : (f f′ : ℕ → ℕ) (a : ℕ) (bs : List ℕ) → Wrote f f′ a bs → Written (seenOnly (λ b c. c ≡ f b)) (seenOnly (λ b c. c ≡ f′ b)) a bs
+written-same f f′ a bs w =
+    record {
+      puts = record { inside = λ c h k. sym (w .inside c h k); outside = λ c h d e. e ∙ sym (w .outside c h) };
+      grows = record { held = λ _ _ _. refl; alike = λ _ _ _. refl };
+    }
+
+-- every line but the one that was written is as it was, in a memory
+pub wrote-old : (G G′ : ℕ → ℕ) (a : ℕ) (bs : List ℕ) → Wrote G G′ a bs → a % 64 + length bs ≤ 64 → (b : ℕ) → b / 64 * 64 ≢ a / 64 * 64 → G′ b ≡ G b
+wrote-old G G′ a bs k h b n = k .outside b (λ g. let z = n in omega arith)
+
+module _ (P P′ : ℕ → ℕ → Type 0) (a : ℕ) (bs : List ℕ) (k : Puts P P′ a bs) where
   -- bytes inside one 64-byte line: every other line is as it was
-  pub written-old : a % 64 + length bs ≤ 64 → (b : ℕ) → b / 64 * 64 ≢ a / 64 * 64 → (c : ℕ) → F b c → F′ b c
+  pub written-old : a % 64 + length bs ≤ 64 → (b : ℕ) → b / 64 * 64 ≢ a / 64 * 64 → (c : ℕ) → P b c → P′ b c
   written-old h b n = k .outside b (λ g. let z = n in omega arith)
 
   -- what was right before is right after both were written
-  pub written-both : (G G′ : ℕ → ℕ) → Wrote G G′ a bs → (b : ℕ) → F b (G b) → F′ b (G′ b)
+  pub written-both : (G G′ : ℕ → ℕ) → Wrote G G′ a bs → (b : ℕ) → P b (G b) → P′ b (G′ b)
   written-both G G′ k′ b e =
-      inside-or-not a b (length bs) (λ h h′. carry F′ (k′ .inside b h h′) (k .inside b h h′))
-      (λ h. carry F′ (k′ .outside b h) (k .outside b h (G b) e))
+      inside-or-not a b (length bs) (λ h h′. subst (P′ b) (sym (k′ .inside b h h′)) (k .inside b h h′))
+      (λ h. subst (P′ b) (sym (k′ .outside b h)) (k .outside b h (G b) e))
 
   -- a slot at p of n bytes, with the line at b, which holds a at offset o
   pub written-slot : (m : List ℕ) (p n b o : ℕ) → b + o ≡ a → o + length bs ≤ n → p + n ≤ length m → (i : ℕ) → i < n →
-      F (b + i) (getD m (p + i) 0) → F′ (b + i) (getD (stored m (p + o) bs) (p + i) 0)
+      P (b + i) (getD m (p + i) 0) → P′ (b + i) (getD (stored m (p + o) bs) (p + i) 0)
   written-slot m p n b o e h f i hi t =
       inside-or-not o i (length bs)
       (λ g g′. let j : p + i - (p + o) ≡ b + i - a = omega arith in
-      carry F′ (stored-at m bs (p + o) (omega arith) (p + i) (omega arith) (omega arith)) (rw j (k .inside (b + i) (omega arith) (omega arith))))
-      (λ g. carry F′ (stored-elsewhere m bs (p + o) (omega arith) (p + i) (λ c. let d = g (omega arith) in omega arith))
+      subst (P′ (b + i)) (sym (stored-at m bs (p + o) (omega arith) (p + i) (omega arith) (omega arith))) (rw j (k .inside (b + i) (omega arith) (omega arith))))
+      (λ g. subst (P′ (b + i)) (sym (stored-elsewhere m bs (p + o) (omega arith) (p + i) (λ c. let d = g (omega arith) in omega arith)))
       (k .outside (b + i) (λ c. let d = g (omega arith) in omega arith) (getD m (p + i) 0) t))
 
 -- a half line at address a goes into the slot at p with the line at b

@@ -24,7 +24,7 @@ use Rattle.model.specs.declared.Line.{Line}
 use Rattle.model.specs.declared.Record.{Record}
 use Rattle.agreement.proofs.Level.{Valid, Free, Replaced}
 use Rattle.agreement.proofs.Invariant.{Allowed, carry, Layout, InL2Line, Invariant, invariant-same, l1d-written, l2-written, memory-written}
-use Rattle.agreement.proofs.Memory.{lowStored, highStored, Fits, low-length, high-length, read-length, read-at, Wrote, wrote-memory, Written, written-old, written-both, written-slot}
+use Rattle.agreement.proofs.Memory.{lowStored, highStored, Fits, low-length, high-length, read-length, read-at, Wrote, wrote-memory, Written, written-held, wrote-old, written-old, written-both, written-slot}
 use Rattle.agreement.proofs.Good.{layoutOf, l1dLevel, l2Level, memoryOf, Good, Kept, kept-refl, kept-trans, Hit, l1d-hit, l1d-miss, l1d-bounds, l2-bounds, l1d-victim-bound, l1d-fits, l2-fits, l1d-rest, l2-rest, lists-tidy, l1d-replaced, l1d-tidy, l2-replaced, l2-tidy, useL1d-good, useL1d-kept}
 use Rattle.agreement.proofs.Evict.{putMemory-state, memory-free, memory-keeps-l2, l2-keeps-memory, evictL1d-good}
 use Rattle.agreement.proofs.Fetch.{AccessFits, cacheable-yes, cacheable-no, l1d-may-hold, l1d-uncacheable, l2-uncacheable, fetchL2-good, homeLine-good, fillL1d-good}
@@ -47,7 +47,7 @@ pub record ReadGood (z : State) (F : Allowed) (a n : ℕ) (r : Access) : Type 0 
   pub good : Good (r .next) F
   pub kept : Kept z (r .next)
   pub long : length (r .bytes) ≡ n
-  pub right : (j : ℕ) → j < n → F (a + j) (getD (r .bytes) j 0)
+  pub right : (j : ℕ) → j < n → F .right (a + j) (getD (r .bytes) j 0)
 
 -- the bytes of a line that L1D holds in way w, then the way used
 held-read : (z : State) (F : Allowed) → Good z F → (w k a n : ℕ) → a % 64 + n ≤ 64 → Hit (l1dLevel z) 2 (l1dSetOf a) w (l1dLine a) →
@@ -148,8 +148,11 @@ module _ (z : State) (F F′ : Allowed) (q : Good z F) (a : ℕ) (bs : List ℕ)
       let z′ = withExternal (withL2 z (lowStored (z .l2) a bs)) (highStored (z .ext) a bs) in
       let wm : Wrote (memoryOf z) (memoryOf z′) a bs = wrote-memory (z .l2) (z .ext) bs a r (omega arith) in
       let i₁ : Invariant (layoutOf (z .rec)) (l1dLevel z) (l2Level z) (memoryOf z′) F′ =
-      memory-written (layoutOf (z .rec)) (l1dLevel z) (l2Level z) (memoryOf z) F (q .inv) a (memoryOf z′) F′ f₁ f₂ (written-old F F′ a bs wr h)
-      (λ b _ y. written-both F F′ a bs wr (memoryOf z) (memoryOf z′) wm b y) in
+      memory-written (layoutOf (z .rec)) (l1dLevel z) (l2Level z) (memoryOf z) F (q .inv) a (memoryOf z′) F′ (wr .grows) f₁ f₂
+      (written-old (F .right) (F′ .right) a bs (wr .puts) h)
+      (λ b _ y. written-both (F .right) (F′ .right) a bs (wr .puts) (memoryOf z) (memoryOf z′) wm b y)
+      (λ b _ y. written-both (F .held) (F′ .held) a bs (written-held F F′ a bs wr) (memoryOf z) (memoryOf z′) wm b y)
+      (wrote-old (memoryOf z) (memoryOf z′) a bs wm h) in
       rw (putMemory-state a bs z) (record {
         good = record {
           tidy = lists-tidy z (q .tidy) (z .l1d) (lowStored (z .l2) a bs) (highStored (z .ext) a bs) refl (low-length (z .l2) bs a) (high-length (z .ext) bs a);
@@ -176,8 +179,11 @@ module _ (z : State) (F F′ : Allowed) (q : Good z F) (a : ℕ) (bs : List ℕ)
       let u : Replaced 128 (l2Level z) (l2Level z′) t v l =
       l2-replaced z (q .tidy) t v l (z .l1d) m′ (z .ext) ht hv (l2-rest z (q .tidy) F q t v o bs ht hv ho) in
       let i₁ : Invariant (layoutOf (z .rec)) (l1dLevel z) (l2Level z′) (memoryOf z) F′ =
-      l2-written (layoutOf (z .rec)) (l1dLevel z) (l2Level z) (memoryOf z) F (q .inv) (l2Level z′) t v a F′ k e fr u (written-old F F′ a bs wr h)
-      (λ i hi y. written-slot F F′ a bs wr (z .l2) (l2Data (z .rec) t v) 128 (l2LineAt (z .rec) t v .address) o (omega arith) ho f₂ i hi y) in
+      l2-written (layoutOf (z .rec)) (l1dLevel z) (l2Level z) (memoryOf z) F (q .inv) (l2Level z′) t v a F′ (wr .grows) k e fr u
+      (written-old (F .right) (F′ .right) a bs (wr .puts) h)
+      (λ i hi y. written-slot (F .right) (F′ .right) a bs (wr .puts) (z .l2) (l2Data (z .rec) t v) 128 (l2LineAt (z .rec) t v .address) o (omega arith) ho f₂ i hi y)
+      (λ i hi y. written-slot (F .held) (F′ .held) a bs (written-held F F′ a bs wr) (z .l2) (l2Data (z .rec) t v) 128 (l2LineAt (z .rec) t v .address) o
+      (omega arith) ho f₂ i hi y) in
       record {
         good = record {
           tidy = l2-tidy z (q .tidy) t v l (z .l1d) m′ (z .ext) ht (λ x. false-true (sym x)) refl (length-stored (z .l2) bs (l2Data (z .rec) t v + o)) refl;
@@ -205,8 +211,9 @@ module _ (z : State) (F F′ : Allowed) (q : Good z F) (a : ℕ) (bs : List ℕ)
       record {
         good = record {
           tidy = l1d-tidy z (q .tidy) s w l d′ (z .l2) (z .ext) (λ x. false-true (sym x)) (length-stored (z .l1d) bs (l1dData s w + o)) refl refl;
-          inv = l1d-written (layoutOf (z .rec)) (l1dLevel z) (l2Level z) (memoryOf z) F (q .inv) (l1dLevel z′) s w a F′ k e u (written-old F F′ a bs wr h)
-              (λ i hi y. written-slot F F′ a bs wr (z .l1d) (l1dData s w) 64 (l1dLineAt (z .rec) s w .address) o (omega arith) h f₁ i hi y);
+          inv = l1d-written (layoutOf (z .rec)) (l1dLevel z) (l2Level z) (memoryOf z) F (q .inv) (l1dLevel z′) s w a F′ (wr .grows) k e u
+              (written-old (F .right) (F′ .right) a bs (wr .puts) h)
+              (λ i hi y. written-slot (F .right) (F′ .right) a bs (wr .puts) (z .l1d) (l1dData s w) 64 (l1dLineAt (z .rec) s w .address) o (omega arith) h f₁ i hi y);
         };
         kept = record { mode = refl; layout = refl; l2len = refl };
       }

@@ -17,13 +17,13 @@ use Rattle.model.specs.Trace.{command}
 use Rattle.model.specs.Calls.{Reply, refused, carriedOut, commandDue, readDone, writeDone, commandState, accepted, step}
 use Rattle.model.specs.Laws.{cond-elim}
 use Rattle.model.specs.declared.Command.{Command}
-use Rattle.agreement.proofs.Invariant.{Allowed, Layout}
+use Rattle.agreement.proofs.Invariant.{Allowed, grows-refl, Layout}
 use Rattle.agreement.proofs.Good.{Good, Anything, Well}
 use Rattle.agreement.proofs.ReadWrite.{Step}
 use Rattle.agreement.proofs.Sweeps.{l2WritebackAll-good, l2WritebackInvalidateAll-good, l2WritebackBlock-good, l2WritebackInvalidateBlock-good, l1dWritebackInvalidateBlock-good, flush-good}
 use Rattle.agreement.proofs.Changes.{newMode-good, changeMar-good}
 use Rattle.agreement.proofs.Due.{accepted-read, accepted-write, mode-tells, mar-tells}
-use Rattle.agreement.proofs.Drops.{l1dInvalidateAll-well, l1dInvalidateBlock-well, l2InvalidateBlock-well}
+use Rattle.agreement.proofs.Drops.{l1dInvalidateAll-dropped, l1dInvalidateBlock-dropped, l2InvalidateBlock-dropped}
 use Rattle.agreement.proofs.Flushes.{sweptL1d, change-swept}
 
 -- ---- a code is one of the twelve, each written out, or a later number
@@ -108,19 +108,19 @@ module _ (z : State) (h : Well z) (a b v : ℕ) where
   unfolding step commandDue accepted writeDone
   well-1 =
       well-unless (accessDue (sramOf (z .rec)) (z .rec .extlen) a b v) (writeDone a b v z)
-      (λ d. accepted-write z Anything h a b Anything v (record { inside = λ _ _ _. refl; outside = λ _ _ _ _. refl }) d .good)
+      (λ d. accepted-write z Anything h a b Anything v (record { puts = record { inside = λ _ _ _. refl; outside = λ _ _ _ _. refl }; grows = grows-refl Anything }) d .good)
 
   well-6 : Well (step (command 6 a b v) z .next)
   unfolding step commandDue accepted commandState
-  well-6 = well-unless (blockDue a b) (carriedOut (l2InvalidateBlock a b z)) (λ _. l2InvalidateBlock-well z h a b .good)
+  well-6 = well-unless (blockDue a b) (carriedOut (l2InvalidateBlock a b z)) (λ _. l2InvalidateBlock-dropped z h a b .step .good)
 
   well-8 : Well (step (command 8 a b v) z .next)
   unfolding step commandDue accepted commandState
-  well-8 = well-unless (blockDue a b) (carriedOut (l1dInvalidateBlock a b z)) (λ _. l1dInvalidateBlock-well z h a b .good)
+  well-8 = well-unless (blockDue a b) (carriedOut (l1dInvalidateBlock a b z)) (λ _. l1dInvalidateBlock-dropped z h a b .step .good)
 
   well-9 : Well (step (command 9 a b v) z .next)
   unfolding step commandDue accepted commandState
-  well-9 = l1dInvalidateAll-well z h .good
+  well-9 = l1dInvalidateAll-dropped z h .step .good
 
   well-10 : Well (step (command 10 a b v) z .next)
   unfolding step commandDue accepted commandState

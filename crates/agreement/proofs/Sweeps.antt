@@ -83,7 +83,7 @@ sweep z F q f step =
 pub record Flushed (F : Allowed) (x : State) : Type 0 where
   pub l1dNone : (s w : ℕ) → Valid (l1dLevel x) s w → externalBase ≤ l1dLineAt (x .rec) s w .address → ⊥
   pub l2Clean : (t v : ℕ) → Valid (l2Level x) t v → l2LineAt (x .rec) t v .dirty ≡ false
-  pub extRight : (i : ℕ) → i < x .rec .extlen → F (externalBase + i) (getD (x .ext) i 0)
+  pub extRight : (i : ℕ) → i < x .rec .extlen → F .right (externalBase + i) (getD (x .ext) i 0)
 
 pub flushed : (z : State) (F : Allowed) (x : State) → l2SetsOf (z .rec) ≢ 0 → SweptTo z F (l2SetsOf (z .rec) * 4) x → Flushed F x
 flushed z F x ns u =

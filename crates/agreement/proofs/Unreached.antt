@@ -30,7 +30,7 @@ use Rattle.agreement.proofs.Good.{l2Level, Anything, Well, l1d-hit, l2-
 use Rattle.agreement.proofs.Writeback.{Swept, writebackL2-good, evictL2-good}
 use Rattle.agreement.proofs.ReadWrite.{Step}
 use Rattle.agreement.proofs.Sweeps.{each-by, step-refl, step-trans}
-use Rattle.agreement.proofs.Drops.{dropL2-step}
+use Rattle.agreement.proofs.Drops.{dropL2-dropped}
 use Rattle.agreement.proofs.Steps.{codes}
 use Rattle.agreement.proofs.Tested.{due-well}
 
@@ -186,7 +186,7 @@ evict-way x h t v ht hv =
     (evict-keeps x h t v (step-sram x (writebackL2 t v x) (w .step)))
 
 drop-line : AtLine dropL2
-drop-line x h t v k ht hv = record { step = dropL2-step x h t v k ht hv; kept = drop-keeps x h t v k }
+drop-line x h t v k ht hv = record { step = dropL2-dropped x h t v k ht hv .step; kept = drop-keeps x h t v k }
 
 module _ (z : State) (h : Well z) (f : ℕ → ℕ → State → State) where
   all-keeps : AtWay f → Keeping z (unlessMode0 (eachL2 f) z)
