@@ -1,0 +1,3 @@
+pub mod ByteAt
+pub mod Dropping
+pub mod Held

@@ -1,0 +1,161 @@
+-- 02, U13, "Dropped lines": what it says, in the request's own words. `dropped-lines` (proofs/Words) shows it, from the
+-- stronger form of Stronger. Read it from the top: the calls of a list, the byte of an address, the calls that the
+-- sentences name, what is kept of each address along a list, the three sentences at one place of it, the whole list.
+use Prim.Native.Nat.{ℕ, zero, suc, _+_, _-_, _/_}
+use mathlib.Core.Bool.{Bool, true, false, not, cond, _&&_, _||_}
+use mathlib.Core.Path.{_≡_}
+use mathlib.Core.List.{List, [], _∷_}
+use lib.ListN.{length, getD}
+use lib.Dec.{ltb, leb, eqb}
+use Rattle.model.specs.Basics.{anyOf}
+use Rattle.model.specs.Bytes.{little, littleBytes}
+use Rattle.model.specs.Lines.{l1dKind, l2LineLength}
+use Rattle.model.specs.Records.{State}
+use Rattle.model.specs.Ways.{inL1d, inL2}
+use Rattle.model.specs.Homes.{memoryPart}
+use Rattle.model.specs.Commands.{linesTouched}
+use Rattle.model.specs.Flat.{Flat, freshFlat, flatStep, flatCalled}
+use Rattle.model.specs.Trace.{command}
+use Rattle.model.specs.Calls.{Reply, call, freshCall, Call, oneCommand, freshStart, look, called}
+use Rattle.model.specs.declared.Command.{Command}
+use Rattle.dropped_lines.specs.Reached.{within, sends}
+
+-- ---- "For lists that also hold the three invalidating commands, external transfers left out": commands of every code
+-- with any numbers, refused ones too, and views. A fresh start begins a list and is no call of it; transfers are no
+-- calls yet.
+abbrev pub listedCall : Call → Bool
+listedCall (oneCommand k) = true
+listedCall freshStart = false
+listedCall (look b) = true
+
+unfoldable pub listed : List Call → Bool
+listed [] = true
+listed (c ∷ cs) = listedCall c && listed cs
+
+-- ---- the byte of address a: what a CPU data read of that one byte gives; the same of flat memory; the n bytes from a on
+abbrev pub oneByte : ℕ → Command
+oneByte a = command 0 1 a 0
+
+unfoldable pub byteAt : State → ℕ → ℕ
+byteAt z a = call (oneByte a) z .value
+
+unfoldable pub flatByteAt : Flat → ℕ → ℕ
+flatByteAt f a = flatStep (oneByte a) f .value
+
+unfoldable pub bytesAt : State → ℕ → ℕ → List ℕ
+bytesAt z a zero = []
+bytesAt z a (suc n) = byteAt z a ∷ bytesAt z (suc a) n
+
+-- the byte of its external memory, "(for SRAM, its SRAM byte)"
+unfoldable pub memoryAt : State → ℕ → ℕ
+memoryAt z a = getD (memoryPart a 1 z) 0 0
+
+-- ---- the calls that the sentences name: call c is a command that was accepted (its answer is r), and p holds of it
+abbrev pub does : (Command → Bool) → Call → Reply → Bool
+does p (oneCommand k) r = eqb (r .number) 0 && p k
+does p freshStart r = false
+does p (look b) r = false
+
+-- "each byte of a CPU data read"
+unfoldable pub reads : Call → Reply → ℕ → Bool
+reads c r a = does (λ k. eqb (k .code) 0 && within (k .second) (k .first) a) c r
+
+-- "the last one written": the call writes a, and which byte
+unfoldable pub writes : Call → Reply → ℕ → Bool
+writes c r a = does (λ k. eqb (k .code) 1 && within (k .second) (k .first) a) c r
+
+abbrev pub newByte : Call → ℕ → ℕ
+newByte (oneCommand k) a = getD (littleBytes (k .value) (k .first)) (a - k .second) 0
+newByte freshStart a = 0
+newByte (look b) a = 0
+
+unfoldable pub changesMode : Call → Reply → Bool
+changesMode c r = does (λ k. eqb (k .code) 10) c r
+
+-- "a writeback last reached its external memory (for SRAM, its SRAM byte), .. a fresh start or mode change counting as
+-- one": one of the call's steps sent the line with a out there, the call being made in state z
+unfoldable pub reached : Call → State → Reply → ℕ → Bool
+reached c z r a = does (λ k. sends k z a) c r || changesMode c r
+
+-- "the three invalidating commands"
+abbrev pub dropCode : ℕ → Bool
+dropCode k = eqb k 6 || (eqb k 8 || eqb k 9)
+
+-- "line that was dropped": one of these commands made a valid line with a invalid, in L1D or in L2, dirty or clean
+unfoldable pub dropsLine : Call → State → Reply → ℕ → Bool
+dropsLine c z r a =
+    does (λ k. dropCode (k .code)) c r &&
+    ((inL1d z a && not (inL1d (r .next) a)) || (inL2 z a && not (inL2 (r .next) a)))
+
+-- "drop touching its line (128 bytes for L2's, 64 for L1D's)": the block of such a command touches the line of n bytes
+-- that has a in it, whatever the caches hold there; or it is the one over all L1D lines
+abbrev pub touchesLine : ℕ → Command → ℕ → Bool
+touchesLine n k a = leb (k .first / n) (a / n) && ltb (a / n) (k .first / n + linesTouched n (k .first) (k .second))
+
+unfoldable pub dropTouches : Call → Reply → ℕ → Bool
+dropTouches c r a =
+    does (λ k. cond (eqb (k .code) 6) (touchesLine l2LineLength k a)
+    (cond (eqb (k .code) 8) (touchesLine (l1dKind .lineLength) k a) (eqb (k .code) 9))) c r
+
+-- ---- what is kept of each address along a list: "the last one written", if there was one; the values that it "held
+-- since a writeback last reached its external memory .., that value included"; whether it was "in [a] line that was
+-- dropped"
+pub record History : Type 0 where
+  pub last : ℕ → List ℕ
+  pub held : ℕ → List ℕ
+  pub dropped : ℕ → Bool
+
+-- behind a fresh start in state z: it counts as a writeback
+abbrev pub atFirst : State → History
+atFirst z = record { last = λ _. []; held = λ a. memoryAt z a ∷ []; dropped = λ _. false }
+
+-- behind call c, made in state z and answered r
+unfoldable pub lastAfter : Call → Reply → (ℕ → List ℕ) → ℕ → List ℕ
+lastAfter c r last a = cond (writes c r a) (newByte c a ∷ []) (last a)
+
+unfoldable pub heldAfter : Call → State → Reply → (ℕ → List ℕ) → ℕ → List ℕ
+heldAfter c z r held a =
+    cond (reached c z r a) (memoryAt (r .next) a ∷ []) (cond (writes c r a) (newByte c a ∷ held a) (held a))
+
+abbrev pub historyAfter : Call → State → Reply → History → History
+historyAfter c z r y =
+    record {
+      last = lastAfter c r (y .last);
+      held = heldAfter c z r (y .held);
+      dropped = λ a. y .dropped a || dropsLine c z r a;
+    }
+
+-- ---- the three sentences at one place of a list: z and f are the chip and flat memory before call c; `may a b` says
+-- that a read may find b at a, `dropped a` that a was in a line that was dropped, `ends a` that the call may change the
+-- byte of a
+pub record HoldsAt (c : Call) (z : State) (f : Flat) (may : ℕ → ℕ → Bool) (dropped ends : ℕ → Bool) : Type 0 where
+  -- an accepted read's value is the bytes of its addresses
+  pub bytes : (k : Command) → c ≡ oneCommand k → k .code ≡ 0 → call k z .number ≡ 0 → call k z .value ≡ little (bytesAt z (k .second) (k .first))
+  pub sentence1 : (a : ℕ) → reads c (called c z) a ≡ true → may a (byteAt z a) ≡ true
+  pub sentence2 : (a : ℕ) → reads c (called c z) a ≡ true → dropped a ≡ false → byteAt z a ≡ flatByteAt f a
+  pub sentence3 : (a : ℕ) → ends a ≡ false → byteAt (called c z .next) a ≡ byteAt z a
+
+-- "each byte of a CPU data read is the last one written .., or one it held since .."
+abbrev pub oneOf : List ℕ → ℕ → Bool
+oneOf bs b = anyOf (eqb b) bs
+
+abbrev pub lastOrHeld : History → ℕ → ℕ → Bool
+lastOrHeld y a b = oneOf (y .last a) b || oneOf (y .held a) b
+
+-- "A byte keeps its value until the next write to it, drop touching its line (128 bytes for L2's, 64 for L1D's), or mode
+-- change."
+unfoldable pub mayChange : Call → Reply → ℕ → Bool
+mayChange c r a = writes c r a || (dropTouches c r a || changesMode c r)
+
+-- ---- along the whole list ("Bytes in no line that was dropped read as flat memory.": `dropped` of the history)
+pub data Holds : List Call → State → Flat → History → Type 0 where
+  end : {z : State} {f : Flat} {y : History} → Holds [] z f y
+  next : {c : Call} {cs : List Call} {z : State} {f : Flat} {y : History} →
+      HoldsAt c z f (lastOrHeld y) (y .dropped) (mayChange c (called c z)) →
+      Holds cs (called c z .next) (flatCalled c f .next) (historyAfter c z (called c z) y) → Holds (c ∷ cs) z f y
+
+-- ---- U13: from an accepted fresh start, for every list
+abbrev pub DroppedLines : Type 0
+DroppedLines =
+    (d m e : List ℕ) → freshCall d m e .number ≡ 0 →
+    (cs : List Call) → listed cs ≡ true → Holds cs (freshCall d m e .next) (freshFlat (length m) e) (atFirst (freshCall d m e .next))

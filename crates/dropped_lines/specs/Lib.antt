@@ -1,0 +1,4 @@
+pub mod Reached
+pub mod Dropped
+pub mod Stronger
+pub mod Runs
