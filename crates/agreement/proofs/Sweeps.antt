@@ -130,18 +130,18 @@ module _ (z : State) (F : Allowed) (q : Good z F) where
   unfolding unlessMode0
   unless-good f s = cond-elim (Step z F) (mode0 (z .rec)) z (f z) (λ _. step-refl z F q) (λ _. s)
 
-evictL1d-step : (z : State) (F : Allowed) → Good z F → (s w : ℕ) → s < 128 → w < 2 → Step z F (evictL1d s w z)
+pub evictL1d-step : (z : State) (F : Allowed) → Good z F → (s w : ℕ) → s < 128 → w < 2 → Step z F (evictL1d s w z)
 evictL1d-step z F q s w hs hw = let l = evictL1d-good z F q s w hs hw .left in record { good = l .good; kept = l .kept }
 
-swept-step : (z : State) (F : Allowed) (t v : ℕ) (z′ : State) → Swept z F t v z′ → Step z F z′
+pub swept-step : (z : State) (F : Allowed) (t v : ℕ) (z′ : State) → Swept z F t v z′ → Step z F z′
 swept-step z F t v z′ s = record { good = s .good; kept = s .kept }
 
 -- ---- the commands
 module _ (F : Allowed) where
-  writebackL2-sweeps : Sweeps F writebackL2
+  pub writebackL2-sweeps : Sweeps F writebackL2
   writebackL2-sweeps x g t v ht hv = writebackL2-good x F g t v ht hv
 
-  evictL2-sweeps : Sweeps F evictL2
+  pub evictL2-sweeps : Sweeps F evictL2
   evictL2-sweeps x g t v ht hv = evictL2-good x F g t v ht hv .swept
 
 module _ (z : State) (F : Allowed) (q : Good z F) where

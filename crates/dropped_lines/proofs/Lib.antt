@@ -1,3 +1,4 @@
 pub mod ByteAt
 pub mod Dropping
 pub mod Held
+pub mod Sent
