@@ -66,7 +66,7 @@ dropped-refl z h =
       l2Fewer = λ _ _ _. refl;
     }
 
-dropped-trans : (z x y : State) → Dropped z x → Dropped x y → Dropped z y
+pub dropped-trans : (z x y : State) → Dropped z x → Dropped x y → Dropped z y
 dropped-trans z x y a b =
     record {
       step = step-trans z x y Anything (a .step) (b .step);
@@ -169,6 +169,18 @@ dropL2-dropped z h t v k ht hv =
     dropped-trans z z₂ (emptyL2 t v z₂) d
     (emptyL2-dropped z₂ (d .step .good) t v (rw (d .step .kept .mode) ht) hv (λ s′ w′ i e. none s′ w′ i (e ∙ ap (λ (r : Line). r .address) same)))
 
+-- ---- one line of a block, if L1D holds it, or L2
+pub atL1d-dropped : (z : State) → Well z → (b : ℕ) → Dropped z (atL1d emptyL1d b z)
+atL1d-dropped z h b = half-dropped z h b .dropped
+
+pub atL2-dropped : (z : State) → Well z → (b : ℕ) → Dropped z (atL2 dropL2 b z)
+unfolding atL2
+atL2-dropped z h b =
+    let t = l2SetOf (z .rec) b in let v = l2Way z b in
+    cond-elim (Dropped z) (inL2 z b) (dropL2 t v z) z
+    (λ y. let p = l2-hit z b y in dropL2-dropped z h t v (p .valid) (l2-bounds z Anything h t v (p .valid) .0) (p .way))
+    (λ _. dropped-refl z h)
+
 -- ---- the commands
 module _ (z : State) (h : Well z) where
   touched-dropped : (n : ℕ) (f : ℕ → State → State) → ((a : ℕ) (x : State) → Well x → Dropped x (f a x)) → (b c : ℕ) → Dropped z (eachTouched n f b c z)
@@ -186,14 +198,10 @@ module _ (z : State) (h : Well z) where
 
   pub l1dInvalidateBlock-dropped : (b c : ℕ) → Dropped z (l1dInvalidateBlock b c z)
   unfolding l1dInvalidateBlock
-  l1dInvalidateBlock-dropped b c = touched-dropped 64 (atL1d emptyL1d) (λ a x g. half-dropped x g a .dropped) b c
+  l1dInvalidateBlock-dropped b c = touched-dropped 64 (atL1d emptyL1d) (λ a x g. atL1d-dropped x g a) b c
 
   pub l2InvalidateBlock-dropped : (b c : ℕ) → Dropped z (l2InvalidateBlock b c z)
-  unfolding l2InvalidateBlock unlessMode0 atL2
+  unfolding l2InvalidateBlock unlessMode0
   l2InvalidateBlock-dropped b c =
       cond-elim (Dropped z) (mode0 (z .rec)) z (eachTouched 128 (atL2 dropL2) b c z) (λ _. dropped-refl z h)
-      (λ _. touched-dropped 128 (atL2 dropL2)
-      (λ a x g. cond-elim (Dropped x) (inL2 x a) (dropL2 (l2SetOf (x .rec) a) (l2Way x a) x) x
-      (λ y. let p = l2-hit x a y in
-      dropL2-dropped x g (l2SetOf (x .rec) a) (l2Way x a) (p .valid) (l2-bounds x Anything g (l2SetOf (x .rec) a) (l2Way x a) (p .valid) .0) (p .way))
-      (λ _. dropped-refl x g)) b c)
+      (λ _. touched-dropped 128 (atL2 dropL2) (λ a x g. atL2-dropped x g a) b c)

@@ -23,7 +23,7 @@ use Rattle.agreement.proofs.ReadWrite.{Step}
 use Rattle.agreement.proofs.Sweeps.{l2WritebackAll-good, l2WritebackInvalidateAll-good, l2WritebackBlock-good, l2WritebackInvalidateBlock-good, l1dWritebackInvalidateBlock-good, flush-good}
 use Rattle.agreement.proofs.Changes.{newMode-good, changeMar-good}
 use Rattle.agreement.proofs.Due.{accepted-read, accepted-write, mode-tells, mar-tells}
-use Rattle.agreement.proofs.Drops.{l1dInvalidateAll-dropped, l1dInvalidateBlock-dropped, l2InvalidateBlock-dropped}
+use Rattle.agreement.proofs.Drops.{Dropped, dropped-refl, l1dInvalidateAll-dropped, l1dInvalidateBlock-dropped, l2InvalidateBlock-dropped}
 use Rattle.agreement.proofs.Flushes.{sweptL1d, change-swept}
 
 -- ---- a code is one of the twelve, each written out, or a later number
@@ -94,6 +94,24 @@ module _ (z : State) (F : Allowed) (q : Good z F) (a b v : ℕ) where
   unfolding step commandDue accepted commandState
   quiet-11 = quiet-unless (marDue (z .rec) a b) (changeMar a b z) mar-quiet
 
+-- ---- the commands that drop lines; one that is refused drops none
+module _ (z : State) (h : Well z) (a b v : ℕ) where
+  dropped-unless : (z′ : State) → Dropped z z′ → Dropped z (cond (eqb (blockDue a b) 0) (carriedOut z′) (refused (blockDue a b) z) .next)
+  dropped-unless z′ d =
+      cond-elim (λ (y : Reply). Dropped z (y .next)) (eqb (blockDue a b) 0) (carriedOut z′) (refused (blockDue a b) z) (λ _. d) (λ _. dropped-refl z h)
+
+  pub dropped-6 : Dropped z (step (command 6 a b v) z .next)
+  unfolding step commandDue accepted commandState
+  dropped-6 = dropped-unless (l2InvalidateBlock a b z) (l2InvalidateBlock-dropped z h a b)
+
+  pub dropped-8 : Dropped z (step (command 8 a b v) z .next)
+  unfolding step commandDue accepted commandState
+  dropped-8 = dropped-unless (l1dInvalidateBlock a b z) (l1dInvalidateBlock-dropped z h a b)
+
+  pub dropped-9 : Dropped z (step (command 9 a b v) z .next)
+  unfolding step commandDue accepted commandState
+  dropped-9 = l1dInvalidateAll-dropped z h
+
 -- ---- every command keeps a well-formed state
 module _ (z : State) (h : Well z) (a b v : ℕ) where
   -- any reply whose accepted form leaves a well-formed state
@@ -109,18 +127,6 @@ module _ (z : State) (h : Well z) (a b v : ℕ) where
   well-1 =
       well-unless (accessDue (sramOf (z .rec)) (z .rec .extlen) a b v) (writeDone a b v z)
       (λ d. accepted-write z Anything h a b Anything v (record { puts = record { inside = λ _ _ _. refl; outside = λ _ _ _ _. refl }; grows = grows-refl Anything }) d .good)
-
-  well-6 : Well (step (command 6 a b v) z .next)
-  unfolding step commandDue accepted commandState
-  well-6 = well-unless (blockDue a b) (carriedOut (l2InvalidateBlock a b z)) (λ _. l2InvalidateBlock-dropped z h a b .step .good)
-
-  well-8 : Well (step (command 8 a b v) z .next)
-  unfolding step commandDue accepted commandState
-  well-8 = well-unless (blockDue a b) (carriedOut (l1dInvalidateBlock a b z)) (λ _. l1dInvalidateBlock-dropped z h a b .step .good)
-
-  well-9 : Well (step (command 9 a b v) z .next)
-  unfolding step commandDue accepted commandState
-  well-9 = l1dInvalidateAll-dropped z h .step .good
 
   well-10 : Well (step (command 10 a b v) z .next)
   unfolding step commandDue accepted commandState
@@ -152,7 +158,8 @@ step-well c z h =
     let a = c .first in let b = c .second in let v = c .value in
     codes (λ (k : ℕ). Well (step (command k a b v) z .next))
     (well-0 z h a b v) (well-1 z h a b v) (quiet-2 z Anything h a b v .good) (quiet-3 z Anything h a b v .good) (quiet-4 z Anything h a b v .good)
-    (quiet-5 z Anything h a b v .good) (well-6 z h a b v) (quiet-7 z Anything h a b v .good) (well-8 z h a b v) (well-9 z h a b v) (well-10 z h a b v)
+    (quiet-5 z Anything h a b v .good) (dropped-6 z h a b v .step .good) (quiet-7 z Anything h a b v .good) (dropped-8 z h a b v .step .good)
+    (dropped-9 z h a b v .step .good) (well-10 z h a b v)
     (quiet-11 z Anything h a b v .good)
     (λ k l. let e = other-code k a b v z l in rw e h)
     (c .code)

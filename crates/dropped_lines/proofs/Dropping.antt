@@ -17,14 +17,13 @@ use Rattle.model.specs.Memories.{externalBase, legalL2, legalExternal, sramLeng
 use Rattle.model.specs.Records.{State, sramOf, freshRecord, freshState}
 use Rattle.model.specs.Access.{readAccess, writeAccess}
 use Rattle.model.specs.Modes.{smaller, flushL2, newMode, changeMode}
-use Rattle.model.specs.Commands.{l2InvalidateBlock, l1dInvalidateBlock}
 use Rattle.model.specs.Flat.{Flat, flat, FlatReply, flatReply, freshFlat, flatPart, flatPut, flatMode, flatRead, flatWrite, flatChange, flatStep, flatCalled}
 use Rattle.model.specs.Refusals.{accessDue, blockDue, modeDue}
 use Rattle.model.specs.Trace.{command}
 use Rattle.model.specs.Calls.{Reply, refused, carriedOut, commandDue, readDone, writeDone, commandState, accepted, step, call, viewDone, Call, oneCommand, freshStart, look, called}
 use Rattle.dropped_lines.specs.Dropped.{listedCall, listed, byteAt, memoryAt, reads, writes, newByte, changesMode, dropCode, HoldsAt, oneOf}
 use Rattle.dropped_lines.specs.Reached.{within}
-use Rattle.dropped_lines.specs.Stronger.{dirtyInL1d, dirtyInL2, inDirtyLine, isDrop, loses, showsAfter, lostAfter, changes, HoldsStronger, StrongerDroppedLines, end, next}
+use Rattle.dropped_lines.specs.Stronger.{dirtyInL1d, dirtyInL2, inDirtyLine, loses, showsAfter, lostAfter, changes, HoldsStronger, StrongerDroppedLines, end, next}
 use Rattle.model.specs.Laws.{bool, false-true, both-true, cond-elim, length-littleBytes}
 use Rattle.model.specs.declared.Command.{Command}
 use Rattle.agreement.proofs.Invariant.{Allowed, Layout, Inside}
@@ -36,8 +35,8 @@ use Rattle.agreement.proofs.ReadWrite.{Step}
 use Rattle.agreement.proofs.Sweeps.{flush-good}
 use Rattle.agreement.proofs.Changes.{zero-length, zero-below, zero-above, smaller-bound, fresh-l1d-none, fresh-l2-none, fresh-good, newMode-good}
 use Rattle.agreement.proofs.Due.{access-tells, accepted-read, accepted-write, mode-tells}
-use Rattle.agreement.proofs.Drops.{Dropped, dropped-refl, l1dInvalidateAll-dropped, l1dInvalidateBlock-dropped, l2InvalidateBlock-dropped}
-use Rattle.agreement.proofs.Steps.{codes, Quiet, quiet-refl, quiet-step, quiet-2, quiet-3, quiet-4, quiet-5, quiet-7, quiet-11, other-code}
+use Rattle.agreement.proofs.Drops.{Dropped}
+use Rattle.agreement.proofs.Steps.{codes, Quiet, quiet-refl, quiet-step, quiet-2, quiet-3, quiet-4, quiet-5, quiet-7, quiet-11, dropped-6, dropped-8, dropped-9, other-code}
 use Rattle.agreement.proofs.Tested.{call-step}
 use Rattle.agreement.proofs.Flushes.{sweptL1d, change-swept}
 use Rattle.agreement.proofs.Agreement.{flatByte, flatPut-state, fresh-matches, fresh-accepted}
@@ -49,7 +48,7 @@ pub record Follows (z : State) (f : Flat) (h : ℕ → List ℕ) (lost : ℕ →
   pub agrees : (a : ℕ) → Inside (layoutOf (z .rec)) a → lost a ≡ false → g a ≡ flatByte f a
 
 -- values of an address that could show before can show still, if a dirty line holds it
-pub grown : Call → Reply → (ℕ → List ℕ) → ℕ → List ℕ
+unfoldable pub grown : Call → Reply → (ℕ → List ℕ) → ℕ → List ℕ
 grown c r h a = cond (writes c r a) (newByte c a ∷ h a) (h a)
 
 grown-in : (c : Call) (r : Reply) (h : ℕ → List ℕ) (a x : ℕ) → In x (h a) → In x (grown c r h a)
@@ -81,7 +80,7 @@ lost-before : (c : Call) (z : State) (r : Reply) (lost : ℕ → Bool) (a : ℕ)
 unfolding lostAfter
 lost-before c z r lost a w e = neither (lost a) (loses c z r a) (rw w at e)
 
-unchanged : (c : Call) (z : State) (r : Reply) (a : ℕ) → changes c z r a ≡ false →
+pub unchanged : (c : Call) (z : State) (r : Reply) (a : ℕ) → changes c z r a ≡ false →
     (loses c z r a ≡ false) × (writes c r a ≡ false) × (changesMode c r ≡ false)
 unfolding changes
 unchanged c z r a t =
@@ -109,7 +108,7 @@ not-lost z z′ a e =
     let n = neither (dirtyInL1d z a && not (dirtyInL1d z′ a)) (dirtyInL2 z a && not (dirtyInL2 z′ a)) e in
     (kept-dirty (dirtyInL1d z a) (dirtyInL1d z′ a) (n .0), kept-dirty (dirtyInL2 z a) (dirtyInL2 z′ a) (n .1))
 
-inside-same : (z z′ : State) (a : ℕ) → sramOf (z′ .rec) ≡ sramOf (z .rec) → z′ .rec .extlen ≡ z .rec .extlen → Inside (layoutOf (z′ .rec)) a →
+pub inside-same : (z z′ : State) (a : ℕ) → sramOf (z′ .rec) ≡ sramOf (z .rec) → z′ .rec .extlen ≡ z .rec .extlen → Inside (layoutOf (z′ .rec)) a →
     Inside (layoutOf (z .rec)) a
 inside-same z z′ a s x i = record { low = λ k. let l = i .low k in omega arith; high = λ k. let l = i .high k in omega arith }
 
@@ -382,12 +381,6 @@ module _ (z : State) (f : Flat) (h : ℕ → List ℕ) (lost : ℕ → Bool) (g 
   well : Well z
   well = good-well z (Seen g h) (m .good)
 
-  -- refused, it drops nothing
-  drop-unless : (z′ : State) → Dropped z z′ → Dropped z (cond (eqb (blockDue a b) 0) (carriedOut z′) (refused (blockDue a b) z) .next)
-  drop-unless z′ d =
-      cond-elim (λ (y : Reply). Dropped z (y .next)) (eqb (blockDue a b) 0) (carriedOut z′) (refused (blockDue a b) z) (λ _. d)
-      (λ _. dropped-refl z well)
-
   dropping : (k : ℕ) → eqb k 1 ≡ false → dropCode k ≡ true → flatStep (command k a b v) f .next ≡ f → Dropped z (step (command k a b v) z .next) → Done k
   unfolding loses
   dropping k w t e d =
@@ -395,16 +388,16 @@ module _ (z : State) (f : Flat) (h : ℕ → List ℕ) (lost : ℕ → Bool) (g 
       drop-after z f h lost g m (oneCommand c) (step c z) (flatStep c f .next) e (no-write k a b v w (step c z)) (λ x n. rw t at n) d
 
   done-6 : Done 6
-  unfolding step commandDue accepted commandState flatStep
-  done-6 = dropping 6 refl refl refl (drop-unless (l2InvalidateBlock a b z) (l2InvalidateBlock-dropped z well a b))
+  unfolding flatStep
+  done-6 = dropping 6 refl refl refl (dropped-6 z well a b v)
 
   done-8 : Done 8
-  unfolding step commandDue accepted commandState flatStep
-  done-8 = dropping 8 refl refl refl (drop-unless (l1dInvalidateBlock a b z) (l1dInvalidateBlock-dropped z well a b))
+  unfolding flatStep
+  done-8 = dropping 8 refl refl refl (dropped-8 z well a b v)
 
   done-9 : Done 9
-  unfolding step commandDue accepted commandState flatStep
-  done-9 = dropping 9 refl refl refl (l1dInvalidateAll-dropped z well)
+  unfolding flatStep
+  done-9 = dropping 9 refl refl refl (dropped-9 z well a b v)
 
   done-10 : Done 10
   unfolding step commandDue accepted commandState flatStep flatChange
@@ -487,7 +480,7 @@ reads-inside (oneCommand c) z w a y =
     due-inside z (c .first) (c .second) 0 (read-tells c z (eqb-true (c .code) 0 (q .0)) n .0) a (leb-true (c .second) a (i .0))
     (ltb-true a (c .second + c .first) (i .1))
 
-holds-at : (c : Call) (z : State) (f : Flat) (h : ℕ → List ℕ) (lost : ℕ → Bool) (g : ℕ → ℕ) → listedCall c ≡ true → Follows z f h lost g →
+pub holds-at : (c : Call) (z : State) (f : Flat) (h : ℕ → List ℕ) (lost : ℕ → Bool) (g : ℕ → ℕ) → listedCall c ≡ true → Follows z f h lost g →
     HoldsAt c z f (λ a b. oneOf (h a) b) lost (changes c z (called c z))
 holds-at c z f h lost g y m =
     let q = m .good in

@@ -42,7 +42,7 @@ use Rattle.agreement.proofs.Steps.{codes, step-well, other-code}
 use Rattle.dropped_lines.specs.Reached.{within, l1dSends, l2Sends, fetchSends, readSends, writeSends, oneSends, allSend, touchedSend, touchedL1dSend, lineOfBlock, chosen, sends}
 use Rattle.dropped_lines.specs.Stronger.{dirtyInL1d, dirtyInL2, inDirtyLine}
 
-either {ℓ} : {A : Type ℓ} (a b : Bool) → (a || b) ≡ true → (a ≡ true → A) → (b ≡ true → A) → A
+pub either {ℓ} : {A : Type ℓ} (a b : Bool) → (a || b) ≡ true → (a ≡ true → A) → (b ≡ true → A) → A
 either true b e f g = f refl
 either false b e f g = g e
 

@@ -81,10 +81,16 @@ reached c z r a = does (λ k. sends k z a) c r || changesMode c r
 abbrev pub dropCode : ℕ → Bool
 dropCode k = eqb k 6 || (eqb k 8 || eqb k 9)
 
--- "line that was dropped": one of these commands made a valid line with a invalid, in L1D or in L2, dirty or clean
+abbrev pub isDrop : Call → Bool
+isDrop (oneCommand k) = dropCode (k .code)
+isDrop freshStart = false
+isDrop (look b) = false
+
+-- "line that was dropped": one of these commands found a valid line with a, in L1D or in L2, dirty or clean, and left
+-- none there (one that is refused leaves every line)
 unfoldable pub dropsLine : Call → State → Reply → ℕ → Bool
 dropsLine c z r a =
-    does (λ k. dropCode (k .code)) c r &&
+    isDrop c &&
     ((inL1d z a && not (inL1d (r .next) a)) || (inL2 z a && not (inL2 (r .next) a)))
 
 -- "drop touching its line (128 bytes for L2's, 64 for L1D's)": the block of such a command touches the line of n bytes

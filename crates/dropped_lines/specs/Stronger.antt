@@ -14,8 +14,8 @@ use Rattle.model.specs.Lines.{l1dSetOf}
 use Rattle.model.specs.Records.{State, l2SetOf, l1dLineAt, l2LineAt}
 use Rattle.model.specs.Ways.{l1dWay, l2Way, inL1d, inL2}
 use Rattle.model.specs.Flat.{Flat, freshFlat, flatCalled}
-use Rattle.model.specs.Calls.{Reply, freshCall, Call, oneCommand, freshStart, look, called}
-use Rattle.dropped_lines.specs.Dropped.{listed, memoryAt, writes, newByte, changesMode, dropCode, HoldsAt, oneOf}
+use Rattle.model.specs.Calls.{Reply, freshCall, Call, called}
+use Rattle.dropped_lines.specs.Dropped.{listed, memoryAt, writes, newByte, changesMode, isDrop, HoldsAt, oneOf}
 
 -- ---- a dirty line of L1D (64 bytes), or of L2 (128), has address a
 unfoldable pub dirtyInL1d : State → ℕ → Bool
@@ -27,13 +27,7 @@ dirtyInL2 z a = inL2 z a && l2LineAt (z .rec) (l2SetOf (z .rec) a) (l2Way z a) .
 unfoldable pub inDirtyLine : State → ℕ → Bool
 inDirtyLine z a = dirtyInL1d z a || dirtyInL2 z a
 
--- ---- an invalidating command found a dirty line with address a and left none at that level. (One that is refused
--- changes no line.)
-abbrev pub isDrop : Call → Bool
-isDrop (oneCommand k) = dropCode (k .code)
-isDrop freshStart = false
-isDrop (look b) = false
-
+-- ---- an invalidating command found a dirty line with address a and left none at that level
 unfoldable pub loses : Call → State → Reply → ℕ → Bool
 loses c z r a =
     isDrop c && ((dirtyInL1d z a && not (dirtyInL1d (r .next) a)) || (dirtyInL2 z a && not (dirtyInL2 (r .next) a)))

@@ -1,0 +1,247 @@
+-- U13 in the request's own words holds (`dropped-lines`). Shown of one call: where the values that may show by the
+-- stronger form are among those that a byte held since a writeback last reached it, and nothing was lost outside a line
+-- that was dropped (`Covers`), that is so again behind it; and the three sentences of the stronger form are then those
+-- of the request.
+-- Why: a writeback that reached a byte leaves no dirty line with it (`sent-clean`), so that the stronger form too has
+-- its memory's byte alone; where no dirty line is left otherwise, the byte in memory is one that it held. A dirty line
+-- that was lost is a valid line that was dropped, and one that the command's block touches (`loses-touched`).
+use Prim.Native.Nat.{ℕ}
+use mathlib.Core.Bool.{Bool, true, false, not, cond, _&&_, _||_}
+use mathlib.Core.Path.{_≡_, refl, sym, ap, _∙_, subst}
+use mathlib.Core.List.{List, [], _∷_}
+use lib.ListN.{length}
+use lib.Dec.{eqb}
+use borrow.Author.Tests.{eqb-true, eqb-false}
+use Rattle.model.specs.Basics.{anyOf}
+use Rattle.model.specs.Memories.{legalL2, legalExternal}
+use Rattle.model.specs.Lines.{l1dSetOf}
+use Rattle.model.specs.Records.{State, l2SetOf, l1dLineAt, l2LineAt, freshState}
+use Rattle.model.specs.Ways.{l1dWay, l2Way, inL1d, inL2}
+use Rattle.model.specs.Modes.{newMode, changeMode}
+use Rattle.model.specs.Flat.{Flat, freshFlat, flatCalled}
+use Rattle.model.specs.Refusals.{modeDue}
+use Rattle.model.specs.Trace.{command}
+use Rattle.model.specs.Calls.{Reply, refused, carriedOut, commandDue, commandState, accepted, step, call, Call, oneCommand, freshStart, look, called}
+use Rattle.model.specs.Laws.{bool, false-true, both-true, cond-elim}
+use Rattle.model.specs.declared.Line.{Line}
+use Rattle.model.specs.declared.Command.{Command}
+use Rattle.agreement.proofs.Invariant.{Inside}
+use Rattle.agreement.proofs.Good.{layoutOf, memoryOf, Well, good-well, l1d-hit, l2-hit}
+use Rattle.agreement.proofs.Drops.{Dropped}
+use Rattle.agreement.proofs.Steps.{dropped-6, dropped-8, dropped-9}
+use Rattle.agreement.proofs.Changes.{fresh-l1d-none, fresh-l2-none}
+use Rattle.agreement.proofs.Tested.{call-step}
+use Rattle.agreement.proofs.Agreement.{fresh-accepted}
+use Rattle.dropped_lines.specs.Reached.{sends}
+use Rattle.dropped_lines.specs.Dropped.{listedCall, listed, byteAt, memoryAt, does, writes, newByte, changesMode, reached, dropCode, dropsLine, dropTouches, History, atFirst, heldAfter, historyAfter, HoldsAt, oneOf, lastOrHeld, mayChange, Holds, DroppedLines, end, next}
+use Rattle.dropped_lines.specs.Stronger.{dirtyInL1d, dirtyInL2, inDirtyLine, loses, showsAfter, lostAfter, changes}
+use Rattle.dropped_lines.proofs.Held.{In, Seen, neither, none-dirty}
+use Rattle.dropped_lines.proofs.Dropping.{Follows, After, grown, inside-same, unchanged, call-after, reads-inside, holds-at, fresh-follows}
+use Rattle.dropped_lines.proofs.Sent.{either, sent-clean}
+use Rattle.dropped_lines.proofs.Touching.{loses-touched}
+
+-- ---- the stronger form's values and losses are within the request's
+pub record Covers (z : State) (h : ℕ → List ℕ) (lost : ℕ → Bool) (y : History) : Type 0 where
+  pub held : (a x : ℕ) → Inside (layoutOf (z .rec)) a → In x (h a) → In x (y .held a)
+  pub lost-in : (a : ℕ) → y .dropped a ≡ false → lost a ≡ false
+
+-- ---- a mode change leaves nothing valid, so nothing dirty
+mode-0 : (k m b v : ℕ) (z : State) → k ≡ 10 → step (command k m b v) z .number ≡ 0 → (a : ℕ) → inDirtyLine (step (command k m b v) z .next) a ≡ false
+unfolding step commandDue accepted commandState changeMode newMode
+mode-0 k m b v z e =
+    let d = modeDue (z .rec .l2len) m in
+    rw e (cond-elim (λ (r : Reply). r .number ≡ 0 → (a : ℕ) → inDirtyLine (r .next) a ≡ false) (eqb d 0) (carriedOut (changeMode m z)) (refused d z)
+    (λ _ _ a. none-dirty (changeMode m z) (fresh-l1d-none (changeMode m z .rec) refl) (fresh-l2-none (changeMode m z .rec) refl) a)
+    (λ t n. absurd (eqb-false d 0 t n)))
+
+-- ---- a writeback that reached a: no dirty line has it
+number-step : (c : Command) (z : State) → Well z → eqb (call c z .number) 0 ≡ true → step c z .number ≡ 0
+number-step c z q t = sym (ap (λ (r : Reply). r .number) (call-step c z q)) ∙ eqb-true (call c z .number) 0 t
+
+reached-clean : (c : Call) (z : State) → Well z → (a : ℕ) → reached c z (called c z) a ≡ true → inDirtyLine (called c z .next) a ≡ false
+unfolding reached changesMode
+reached-clean freshStart z q a y = false-true y
+reached-clean (look b) z q a y = false-true y
+reached-clean (oneCommand c) z q a y =
+    let s = call-step c z q in let n = eqb (call c z .number) 0 in
+    let e : inDirtyLine (step c z .next) a ≡ false =
+    either (n && sends c z a) (n && eqb (c .code) 10) y
+    (λ t. let p = both-true n (sends c z a) t in sent-clean c z q a (number-step c z q (p .0)) (p .1))
+    (λ t. let p = both-true n (eqb (c .code) 10) t in
+    mode-0 (c .code) (c .first) (c .second) (c .value) z (eqb-true (c .code) 10 (p .1)) (number-step c z q (p .0)) a) in
+    rw s e
+
+-- ---- the values that may show
+in-one : (x b : ℕ) → In x (b ∷ []) → x ≡ b
+unfolding anyOf
+in-one x b p = bool (eqb x b) (λ t. eqb-true x b t) (λ t. false-true (rw t at p))
+
+cons-in : (x b : ℕ) (bs ds : List ℕ) → (In x bs → In x ds) → In x (b ∷ bs) → In x (b ∷ ds)
+unfolding anyOf
+cons-in x b bs ds k p = bool (eqb x b) (λ t. rw t refl) (λ t. rw t (k (rw t at p)))
+
+not-reached : (c : Call) (z : State) (r : Reply) (a : ℕ) → reached c z r a ≡ false → changesMode c r ≡ false
+unfolding reached
+not-reached c z r a t = neither (does (λ k. sends k z a) c r) (changesMode c r) t .1
+
+held-covers : (c : Call) (z : State) → Well z → (f f′ : Flat) (h : ℕ → List ℕ) (lost : ℕ → Bool) (g : ℕ → ℕ) → After c z (called c z) f f′ h lost g →
+    (y : History) → Covers z h lost y → (a x : ℕ) → Inside (layoutOf (called c z .next .rec)) a → In x (showsAfter c (called c z) h a) →
+    In x (heldAfter c z (called c z) (y .held) a)
+unfolding showsAfter heldAfter grown
+held-covers c z q f f′ h lost g r y v a x i p =
+    let c′ = called c z in let z′ = c′ .next in
+    let grows : changesMode c c′ ≡ false → (u : ℕ) → In u (grown c c′ h a) → In u (cond (writes c c′ a) (newByte c a ∷ y .held a) (y .held a)) =
+    λ n u j. let e = r .sizes n in
+    let i₀ = inside-same z z′ a (e .0) (e .1) i in
+    bool (writes c c′ a)
+    (λ t. rw t (cons-in u (newByte c a) (h a) (y .held a) (λ j′. v .held a u i₀ j′) (rw t at j)))
+    (λ t. rw t (v .held a u i₀ (rw t at j))) in
+    bool (reached c z c′ a)
+    (λ t. rw t (rw (reached-clean c z q a t) at p))
+    (λ t. let n = not-reached c z c′ a t in
+    rw t (bool (inDirtyLine z′ a)
+    (λ d. grows n x (rw d at p))
+    (λ d. let e = in-one x (memoryAt z′ a) (rw d at p) in grows n x (rw e (r .inMemory n a i)))))
+
+-- ---- a dirty line that was lost is a line that was dropped
+drop-dropped : (c : Command) (z : State) → Well z → dropCode (c .code) ≡ true → Dropped z (step c z .next)
+drop-dropped c z q t =
+    let a = c .first in let b = c .second in let v = c .value in
+    let by : (k : ℕ) → c .code ≡ k → Dropped z (step (command k a b v) z .next) → Dropped z (step c z .next) =
+    λ k e d. subst (λ (i : ℕ). Dropped z (step (command i a b v) z .next)) (sym e) d in
+    either (eqb (c .code) 6) (eqb (c .code) 8 || eqb (c .code) 9) t (λ u. by 6 (eqb-true (c .code) 6 u) (dropped-6 z q a b v))
+    (λ t′. either (eqb (c .code) 8) (eqb (c .code) 9) t′ (λ u. by 8 (eqb-true (c .code) 8 u) (dropped-8 z q a b v))
+    (λ u. by 9 (eqb-true (c .code) 9 u) (dropped-9 z q a b v)))
+
+-- a line with a that is still there is as dirty as it was
+and-not : (x y : Bool) → y ≡ x → (x && not y) ≡ false
+and-not true y e = rw e refl
+and-not false y e = refl
+
+module _ (z z′ : State) (q : Well z) (d : Dropped z z′) (a : ℕ) where
+  still-l1d : (inL1d z a && not (inL1d z′ a)) ≡ false → (dirtyInL1d z a && not (dirtyInL1d z′ a)) ≡ false
+  unfolding dirtyInL1d
+  still-l1d e =
+      let s = l1dSetOf a in let w = l1dWay z a in let w′ = l1dWay z′ a in
+      bool (inL1d z a)
+      (λ i. bool (inL1d z′ a)
+      (λ i′. let h = l1d-hit z a i in let h′ = l1d-hit z′ a i′ in
+      let j = d .l1dFewer s w′ (h′ .valid) in
+      let o = q .inv .l1dSound .once s w s w′ (h .valid) (rw j at (h′ .valid)) (h .address ∙ sym (rw j at (h′ .address))) in
+      rw (i, i′) (and-not (l1dLineAt (z .rec) s w .dirty) (l1dLineAt (z′ .rec) s w′ .dirty)
+      (ap (λ (l : Line). l .dirty) (j ∙ ap (λ (x : ℕ). l1dLineAt (z .rec) s x) (o .1)))))
+      (λ i′. false-true (sym (rw (i, i′) at e))))
+      (λ i. rw i refl)
+
+  still-l2 : (inL2 z a && not (inL2 z′ a)) ≡ false → (dirtyInL2 z a && not (dirtyInL2 z′ a)) ≡ false
+  unfolding dirtyInL2
+  still-l2 e =
+      let t = l2SetOf (z .rec) a in let v = l2Way z a in let t′ = l2SetOf (z′ .rec) a in let v′ = l2Way z′ a in
+      bool (inL2 z a)
+      (λ i. bool (inL2 z′ a)
+      (λ i′. let h = l2-hit z a i in let h′ = l2-hit z′ a i′ in
+      let j = d .l2Fewer t′ v′ (h′ .valid) in
+      let o = q .inv .l2Sound .once t v t′ v′ (h .valid) (rw j at (h′ .valid)) (h .address ∙ sym (rw j at (h′ .address))) in
+      rw (i, i′) (and-not (l2LineAt (z .rec) t v .dirty) (l2LineAt (z′ .rec) t′ v′ .dirty)
+      (ap (λ (l : Line). l .dirty) (j ∙ ap (λ (x : ℕ). l2LineAt (z .rec) x v′) (o .0) ∙ ap (λ (x : ℕ). l2LineAt (z .rec) t x) (o .1)))))
+      (λ i′. false-true (sym (rw (i, i′) at e))))
+      (λ i. rw i refl)
+
+  still-both : ((inL1d z a && not (inL1d z′ a)) || (inL2 z a && not (inL2 z′ a))) ≡ false →
+      ((dirtyInL1d z a && not (dirtyInL1d z′ a)) || (dirtyInL2 z a && not (dirtyInL2 z′ a))) ≡ false
+  still-both e =
+      let n = neither (inL1d z a && not (inL1d z′ a)) (inL2 z a && not (inL2 z′ a)) e in rw (still-l1d (n .0), still-l2 (n .1)) refl
+
+loses-dropped : (c : Call) (z : State) → Well z → (a : ℕ) → dropsLine c z (called c z) a ≡ false → loses c z (called c z) a ≡ false
+unfolding dropsLine loses
+loses-dropped freshStart z q a y = refl
+loses-dropped (look b) z q a y = refl
+loses-dropped (oneCommand c) z q a y =
+    let s = call-step c z q in let z′ = call c z .next in
+    bool (dropCode (c .code))
+    (λ t. let d : Dropped z z′ = rw s (drop-dropped c z q t) in
+    rw t (still-both z z′ q d a (rw t at y)))
+    (λ t. rw t refl)
+
+-- ---- one call
+call-covers : (c : Call) (z : State) (f f′ : Flat) (h : ℕ → List ℕ) (lost : ℕ → Bool) (g : ℕ → ℕ) → Well z → After c z (called c z) f f′ h lost g →
+    (y : History) → Covers z h lost y →
+    Covers (called c z .next) (showsAfter c (called c z) h) (lostAfter c z (called c z) lost) (historyAfter c z (called c z) y)
+unfolding lostAfter
+call-covers c z f f′ h lost g q r y v =
+    record {
+      held = λ a x i p. held-covers c z q f f′ h lost g r y v a x i p;
+      lost-in = λ a t.
+          let n = neither (y .dropped a) (dropsLine c z (called c z) a) t in
+          let l = v .lost-in a (n .0) in let l′ = loses-dropped c z q a (n .1) in
+          bool (writes c (called c z) a) (λ u. rw u refl) (λ u. rw (u, l, l′) refl);
+    }
+
+may-change : (c : Call) (z : State) → Well z → (a : ℕ) → mayChange c (called c z) a ≡ false → changes c z (called c z) a ≡ false
+unfolding mayChange changes
+may-change c z q a t =
+    let r = called c z in
+    let n = neither (writes c r a) (dropTouches c r a || changesMode c r) t in
+    let n′ = neither (dropTouches c r a) (changesMode c r) (n .1) in
+    rw (n .0, loses-touched c z q a (n′ .0), n′ .1) refl
+
+words-at : (c : Call) (z : State) (f : Flat) (h : ℕ → List ℕ) (lost : ℕ → Bool) (y : History) → Well z → Covers z h lost y →
+    HoldsAt c z f (λ a b. oneOf (h a) b) lost (changes c z (called c z)) → HoldsAt c z f (lastOrHeld y) (y .dropped) (mayChange c (called c z))
+words-at c z f h lost y q v p =
+    record {
+      bytes = p .bytes;
+      sentence1 = λ a t. let i = v .held a (byteAt z a) (reads-inside c z q a t) (p .sentence1 a t) in
+          rw i (or-true (oneOf (y .last a) (byteAt z a)));
+      sentence2 = λ a t n. p .sentence2 a t (v .lost-in a n);
+      sentence3 = λ a t. p .sentence3 a (may-change c z q a t);
+    }
+  where
+    or-true : (b : Bool) → (b || true) ≡ true
+    or-true true = refl
+    or-true false = refl
+
+-- ---- along a list
+pub record Stands (z : State) (f : Flat) (y : History) : Type 0 where
+  pub h : ℕ → List ℕ
+  pub lost : ℕ → Bool
+  pub g : ℕ → ℕ
+  pub follows : Follows z f h lost g
+  pub covers : Covers z h lost y
+
+pub stands-after : (c : Call) (z : State) (f : Flat) (y : History) → listedCall c ≡ true → Stands z f y →
+    Stands (called c z .next) (flatCalled c f .next) (historyAfter c z (called c z) y)
+stands-after c z f y l p =
+    let h = p .h in let lost = p .lost in let g = p .g in
+    let r = call-after c z f h lost g l (p .follows) in
+    record {
+      h = showsAfter c (called c z) h;
+      lost = lostAfter c z (called c z) lost;
+      g = r .g′;
+      follows = r .follows;
+      covers = call-covers c z f (flatCalled c f .next) h lost g (good-well z (Seen g h) (p .follows .good)) r y (p .covers);
+    }
+
+pub along : (cs : List Call) (z : State) (f : Flat) (y : History) → listed cs ≡ true → Stands z f y → Holds cs z f y
+unfolding listed
+along [] z f y l p = end
+along (c ∷ cs) z f y l p =
+    let i = both-true (listedCall c) (listed cs) l in
+    let h = p .h in let lost = p .lost in let g = p .g in
+    next (words-at c z f h lost y (good-well z (Seen g h) (p .follows .good)) (p .covers) (holds-at c z f h lost g (i .0) (p .follows)))
+    (along cs (called c z .next) (flatCalled c f .next) (historyAfter c z (called c z) y) (i .1) (stands-after c z f y (i .0) p))
+
+-- ---- U13
+pub at-first : (l : ℕ) (e : List ℕ) → legalL2 l ≡ true → legalExternal (length e) ≡ true → Stands (freshState l e) (freshFlat l e) (atFirst (freshState l e))
+at-first l e hl he =
+    record {
+      h = λ a. memoryAt (freshState l e) a ∷ [];
+      lost = λ _. false;
+      g = memoryOf (freshState l e);
+      follows = fresh-follows l e hl he;
+      covers = record { held = λ _ _ _ p. p; lost-in = λ _ _. refl };
+    }
+
+pub dropped-lines : DroppedLines
+dropped-lines d m e h cs y =
+    let p = fresh-accepted d m e h in let s = p .2 in
+    rw s (along cs (freshState (length m) e) (freshFlat (length m) e) (atFirst (freshState (length m) e)) y (at-first (length m) e (p .0) (p .1)))
