@@ -85,6 +85,23 @@ fn lines_are_dropped() {
     assert_eq!((halves.reached, halves.dropped), (vec![], vec![A..A + 64, A..A + 128]));
 }
 
+/// A clean line goes nowhere: what came into external memory behind it stays.
+#[test]
+fn a_clean_line_is_not_written_over_memory() {
+    let read = Command::Read { size: 1, address: A };
+    let block = Command::L1dBlockWritebackInvalidate { base: A, count: 1 };
+    for (mode, writeback) in [(0, block), (1, Command::L2WritebackAll)] {
+        let mut setup = cached(mode);
+        setup.read(1, A);
+        setup.ext[0] = 3;
+        assert_eq!(events(&mut setup, writeback).reached, []);
+        assert_eq!(setup.look(A)[0], 3);
+        setup.call(&Command::L2WritebackInvalidateAll);
+        let answer = setup.call(&read);
+        assert_eq!((answer.server, answer.value), (4, 3));
+    }
+}
+
 /// A byte whose line was dropped reads as it stands behind: no other value than
 /// these two is taken.
 #[test]

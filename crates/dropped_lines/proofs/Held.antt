@@ -7,7 +7,7 @@
 -- new, so each place that shows now held its byte before. Two places that show at one address agree: an L1D line and
 -- what is behind it because the L1D line was clean before too, an L2 line and memory because the L2 line is clean.
 use Prim.Native.Nat.{ℕ, _+_, _*_, _/_, _%_, _<_}
-use mathlib.Core.Bool.{Bool, true, false, cond, _||_}
+use mathlib.Core.Bool.{Bool, true, false, not, cond, _&&_, _||_, and-false}
 use mathlib.Core.Path.{_≡_, refl, sym, ap, _∙_}
 use mathlib.Core.List.{List, [], _∷_}
 use native.Mathlib.Omega.{arith}
@@ -21,8 +21,8 @@ use Rattle.model.specs.Ways.{l1dWay, l2Way, inL1d, inL2}
 use Rattle.model.specs.Homes.{memoryPart}
 use Rattle.dropped_lines.specs.Dropped.{memoryAt}
 use Rattle.dropped_lines.specs.Stronger.{dirtyInL1d, dirtyInL2, inDirtyLine}
-use Rattle.model.specs.Laws.{bool, false-true}
-use Rattle.agreement.proofs.Level.{Valid, NoDirty}
+use Rattle.model.specs.Laws.{bool, false-true, both-true}
+use Rattle.agreement.proofs.Level.{Level, Valid, NoDirty}
 use Rattle.agreement.proofs.Invariant.{Allowed, carry, Layout, Inside, InL2Line}
 use Rattle.agreement.proofs.Memory.{Fits, read-at}
 use Rattle.agreement.proofs.Good.{layoutOf, l1dLevel, l2Level, memoryOf, Good, Tidy, Anything, l1d-hit, l2-hit, l1d-miss, l2-miss}
@@ -51,7 +51,39 @@ Seen g h =
       copied = λ _. refl;
     }
 
--- ---- no dirty line of that level holds a
+-- ---- a dirty line of a level, of n bytes, has a
+abbrev pub DirtyAt : ℕ → Level → ℕ → Type 0
+DirtyAt n x a = (s : ℕ) × (w : ℕ) × Valid x s w × (x .line s w .dirty ≡ true) × (x .line s w .address ≡ a / n * n)
+
+pub l1d-dirty : (z : State) (a : ℕ) → dirtyInL1d z a ≡ true → DirtyAt 64 (l1dLevel z) a
+unfolding dirtyInL1d
+l1d-dirty z a t =
+    let s = l1dSetOf a in let w = l1dWay z a in
+    let p = both-true (inL1d z a) (l1dLineAt (z .rec) s w .dirty) t in let h = l1d-hit z a (p .0) in
+    (s, w, h .valid, p .1, h .address)
+
+pub l2-dirty : (z : State) (a : ℕ) → dirtyInL2 z a ≡ true → DirtyAt 128 (l2Level z) a
+unfolding dirtyInL2
+l2-dirty z a t =
+    let s = l2SetOf (z .rec) a in let w = l2Way z a in
+    let p = both-true (inL2 z a) (l2LineAt (z .rec) s w .dirty) t in let h = l2-hit z a (p .0) in
+    (s, w, h .valid, p .1, h .address)
+
+-- none has: the test says so
+none-at : (n : ℕ) (x : Level) (a : ℕ) (b : Bool) → (b ≡ true → DirtyAt n x a) → NoDirty n x a → b ≡ false
+none-at n x a b f m = bool b (λ t. let d = f t in absurd (m (d .0) (d .1) (d .2) (d .3) (d .4))) (λ t. t)
+
+pub no-dirty : (z : State) (a : ℕ) → NoDirty 64 (l1dLevel z) a → NoDirty 128 (l2Level z) a → inDirtyLine z a ≡ false
+unfolding inDirtyLine
+no-dirty z a n₁ n₂ =
+    rw (none-at 64 (l1dLevel z) a (dirtyInL1d z a) (l1d-dirty z a) n₁, none-at 128 (l2Level z) a (dirtyInL2 z a) (l2-dirty z a) n₂) refl
+
+-- with nothing valid nothing is dirty
+pub none-dirty : (z : State) → ((s w : ℕ) → l1dLineAt (z .rec) s w .valid ≡ false) → ((t v : ℕ) → l2LineAt (z .rec) t v .valid ≡ false) → (a : ℕ) →
+    inDirtyLine z a ≡ false
+none-dirty z n₁ n₂ a = no-dirty z a (λ s w k _ _. false-true (sym (n₁ s w) ∙ k)) (λ t v k _ _. false-true (sym (n₂ t v) ∙ k))
+
+-- the test says that none has: so it is, in a good state
 module _ (z : State) (F : Allowed) (q : Good z F) (a : ℕ) where
   pub l1d-clean : dirtyInL1d z a ≡ false → NoDirty 64 (l1dLevel z) a
   unfolding dirtyInL1d
@@ -71,17 +103,17 @@ module _ (z : State) (F : Allowed) (q : Good z F) (a : ℕ) where
       let d′ = rw (o .0, o .1) at d in false-true (sym (rw (y, d′) at t)))
       (λ y. l2-miss z F q a y s w k e)
 
+-- a dirty line with a that is still there is no line that was lost: of one level, p and p′ being the test before and
+-- after
+pub still-dirty : (n : ℕ) (x x′ : Level) (a : ℕ) (p p′ : Bool) → (p ≡ true → DirtyAt n x a) → (p′ ≡ false → NoDirty n x′ a) →
+    (p ≡ true → DirtyAt n x a → DirtyAt n x′ a) → (p && not p′) ≡ false
+still-dirty n x x′ a p p′ f g k =
+    bool p′ (λ t. rw t (and-false p))
+    (λ t. rw t (bool p (λ u. let d = k u (f u) in absurd (g t (d .0) (d .1) (d .2) (d .3) (d .4))) (λ u. rw u refl)))
+
 pub neither : (a b : Bool) → (a || b) ≡ false → (a ≡ false) × (b ≡ false)
 neither true b h = false-true (sym h)
 neither false b h = (refl, h)
-
--- with nothing valid nothing is dirty
-pub none-dirty : (z : State) → ((s w : ℕ) → l1dLineAt (z .rec) s w .valid ≡ false) → ((t v : ℕ) → l2LineAt (z .rec) t v .valid ≡ false) → (a : ℕ) →
-    inDirtyLine z a ≡ false
-unfolding inDirtyLine dirtyInL1d dirtyInL2
-none-dirty z n₁ n₂ a =
-    bool (inL1d z a) (λ y. false-true (sym (n₁ (l1dSetOf a) (l1dWay z a)) ∙ l1d-hit z a y .valid))
-    (λ i. bool (inL2 z a) (λ y. false-true (sym (n₂ (l2SetOf (z .rec) a) (l2Way z a)) ∙ l2-hit z a y .valid)) (λ j. rw (i, j) refl))
 
 -- the byte in memory, as the statement has it
 pub memory-at : (z : State) → Tidy z → (a : ℕ) → Inside (layoutOf (z .rec)) a → memoryAt z a ≡ memoryOf z a
@@ -101,9 +133,8 @@ module _ (z : State) (g : ℕ → ℕ) (h h′ : ℕ → List ℕ) (q : Good z (
   unfolding inDirtyLine
   cut-in a c i p e =
       bool (inDirtyLine z a) (λ t. rw t (more a c t p))
-      (λ t. let n = neither (dirtyInL1d z a) (dirtyInL2 z a) t in
-      let n₁ = l1d-clean z (Seen g h) q a (n .0) in
-      let n₂ = l2-clean z (Seen g h) q a (n .1) in
+      (λ t. let n₁ = l1d-clean z (Seen g h) q a (bool (dirtyInL1d z a) (λ d. false-true (sym (rw d at t))) (λ d. d)) in
+      let n₂ = l2-clean z (Seen g h) q a (bool (dirtyInL2 z a) (λ d. bool (dirtyInL1d z a) (λ d′. false-true (sym (rw d′ at t))) (λ d′. false-true (sym (rw (d′, d) at t)))) (λ d. d)) in
       rw t (in-head c (memoryAt z a) [] (e n₁ n₂ ∙ sym (q .inv .memoryRight a i n₁ n₂ .0) ∙ sym (memory-at z (q .tidy) a i))))
 
   l1d-inside : (s w : ℕ) → Valid (l1dLevel z) s w → (i : ℕ) → i < 64 → Inside (layoutOf (z .rec)) (l1dLineAt (z .rec) s w .address + i)

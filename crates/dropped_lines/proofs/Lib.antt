@@ -1,3 +1,4 @@
+pub mod Worked
 pub mod ByteAt
 pub mod Dropping
 pub mod Held

@@ -40,7 +40,8 @@ use Rattle.agreement.proofs.Sweeps.{Sweeps, step-refl, step-trans, atL1d-good, 
 use Rattle.agreement.proofs.Due.{accepted-fits, accepted-read, accepted-write}
 use Rattle.agreement.proofs.Steps.{codes, step-well, other-code}
 use Rattle.dropped_lines.specs.Reached.{within, l1dSends, l2Sends, fetchSends, readSends, writeSends, oneSends, allSend, touchedSend, touchedL1dSend, lineOfBlock, chosen, sends}
-use Rattle.dropped_lines.specs.Stronger.{dirtyInL1d, dirtyInL2, inDirtyLine}
+use Rattle.dropped_lines.specs.Stronger.{inDirtyLine}
+use Rattle.dropped_lines.proofs.Held.{no-dirty}
 
 pub either {ℓ} : {A : Type ℓ} (a b : Bool) → (a || b) ≡ true → (a ≡ true → A) → (b ≡ true → A) → A
 either true b e f g = f refl
@@ -52,21 +53,6 @@ not-no false h = refl
 
 within-tells : (b n a : ℕ) → within b n a ≡ true → (b ≤ a) × (a < b + n)
 within-tells b n a h = let p = both-true (leb b a) (ltb a (b + n)) h in (leb-true b a (p .0), ltb-true a (b + n) (p .1))
-
--- ---- no dirty line of either level, as the statement has it
-no-dirty : (z : State) (a : ℕ) → NoDirty 64 (l1dLevel z) a → NoDirty 128 (l2Level z) a → inDirtyLine z a ≡ false
-unfolding inDirtyLine dirtyInL1d dirtyInL2
-no-dirty z a n₁ n₂ =
-    let d₁ = l1dLineAt (z .rec) (l1dSetOf a) (l1dWay z a) .dirty in
-    let d₂ = l2LineAt (z .rec) (l2SetOf (z .rec) a) (l2Way z a) .dirty in
-    let e₁ : (inL1d z a && d₁) ≡ false =
-    bool (inL1d z a)
-    (λ y. let p = l1d-hit z a y in bool d₁ (λ d. absurd (n₁ (l1dSetOf a) (l1dWay z a) (p .valid) d (p .address))) (λ d. rw (y, d) refl)) (λ y. rw y refl) in
-    let e₂ : (inL2 z a && d₂) ≡ false =
-    bool (inL2 z a)
-    (λ y. let p = l2-hit z a y in bool d₂ (λ d. absurd (n₂ (l2SetOf (z .rec) a) (l2Way z a) (p .valid) d (p .address))) (λ d. rw (y, d) refl))
-    (λ y. rw y refl) in
-    rw (e₁, e₂) refl
 
 -- ---- (1) a line of L1D goes to SRAM or to external memory itself
 record L1dSent (z : State) (a s w : ℕ) : Type 0 where
@@ -90,13 +76,16 @@ l1d-sent : (z : State) (F : Allowed) → Good z F → (a s w : ℕ) → l1dSends
 unfolding l1dSends
 l1d-sent z F q a s w h =
     let l = l1dLineAt (z .rec) s w in let b = l .address in
-    let p₁ = both-true (l .valid) (l .dirty && (not (homeIsL2 (z .rec) b) && within b 64 a)) h in
-    let p₂ = both-true (l .dirty) (not (homeIsL2 (z .rec) b) && within b 64 a) (p₁ .1) in
-    let p₃ = both-true (not (homeIsL2 (z .rec) b)) (within b 64 a) (p₂ .1) in
-    let i = within-tells b 64 a (p₃ .1) in let i₀ = i .0 in let i₁ = i .1 in
-    let al = q .inv .l1dSound .place s w (p₁ .0) .aligned in
+    bool (l .valid)
+    (λ v. bool (l .dirty)
+    (λ d. bool (homeIsL2 (z .rec) b)
+    (λ m. false-true (rw (v, d, m) at h))
+    (λ m. let i = within-tells b 64 a (rw (v, d, m) at h) in let i₀ = i .0 in let i₁ = i .1 in
+    let al = q .inv .l1dSound .place s w v .aligned in
     let e : b ≡ l1dLine a = omega arith in
-    record { valid = p₁ .0; address = e; home = home-of (z .rec) a b e (not-no (homeIsL2 (z .rec) b) (p₃ .0)) }
+    record { valid = v; address = e; home = home-of (z .rec) a b e m }))
+    (λ d. false-true (rw (v, d) at h)))
+    (λ v. false-true (rw v at h))
 
 -- L1D's line of it is clean or gone, and L2 never holds it
 memory-clean : (z z′ : State) (F : Allowed) → Good z′ F → Kept z z′ → (a : ℕ) → homeIsL2 (z .rec) a ≡ false → NoDirty 64 (l1dLevel z′) a →

@@ -3,7 +3,7 @@
 -- Why: the command goes from touched line to touched line, and what it does at one of them empties the slots of that
 -- line alone, in L2 with both its halves in L1D.
 use Prim.Native.Nat.{ℕ, _+_, _*_, _/_, _%_, _≤_, _<_}
-use mathlib.Core.Bool.{Bool, true, false, not, cond, _&&_, _||_, and-false}
+use mathlib.Core.Bool.{Bool, true, false, not, cond, _&&_, _||_}
 use mathlib.Core.Path.{_≡_, refl, sym, ap, _∙_}
 use mathlib.Core.Logic.{_≢_}
 use native.Mathlib.Omega.{arith}
@@ -26,7 +26,7 @@ use Rattle.agreement.proofs.Steps.{codes}
 use Rattle.agreement.proofs.Tested.{call-step}
 use Rattle.dropped_lines.specs.Dropped.{dropCode, dropTouches, touchesLine}
 use Rattle.dropped_lines.specs.Stronger.{dirtyInL1d, dirtyInL2, loses}
-use Rattle.dropped_lines.proofs.Held.{l1d-clean, l2-clean}
+use Rattle.dropped_lines.proofs.Held.{l1d-dirty, l2-dirty, l1d-clean, l2-clean, still-dirty}
 
 -- ---- each line with address a is still there
 record Spares (a : ℕ) (z z′ : State) : Type 0 where
@@ -46,25 +46,11 @@ spares-trans a x y z p q =
 -- so a dirty one is still dirty
 spares-dirty : (a : ℕ) (z z′ : State) → Well z′ → Spares a z z′ →
     ((dirtyInL1d z a && not (dirtyInL1d z′ a)) || (dirtyInL2 z a && not (dirtyInL2 z′ a))) ≡ false
-unfolding dirtyInL1d dirtyInL2
 spares-dirty a z z′ w p =
-    let s = l1dSetOf a in let v₁ = l1dWay z a in let t = l2SetOf (z .rec) a in let v₂ = l2Way z a in
-    let e₁ : (dirtyInL1d z a && not (dirtyInL1d z′ a)) ≡ false =
-    bool (dirtyInL1d z′ a) (λ y. rw y (and-false (dirtyInL1d z a)))
-    (λ y. bool (inL1d z a)
-    (λ i. let h = l1d-hit z a i in let j = p .l1d s v₁ (h .valid) (h .address) in
-    bool (l1dLineAt (z .rec) s v₁ .dirty)
-    (λ d. absurd (l1d-clean z′ Anything w a y s v₁ (rw j (h .valid)) (rw j d) (rw j (h .address))))
-    (λ d. rw (i, d) refl))
-    (λ i. rw i refl)) in
-    let e₂ : (dirtyInL2 z a && not (dirtyInL2 z′ a)) ≡ false =
-    bool (dirtyInL2 z′ a) (λ y. rw y (and-false (dirtyInL2 z a)))
-    (λ y. bool (inL2 z a)
-    (λ i. let h = l2-hit z a i in let j = p .l2 t v₂ (h .valid) (h .address) in
-    bool (l2LineAt (z .rec) t v₂ .dirty)
-    (λ d. absurd (l2-clean z′ Anything w a y t v₂ (rw j (h .valid)) (rw j d) (rw j (h .address))))
-    (λ d. rw (i, d) refl))
-    (λ i. rw i refl)) in
+    let e₁ = still-dirty 64 (l1dLevel z) (l1dLevel z′) a (dirtyInL1d z a) (dirtyInL1d z′ a) (l1d-dirty z a) (l1d-clean z′ Anything w a)
+    (λ _ d. let j = p .l1d (d .0) (d .1) (d .2) (d .4) in (d .0, d .1, rw j (d .2), rw j (d .3), rw j (d .4))) in
+    let e₂ = still-dirty 128 (l2Level z) (l2Level z′) a (dirtyInL2 z a) (dirtyInL2 z′ a) (l2-dirty z a) (l2-clean z′ Anything w a)
+    (λ _ d. let j = p .l2 (d .0) (d .1) (d .2) (d .4) in (d .0, d .1, rw j (d .2), rw j (d .3), rw j (d .4))) in
     rw (e₁, e₂) refl
 
 -- ---- one line, of another address

@@ -5,7 +5,7 @@
 -- Why: a writeback that reached a byte leaves no dirty line with it (`sent-clean`), so that the stronger form too has
 -- its memory's byte alone; where no dirty line is left otherwise, the byte in memory is one that it held. A dirty line
 -- that was lost is a valid line that was dropped, and one that the command's block touches (`loses-touched`).
-use Prim.Native.Nat.{ℕ}
+use Prim.Native.Nat.{ℕ, _*_, _/_}
 use mathlib.Core.Bool.{Bool, true, false, not, cond, _&&_, _||_}
 use mathlib.Core.Path.{_≡_, refl, sym, ap, _∙_, subst}
 use mathlib.Core.List.{List, [], _∷_}
@@ -23,10 +23,10 @@ use Rattle.model.specs.Refusals.{modeDue}
 use Rattle.model.specs.Trace.{command}
 use Rattle.model.specs.Calls.{Reply, refused, carriedOut, commandDue, commandState, accepted, step, call, Call, oneCommand, freshStart, look, called}
 use Rattle.model.specs.Laws.{bool, false-true, both-true, cond-elim}
-use Rattle.model.specs.declared.Line.{Line}
 use Rattle.model.specs.declared.Command.{Command}
-use Rattle.agreement.proofs.Invariant.{Inside}
-use Rattle.agreement.proofs.Good.{layoutOf, memoryOf, Well, good-well, l1d-hit, l2-hit}
+use Rattle.agreement.proofs.Level.{Level, Valid, Sound}
+use Rattle.agreement.proofs.Invariant.{Inside, L1dPlaced, L2Placed}
+use Rattle.agreement.proofs.Good.{layoutOf, l1dLevel, l2Level, memoryOf, Anything, Well, good-well, l1d-hit, l2-hit}
 use Rattle.agreement.proofs.Drops.{Dropped}
 use Rattle.agreement.proofs.Steps.{dropped-6, dropped-8, dropped-9}
 use Rattle.agreement.proofs.Changes.{fresh-l1d-none, fresh-l2-none}
@@ -35,7 +35,7 @@ use Rattle.agreement.proofs.Agreement.{fresh-accepted}
 use Rattle.dropped_lines.specs.Reached.{sends}
 use Rattle.dropped_lines.specs.Dropped.{listedCall, listed, byteAt, memoryAt, does, writes, newByte, changesMode, reached, dropCode, dropsLine, dropTouches, History, atFirst, heldAfter, historyAfter, HoldsAt, oneOf, lastOrHeld, mayChange, Holds, DroppedLines, end, next}
 use Rattle.dropped_lines.specs.Stronger.{dirtyInL1d, dirtyInL2, inDirtyLine, loses, showsAfter, lostAfter, changes}
-use Rattle.dropped_lines.proofs.Held.{In, Seen, neither, none-dirty}
+use Rattle.dropped_lines.proofs.Held.{In, Seen, neither, DirtyAt, l1d-dirty, l2-dirty, l1d-clean, l2-clean, none-dirty, still-dirty}
 use Rattle.dropped_lines.proofs.Dropping.{Follows, After, grown, inside-same, unchanged, call-after, reads-inside, holds-at, fresh-follows}
 use Rattle.dropped_lines.proofs.Sent.{either, sent-clean}
 use Rattle.dropped_lines.proofs.Touching.{loses-touched}
@@ -90,18 +90,13 @@ held-covers : (c : Call) (z : State) → Well z → (f f′ : Flat) (h : ℕ →
 unfolding showsAfter heldAfter grown
 held-covers c z q f f′ h lost g r y v a x i p =
     let c′ = called c z in let z′ = c′ .next in
-    let grows : changesMode c c′ ≡ false → (u : ℕ) → In u (grown c c′ h a) → In u (cond (writes c c′ a) (newByte c a ∷ y .held a) (y .held a)) =
-    λ n u j. let e = r .sizes n in
-    let i₀ = inside-same z z′ a (e .0) (e .1) i in
-    bool (writes c c′ a)
-    (λ t. rw t (cons-in u (newByte c a) (h a) (y .held a) (λ j′. v .held a u i₀ j′) (rw t at j)))
-    (λ t. rw t (v .held a u i₀ (rw t at j))) in
     bool (reached c z c′ a)
     (λ t. rw t (rw (reached-clean c z q a t) at p))
     (λ t. let n = not-reached c z c′ a t in
-    rw t (bool (inDirtyLine z′ a)
-    (λ d. grows n x (rw d at p))
-    (λ d. let e = in-one x (memoryAt z′ a) (rw d at p) in grows n x (rw e (r .inMemory n a i)))))
+    let e = r .sizes n in
+    let was : In x (h a) → In x (y .held a) = v .held a x (inside-same z z′ a (e .0) (e .1) i) in
+    let j : In x (grown c c′ h a) = bool (inDirtyLine z′ a) (λ d. rw d at p) (λ d. let o = in-one x (memoryAt z′ a) (rw d at p) in rw o (r .inMemory n a i)) in
+    rw t (bool (writes c c′ a) (λ u. rw u (cons-in x (newByte c a) (h a) (y .held a) was (rw u at j))) (λ u. rw u (was (rw u at j)))))
 
 -- ---- a dirty line that was lost is a line that was dropped
 drop-dropped : (c : Command) (z : State) → Well z → dropCode (c .code) ≡ true → Dropped z (step c z .next)
@@ -113,39 +108,37 @@ drop-dropped c z q t =
     (λ t′. either (eqb (c .code) 8) (eqb (c .code) 9) t′ (λ u. by 8 (eqb-true (c .code) 8 u) (dropped-8 z q a b v))
     (λ u. by 9 (eqb-true (c .code) 9 u) (dropped-9 z q a b v)))
 
--- a line with a that is still there is as dirty as it was
-and-not : (x y : Bool) → y ≡ x → (x && not y) ≡ false
-and-not true y e = rw e refl
-and-not false y e = refl
+-- a line with a that is still there is as dirty as it was: of one level, whose lines became fewer
+same-line : (n : ℕ) (P : ℕ → ℕ → ℕ → Type 0) (x x′ : Level) → Sound P x → ((s w : ℕ) → Valid x′ s w → x′ .line s w ≡ x .line s w) →
+    (a s w : ℕ) → Valid x′ s w → x′ .line s w .address ≡ a / n * n → DirtyAt n x a → DirtyAt n x′ a
+same-line n P x x′ q fewer a s w k e d =
+    let j = fewer s w k in
+    let o = q .once (d .0) (d .1) s w (d .2) (rw j at k) (d .4 ∙ sym (rw j at e)) in
+    let i : x .line (d .0) (d .1) .dirty ≡ true = d .3 in
+    (s, w, k, rw (j, o .0, o .1) i, e)
 
 module _ (z z′ : State) (q : Well z) (d : Dropped z z′) (a : ℕ) where
+  -- it is held, and so it is still held
+  still-held : (p p′ : Bool) → p ≡ true → (p && not p′) ≡ false → p′ ≡ true
+  still-held p true h e = refl
+  still-held p false h e = false-true (sym (rw h at e))
+
   still-l1d : (inL1d z a && not (inL1d z′ a)) ≡ false → (dirtyInL1d z a && not (dirtyInL1d z′ a)) ≡ false
   unfolding dirtyInL1d
   still-l1d e =
-      let s = l1dSetOf a in let w = l1dWay z a in let w′ = l1dWay z′ a in
-      bool (inL1d z a)
-      (λ i. bool (inL1d z′ a)
-      (λ i′. let h = l1d-hit z a i in let h′ = l1d-hit z′ a i′ in
-      let j = d .l1dFewer s w′ (h′ .valid) in
-      let o = q .inv .l1dSound .once s w s w′ (h .valid) (rw j at (h′ .valid)) (h .address ∙ sym (rw j at (h′ .address))) in
-      rw (i, i′) (and-not (l1dLineAt (z .rec) s w .dirty) (l1dLineAt (z′ .rec) s w′ .dirty)
-      (ap (λ (l : Line). l .dirty) (j ∙ ap (λ (x : ℕ). l1dLineAt (z .rec) s x) (o .1)))))
-      (λ i′. false-true (sym (rw (i, i′) at e))))
-      (λ i. rw i refl)
+      still-dirty 64 (l1dLevel z) (l1dLevel z′) a (dirtyInL1d z a) (dirtyInL1d z′ a) (l1d-dirty z a) (l1d-clean z′ Anything (d .step .good) a)
+      (λ t. let i = both-true (inL1d z a) (l1dLineAt (z .rec) (l1dSetOf a) (l1dWay z a) .dirty) t .0 in
+      let h = l1d-hit z′ a (still-held (inL1d z a) (inL1d z′ a) i e) in
+      same-line 64 (L1dPlaced (layoutOf (z .rec))) (l1dLevel z) (l1dLevel z′) (q .inv .l1dSound) (d .l1dFewer) a (l1dSetOf a) (l1dWay z′ a) (h .valid) (h .address))
 
   still-l2 : (inL2 z a && not (inL2 z′ a)) ≡ false → (dirtyInL2 z a && not (dirtyInL2 z′ a)) ≡ false
   unfolding dirtyInL2
   still-l2 e =
-      let t = l2SetOf (z .rec) a in let v = l2Way z a in let t′ = l2SetOf (z′ .rec) a in let v′ = l2Way z′ a in
-      bool (inL2 z a)
-      (λ i. bool (inL2 z′ a)
-      (λ i′. let h = l2-hit z a i in let h′ = l2-hit z′ a i′ in
-      let j = d .l2Fewer t′ v′ (h′ .valid) in
-      let o = q .inv .l2Sound .once t v t′ v′ (h .valid) (rw j at (h′ .valid)) (h .address ∙ sym (rw j at (h′ .address))) in
-      rw (i, i′) (and-not (l2LineAt (z .rec) t v .dirty) (l2LineAt (z′ .rec) t′ v′ .dirty)
-      (ap (λ (l : Line). l .dirty) (j ∙ ap (λ (x : ℕ). l2LineAt (z .rec) x v′) (o .0) ∙ ap (λ (x : ℕ). l2LineAt (z .rec) t x) (o .1)))))
-      (λ i′. false-true (sym (rw (i, i′) at e))))
-      (λ i. rw i refl)
+      still-dirty 128 (l2Level z) (l2Level z′) a (dirtyInL2 z a) (dirtyInL2 z′ a) (l2-dirty z a) (l2-clean z′ Anything (d .step .good) a)
+      (λ t. let i = both-true (inL2 z a) (l2LineAt (z .rec) (l2SetOf (z .rec) a) (l2Way z a) .dirty) t .0 in
+      let h = l2-hit z′ a (still-held (inL2 z a) (inL2 z′ a) i e) in
+      same-line 128 (L2Placed (layoutOf (z .rec))) (l2Level z) (l2Level z′) (q .inv .l2Sound) (d .l2Fewer) a (l2SetOf (z′ .rec) a) (l2Way z′ a) (h .valid)
+      (h .address))
 
   still-both : ((inL1d z a && not (inL1d z′ a)) || (inL2 z a && not (inL2 z′ a))) ≡ false →
       ((dirtyInL1d z a && not (dirtyInL1d z′ a)) || (dirtyInL2 z a && not (dirtyInL2 z′ a))) ≡ false
@@ -181,9 +174,10 @@ may-change : (c : Call) (z : State) → Well z → (a : ℕ) → mayChange c (ca
 unfolding mayChange changes
 may-change c z q a t =
     let r = called c z in
-    let n = neither (writes c r a) (dropTouches c r a || changesMode c r) t in
-    let n′ = neither (dropTouches c r a) (changesMode c r) (n .1) in
-    rw (n .0, loses-touched c z q a (n′ .0), n′ .1) refl
+    bool (writes c r a) (λ w. false-true (sym (rw w at t)))
+    (λ w. bool (dropTouches c r a) (λ d. false-true (sym (rw (w, d) at t)))
+    (λ d. let l = loses-touched c z q a d in
+    bool (changesMode c r) (λ m. false-true (sym (rw (w, d, m) at t))) (λ m. rw (w, l, m) refl)))
 
 words-at : (c : Call) (z : State) (f : Flat) (h : ℕ → List ℕ) (lost : ℕ → Bool) (y : History) → Well z → Covers z h lost y →
     HoldsAt c z f (λ a b. oneOf (h a) b) lost (changes c z (called c z)) → HoldsAt c z f (lastOrHeld y) (y .dropped) (mayChange c (called c z))

@@ -32,7 +32,8 @@ unfoldable pub listed : List Call → Bool
 listed [] = true
 listed (c ∷ cs) = listedCall c && listed cs
 
--- ---- the byte of address a: what a CPU data read of that one byte gives; the same of flat memory; the n bytes from a on
+-- ---- the byte of address a: what a CPU data read of that one byte gives; the same of flat memory; the n bytes from a
+-- on
 abbrev pub oneByte : ℕ → Command
 oneByte a = command 0 1 a 0
 
@@ -132,28 +133,30 @@ historyAfter c z r y =
     }
 
 -- ---- the three sentences at one place of a list: z and f are the chip and flat memory before call c; `may a b` says
--- that a read may find b at a, `dropped a` that a was in a line that was dropped, `ends a` that the call may change the
+-- that a read may give b at a, `dropped a` that a was in a line that was dropped, `ends a` that the call may change the
 -- byte of a
 pub record HoldsAt (c : Call) (z : State) (f : Flat) (may : ℕ → ℕ → Bool) (dropped ends : ℕ → Bool) : Type 0 where
-  -- an accepted read's value is the bytes of its addresses
+  -- an accepted read's value is the bytes of its addresses, so that the sentences can speak of single bytes
   pub bytes : (k : Command) → c ≡ oneCommand k → k .code ≡ 0 → call k z .number ≡ 0 → call k z .value ≡ little (bytesAt z (k .second) (k .first))
+  -- "each byte of a CPU data read is the last one written .., or one it held since a writeback last reached .."
   pub sentence1 : (a : ℕ) → reads c (called c z) a ≡ true → may a (byteAt z a) ≡ true
+  -- "Bytes in no line that was dropped read as flat memory."
   pub sentence2 : (a : ℕ) → reads c (called c z) a ≡ true → dropped a ≡ false → byteAt z a ≡ flatByteAt f a
+  -- "A byte keeps its value until .."
   pub sentence3 : (a : ℕ) → ends a ≡ false → byteAt (called c z .next) a ≡ byteAt z a
 
--- "each byte of a CPU data read is the last one written .., or one it held since .."
+-- "the last one written .., or one it held since .."
 abbrev pub oneOf : List ℕ → ℕ → Bool
 oneOf bs b = anyOf (eqb b) bs
 
 abbrev pub lastOrHeld : History → ℕ → ℕ → Bool
 lastOrHeld y a b = oneOf (y .last a) b || oneOf (y .held a) b
 
--- "A byte keeps its value until the next write to it, drop touching its line (128 bytes for L2's, 64 for L1D's), or mode
--- change."
+-- ".. the next write to it, drop touching its line (128 bytes for L2's, 64 for L1D's), or mode change."
 unfoldable pub mayChange : Call → Reply → ℕ → Bool
 mayChange c r a = writes c r a || (dropTouches c r a || changesMode c r)
 
--- ---- along the whole list ("Bytes in no line that was dropped read as flat memory.": `dropped` of the history)
+-- ---- along the whole list
 pub data Holds : List Call → State → Flat → History → Type 0 where
   end : {z : State} {f : Flat} {y : History} → Holds [] z f y
   next : {c : Call} {cs : List Call} {z : State} {f : Flat} {y : History} →

@@ -51,7 +51,8 @@ readSends a b z =
 unfoldable pub writeSends : ℕ → ℕ → State → Bool
 writeSends a b z = cacheable (z .rec) b && (not (inL1d z b) && fetchSends a b z)
 
--- ---- commands: the steps f 0, f 1, .. f (n - 1), of which f k sends a out of the state that it meets where s k says so
+-- ---- commands: the steps f 0, f 1, .. f (n - 1), of which f k sends a out of the state that it meets where s k says
+-- so
 unfoldable pub oneSends : (ℕ → State → State) → (ℕ → State → Bool) → ℕ → State → Bool
 oneSends f s zero z = false
 oneSends f s (suc n) z = oneSends f s n z || s n (each f n z)
@@ -80,8 +81,8 @@ touchedL1dSend a b c z =
     l1dSends a (l1dSetOf (lineOfBlock (l1dKind .lineLength) b k)) (l1dWay x (lineOfBlock (l1dKind .lineLength) b k)) x)
     (linesTouched (l1dKind .lineLength) b c) z
 
--- ---- does an accepted command k, on state z, send address a out. (A mode change sends every dirty line home; it counts
--- as a writeback of every byte, in Dropped.)
+-- ---- does an accepted command k, on state z, send address a out. (A mode change sends every dirty line home; it
+-- counts as a writeback of every byte, in Dropped.)
 unfoldable pub sends : Command → State → ℕ → Bool
 sends k z a =
     cond (eqb (k .code) 0) (readSends a (k .second) z)

@@ -1,6 +1,6 @@
 -- 02, U13 for runs over traces; `runs-dropped-lines` (proofs/Runs) shows it. A run is its commands, called one after
--- another (`RunIsCalls`: its answers and the state behind it), and the sentences hold at each of these calls, in one run
--- or in several.
+-- another (`RunIsCalls`: its answers and the state behind it), and the sentences hold at each of these calls, in one
+-- run or in several.
 use Prim.Native.Nat.{ℕ}
 use mathlib.Core.Path.{_≡_}
 use mathlib.Core.List.{List, [], _∷_}

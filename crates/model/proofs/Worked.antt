@@ -9,9 +9,9 @@ use mathlib.Core.List.{List, [], _∷_, map, _++_}
 use mathlib.Core.Path.{_≡_, refl}
 use lib.ListN.{replicate}
 use Rattle.model.specs.Bytes.{little}
-use Rattle.model.specs.Records.{State, freshState}
+use Rattle.model.specs.Records.{State, withExternal, freshState}
 use Rattle.model.specs.Trace.{command}
-use Rattle.model.specs.Calls.{Reply, Call, oneCommand, freshStart, look, called, step, viewDone}
+use Rattle.model.specs.Calls.{Reply, Call, oneCommand, freshStart, look, called, step, viewDone, after}
 use Rattle.model.specs.Flat.{Flat, FlatReply, freshFlat, flatCalled}
 use Rattle.model.specs.Opened.{opened}
 
@@ -162,6 +162,33 @@ evicted =
     row 32768
     (mode 1 0 ∷ mar128 1 0 ∷ reads 0x80000040 4 2 ∷ writes 0x80000040 8 1 ∷ writes 0x80002000 1 4 ∷ writes 0x80004000 1 4
     ∷ writes 0x80006000 1 4 ∷ writes 0x80008000 1 4 ∷ shows 0x80000040 0 8 ∷ reads 0x80000040 4 8 ∷ [])
+
+-- ---- A clean line is not written over external memory (02, U13). From a fresh start no list of calls tells: a clean
+-- line has the bytes of external memory, as long as the CPU alone writes there. So these begin behind calls after which
+-- a cache holds the line clean, and external memory was given other bytes since: its first byte is 3.
+abbrev other : List ℕ
+other = 3 ∷ replicate 127 0
+
+unfoldable pub changed : List Call → List Place → List (List ℕ)
+changed cs ps = along ps (withExternal (after cs (freshState 32768 (replicate 128 0))) other) (freshFlat 32768 other)
+
+abbrev ask : Place → Call
+ask p = p .call
+
+-- in L1D in mode 0, and in L2 in mode 1: neither writeback brings the old byte back
+pub cleanInL1d : List Place
+cleanInL1d = block 7 0x80000000 ∷ shows 0x80000000 0 3 ∷ reads 0x80000000 4 3 ∷ []
+
+pub cleanInL2 : List Place
+cleanInL2 = all 2 ∷ shows 0x80000000 0 3 ∷ all 3 ∷ reads 0x80000000 4 3 ∷ []
+
+pub l1d-clean-stays : changed (ask (mar128 1 0) ∷ ask (reads 0x80000000 4 0) ∷ []) cleanInL1d ≡ stated (row 0 cleanInL1d)
+unfolding opened both stepped along changed stated cleanInL1d
+l1d-clean-stays = refl
+
+pub l2-clean-stays : changed (ask (mode 1 0) ∷ ask (mar128 1 0) ∷ ask (reads 0x80000000 4 0) ∷ []) cleanInL2 ≡ stated (row 0 cleanInL2)
+unfolding opened both stepped along changed stated cleanInL2
+l2-clean-stays = refl
 
 -- ---- each row holds by computing; the table, and the theorem about it
 sram-holds : given sram ≡ stated sram
