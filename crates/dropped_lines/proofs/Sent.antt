@@ -39,7 +39,7 @@ use Rattle.agreement.proofs.ReadWrite.{Step}
 use Rattle.agreement.proofs.Sweeps.{Sweeps, step-refl, step-trans, atL1d-good, atL2-good, evictL1d-step, swept-step, writebackL2-sweeps, evictL2-sweeps, l2WritebackAll-good, l2WritebackInvalidateAll-good, l2WritebackBlock-good, l2WritebackInvalidateBlock-good, l1dWritebackInvalidateBlock-good}
 use Rattle.agreement.proofs.Due.{accepted-fits, accepted-read, accepted-write}
 use Rattle.agreement.proofs.Steps.{codes, step-well, other-code}
-use Rattle.dropped_lines.specs.Reached.{within, l1dSends, l2Sends, fetchSends, readSends, writeSends, oneSends, allSend, touchedSend, touchedL1dSend, lineOfBlock, chosen, sends}
+use Rattle.dropped_lines.specs.Reached.{within, outOfL2, l1dSends, l2Sends, fetchSends, readSends, writeSends, oneSends, allSend, touchedSend, touchedL1dSend, lineOfBlock, chosen, sends}
 use Rattle.dropped_lines.specs.Stronger.{inDirtyLine}
 use Rattle.dropped_lines.proofs.Held.{no-dirty}
 
@@ -106,12 +106,13 @@ l2-sent : (z : State) (F : Allowed) → Good z F → (a t v : ℕ) → l2Sends a
 unfolding l2Sends
 l2-sent z F q a t v h =
     let l = l2LineAt (z .rec) t v in let b = l .address in
-    let d = l2LineAt (takeHalves t v b z .rec) t v .dirty in
-    let p₁ = both-true (l .valid) (d && within b 128 a) h in
-    let p₂ = both-true d (within b 128 a) (p₁ .1) in
-    let i = within-tells b 128 a (p₂ .1) in let i₀ = i .0 in let i₁ = i .1 in
-    let pl = q .inv .l2Sound .place t v (p₁ .0) in let al = pl .aligned in let lo = pl .low in
-    record { valid = p₁ .0; address = omega arith; external = omega arith }
+    bool (l .valid)
+    (λ k. bool (l2LineAt (takeHalves t v b z .rec) t v .dirty)
+    (λ d. let i = within-tells b outOfL2 a (rw (k, d) at h) in let i₀ = i .0 in let i₁ = i .1 in
+    let pl = q .inv .l2Sound .place t v k in let al = pl .aligned in let lo = pl .low in
+    record { valid = k; address = omega arith; external = omega arith })
+    (λ d. false-true (rw (k, d) at h)))
+    (λ k. false-true (rw k at h))
 
 -- then no dirty line has it: a line of L1D would lie inside the L2 line
 out-clean : (z : State) (F : Allowed) → Good z F → (a : ℕ) → externalBase ≤ a → l2SetsOf (z .rec) ≢ 0 → OutOfL2 z a → inDirtyLine z a ≡ false

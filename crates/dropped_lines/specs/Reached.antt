@@ -28,10 +28,13 @@ l1dSends a s w z =
 
 -- "takes in the dirty halves that L1D holds, .. and it is written out if dirty" (`writebackL2` and `evictL2` of set t,
 -- way v): all 128 bytes, the clean half too
+abbrev pub outOfL2 : ℕ
+outOfL2 = l2LineLength
+
 unfoldable pub l2Sends : ℕ → ℕ → ℕ → State → Bool
 l2Sends a t v z =
     l2LineAt (z .rec) t v .valid && (l2LineAt (takeHalves t v (l2LineAt (z .rec) t v .address) z .rec) t v .dirty &&
-    within (l2LineAt (z .rec) t v .address) l2LineLength a)
+    within (l2LineAt (z .rec) t v .address) outOfL2 a)
 
 -- ---- accesses at address b
 -- `fetchL2`: the line in the way that is chosen leaves
