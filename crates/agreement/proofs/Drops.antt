@@ -9,7 +9,6 @@ use mathlib.Core.Logic.{_≢_}
 use mathlib.Core.List.{List}
 use native.Mathlib.Omega.{arith}
 use lib.ListN.{getD}
-use lib.Dec.{eqb}
 use Rattle.model.specs.Memories.{externalBase}
 use Rattle.model.specs.Lines.{l1dSetOf, emptyLine, upperHalf}
 use Rattle.model.specs.Records.{State, mode0, l2SetsOf, l2SetOf, marBit, noL2Set, l1dLineAt, l2LineAt, withL1dLine, withL2Line}

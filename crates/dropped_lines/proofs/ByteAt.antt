@@ -15,7 +15,7 @@ use Rattle.model.specs.Bytes.{little}
 use Rattle.model.specs.Memories.{externalBase}
 use Rattle.model.specs.Records.{State, sramOf}
 use Rattle.model.specs.Access.{readAccess}
-use Rattle.model.specs.Flat.{Flat, flat, flatPart, flatRead, flatStep}
+use Rattle.model.specs.Flat.{Flat, flatPart, flatRead, flatStep}
 use Rattle.model.specs.Refusals.{sizeOk, placeOk, valueOk, accessDue}
 use Rattle.model.specs.Calls.{Reply, commandDue, readDone, accepted, step}
 use Rattle.dropped_lines.specs.Dropped.{oneByte, byteAt, flatByteAt, bytesAt}

@@ -4,7 +4,7 @@
 -- Why: a command that flat memory does not see keeps the state good by the same g and h; a write puts its bytes into g
 -- and adds them to h; a mode change leaves the memories alone to be seen; after a drop the state is good by what is
 -- seen now, which differs only where a dirty line was dropped. Each byte of a read is g's.
-use Prim.Native.Nat.{ℕ, zero, _+_, _≤_, _<_}
+use Prim.Native.Nat.{ℕ, _+_, _≤_, _<_}
 use mathlib.Core.Bool.{Bool, true, false, not, cond, _&&_, _||_, and-false}
 use mathlib.Core.Path.{_≡_, refl, sym, ap, _∙_, subst}
 use mathlib.Core.List.{List, [], _∷_}
@@ -17,10 +17,10 @@ use Rattle.model.specs.Memories.{externalBase, legalL2, legalExternal, sramLeng
 use Rattle.model.specs.Records.{State, sramOf, freshRecord, freshState}
 use Rattle.model.specs.Access.{readAccess, writeAccess}
 use Rattle.model.specs.Modes.{smaller, flushL2, newMode, changeMode}
-use Rattle.model.specs.Flat.{Flat, flat, FlatReply, flatReply, freshFlat, flatPart, flatPut, flatMode, flatRead, flatWrite, flatChange, flatStep, flatCalled}
-use Rattle.model.specs.Refusals.{accessDue, blockDue, modeDue}
+use Rattle.model.specs.Flat.{Flat, FlatReply, flatReply, freshFlat, flatPart, flatPut, flatMode, flatRead, flatWrite, flatChange, flatStep, flatCalled}
+use Rattle.model.specs.Refusals.{accessDue, modeDue}
 use Rattle.model.specs.Trace.{command}
-use Rattle.model.specs.Calls.{Reply, refused, carriedOut, commandDue, readDone, writeDone, commandState, accepted, step, call, viewDone, Call, oneCommand, freshStart, look, called}
+use Rattle.model.specs.Calls.{Reply, refused, commandDue, readDone, writeDone, commandState, accepted, step, call, viewDone, Call, oneCommand, freshStart, look, called}
 use Rattle.dropped_lines.specs.Dropped.{listedCall, listed, byteAt, memoryAt, reads, writes, newByte, changesMode, dropCode, HoldsAt, oneOf}
 use Rattle.dropped_lines.specs.Reached.{within}
 use Rattle.dropped_lines.specs.Stronger.{dirtyInL1d, dirtyInL2, inDirtyLine, loses, showsAfter, lostAfter, changes, HoldsStronger, StrongerDroppedLines, end, next}

@@ -1,7 +1,6 @@
 -- U13 for runs over traces holds (`runs-dropped-lines`). A run is its commands called one after another (`run-calls` of
 -- crate agreement), and the list of these calls is one of which U13 speaks: every code may stand in it. So the
 -- sentences hold at each of its places, and behind the run the next one begins where these calls end.
-use Prim.Native.Nat.{ℕ}
 use mathlib.Core.Bool.{true}
 use mathlib.Core.Path.{_≡_, refl}
 use mathlib.Core.List.{List, [], _∷_}

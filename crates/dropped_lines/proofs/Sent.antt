@@ -17,9 +17,9 @@ use Rattle.model.specs.Bytes.{littleBytes}
 use Rattle.model.specs.Memories.{externalBase}
 use Rattle.model.specs.Lines.{l1dSetOf, l1dLine, l2Line, lineOf}
 use Rattle.model.specs.Records.{State, mode0, sramOf, l2SetsOf, l2SetOf, marBit, l1dSetAt, l1dLineAt, l2LineAt, withL1dLine, withL2Line}
-use Rattle.model.specs.Ways.{l1dVictim, l1dWay, l2Way, inL1d, inL2, useL1d, useL2}
-use Rattle.model.specs.Homes.{homeIsL2, putMemory, putL2, l2WayFor, takeHalves, writebackL2, evictL2, fillL2, fetchL2}
-use Rattle.model.specs.Access.{cacheable, evictL1d, fillL1d, readFilled, readEmptied, readMiss, readHit, readAccess, writeHit, writeHome, writeMiss, writeAccess}
+use Rattle.model.specs.Ways.{l1dWay, l2Way, inL1d, inL2, useL1d, useL2}
+use Rattle.model.specs.Homes.{homeIsL2, putL2, l2WayFor, takeHalves, writebackL2, evictL2, fillL2, fetchL2}
+use Rattle.model.specs.Access.{cacheable, evictL1d, fillL1d, readFilled, readEmptied, readMiss, readAccess, writeHome, writeMiss, writeAccess}
 use Rattle.model.specs.Commands.{linesTouched, eachTouched, eachL2, atL1d, atL2, unlessMode0, l2WritebackAll, l2WritebackInvalidateAll, l2WritebackBlock, l2WritebackInvalidateBlock, l1dWritebackInvalidateBlock}
 use Rattle.model.specs.Refusals.{accessDue, blockDue}
 use Rattle.model.specs.Trace.{command}
@@ -28,17 +28,17 @@ use Rattle.model.specs.Laws.{bool, false-true, both-true, cond-elim, mode0-sets
 use Rattle.model.specs.declared.Line.{Line}
 use Rattle.model.specs.declared.Record.{Record}
 use Rattle.model.specs.declared.Command.{Command}
-use Rattle.agreement.proofs.Level.{Valid, Other, NoDirty, Free, Replaced, same-slot, kept-was}
+use Rattle.agreement.proofs.Level.{Valid, NoDirty, Free, same-slot, kept-was}
 use Rattle.agreement.proofs.Invariant.{Allowed, grows-refl, Layout}
 use Rattle.agreement.proofs.Memory.{Written}
-use Rattle.agreement.proofs.Good.{layoutOf, l1dLevel, l2Level, Good, Tidy, Anything, Well, Kept, kept-trans, l1d-hit, l2-hit, l1d-miss, l2-miss, l2-bounds, l1d-victim-bound, home-l2, withLists, l1d-replaced, l2-replaced, l1d-used-line, l2-used-line}
-use Rattle.agreement.proofs.Evict.{Clear, LinesLeft, memory-free, evictL1d-good, left-free, evicted-free}
-use Rattle.agreement.proofs.Writeback.{Swept, writebackL2-good, evictL2-good}
-use Rattle.agreement.proofs.Fetch.{AccessFits, cacheable-yes, way-for-bound, way-for-hit, fetchL2-good}
+use Rattle.agreement.proofs.Good.{layoutOf, l1dLevel, l2Level, Good, Tidy, Anything, Well, Kept, l1d-hit, l2-hit, l2-miss, l2-bounds, l1d-victim-bound, home-l2, withLists, l1d-replaced, l2-replaced, l1d-used-line, l2-used-line}
+use Rattle.agreement.proofs.Evict.{Clear, memory-free, evictL1d-good, left-free, evicted-free}
+use Rattle.agreement.proofs.Writeback.{Swept, evictL2-good}
+use Rattle.agreement.proofs.Fetch.{AccessFits, cacheable-yes, fetchL2-good}
 use Rattle.agreement.proofs.ReadWrite.{Step}
 use Rattle.agreement.proofs.Sweeps.{Sweeps, step-refl, step-trans, atL1d-good, atL2-good, evictL1d-step, swept-step, writebackL2-sweeps, evictL2-sweeps, l2WritebackAll-good, l2WritebackInvalidateAll-good, l2WritebackBlock-good, l2WritebackInvalidateBlock-good, l1dWritebackInvalidateBlock-good}
 use Rattle.agreement.proofs.Due.{accepted-fits, accepted-read, accepted-write}
-use Rattle.agreement.proofs.Steps.{codes, step-well, other-code}
+use Rattle.agreement.proofs.Steps.{codes}
 use Rattle.dropped_lines.specs.Reached.{within, outOfL2, l1dSends, l2Sends, fetchSends, readSends, writeSends, oneSends, allSend, touchedSend, touchedL1dSend, lineOfBlock, chosen, sends}
 use Rattle.dropped_lines.specs.Stronger.{inDirtyLine}
 use Rattle.dropped_lines.proofs.Held.{no-dirty}

@@ -2,21 +2,21 @@
 -- line with address a, 128 bytes for L2's command and 64 for L1D's, each line with a is still there behind it.
 -- Why: the command goes from touched line to touched line, and what it does at one of them empties the slots of that
 -- line alone, in L2 with both its halves in L1D.
-use Prim.Native.Nat.{ℕ, _+_, _*_, _/_, _%_, _≤_, _<_}
-use mathlib.Core.Bool.{Bool, true, false, not, cond, _&&_, _||_}
-use mathlib.Core.Path.{_≡_, refl, sym, ap, _∙_}
+use Prim.Native.Nat.{ℕ, _+_, _*_, _/_, _≤_, _<_}
+use mathlib.Core.Bool.{Bool, false, not, cond, _&&_, _||_}
+use mathlib.Core.Path.{_≡_, refl, sym, _∙_}
 use mathlib.Core.Logic.{_≢_}
 use native.Mathlib.Omega.{arith}
-use lib.Dec.{ltb, leb, eqb}
+use lib.Dec.{eqb}
 use borrow.Author.Tests.{le-leb, lt-ltb, ne-eqb}
 use Rattle.model.specs.Lines.{l1dSetOf, l1dLine, l2Line, upperHalf, emptyLine}
-use Rattle.model.specs.Records.{State, mode0, l2SetsOf, l2SetOf, l1dLineAt, l2LineAt, withL1dLine, withL2Line}
+use Rattle.model.specs.Records.{State, mode0, l2SetOf, l1dLineAt, l2LineAt, withL1dLine, withL2Line}
 use Rattle.model.specs.Ways.{l1dWay, l2Way, inL1d, inL2, emptyL1d, emptyL2}
 use Rattle.model.specs.Commands.{linesTouched, eachTouched, atL1d, atL2, unlessMode0, dropL2, l2InvalidateBlock, l1dInvalidateBlock}
 use Rattle.model.specs.Refusals.{blockDue}
 use Rattle.model.specs.Trace.{command}
 use Rattle.model.specs.Calls.{Reply, refused, carriedOut, commandDue, commandState, accepted, step, Call, oneCommand, freshStart, look, called}
-use Rattle.model.specs.Laws.{bool, false-true, cond-elim}
+use Rattle.model.specs.Laws.{false-true, cond-elim}
 use Rattle.model.specs.declared.Command.{Command}
 use Rattle.agreement.proofs.Level.{Valid, same-slot}
 use Rattle.agreement.proofs.Good.{l1dLevel, l2Level, Anything, Well, l1d-hit, l2-hit, l2-bounds, l1d-replaced, l2-replaced}

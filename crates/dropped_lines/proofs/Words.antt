@@ -6,7 +6,7 @@
 -- its memory's byte alone; where no dirty line is left otherwise, the byte in memory is one that it held. A dirty line
 -- that was lost is a valid line that was dropped, and one that the command's block touches (`loses-touched`).
 use Prim.Native.Nat.{ℕ, _*_, _/_}
-use mathlib.Core.Bool.{Bool, true, false, not, cond, _&&_, _||_}
+use mathlib.Core.Bool.{Bool, true, false, not, _&&_, _||_}
 use mathlib.Core.Path.{_≡_, refl, sym, ap, _∙_, subst}
 use mathlib.Core.List.{List, [], _∷_}
 use lib.ListN.{length}
@@ -36,7 +36,7 @@ use Rattle.dropped_lines.specs.Reached.{sends}
 use Rattle.dropped_lines.specs.Dropped.{listedCall, listed, byteAt, memoryAt, does, writes, newByte, changesMode, reached, dropCode, dropsLine, dropTouches, History, atFirst, heldAfter, historyAfter, HoldsAt, oneOf, lastOrHeld, mayChange, Holds, DroppedLines, end, next}
 use Rattle.dropped_lines.specs.Stronger.{dirtyInL1d, dirtyInL2, inDirtyLine, loses, showsAfter, lostAfter, changes}
 use Rattle.dropped_lines.proofs.Held.{In, Seen, neither, DirtyAt, l1d-dirty, l2-dirty, l1d-clean, l2-clean, none-dirty, still-dirty}
-use Rattle.dropped_lines.proofs.Dropping.{Follows, After, grown, inside-same, unchanged, call-after, reads-inside, holds-at, fresh-follows}
+use Rattle.dropped_lines.proofs.Dropping.{Follows, After, grown, inside-same, call-after, reads-inside, holds-at, fresh-follows}
 use Rattle.dropped_lines.proofs.Sent.{either, sent-clean}
 use Rattle.dropped_lines.proofs.Touching.{loses-touched}
 

@@ -3,7 +3,7 @@
 -- to memory. Here is for each call whether one of its steps sends address a out, in the order in which they are done;
 -- `sent-clean` (proofs/Sent) shows that no dirty line has a afterwards.
 use Prim.Native.Nat.{ℕ, zero, suc, _+_, _*_, _/_, _%_}
-use mathlib.Core.Bool.{Bool, true, false, not, cond, _&&_, _||_}
+use mathlib.Core.Bool.{Bool, false, not, cond, _&&_, _||_}
 use lib.Dec.{ltb, leb, eqb}
 use Rattle.model.specs.Basics.{each}
 use Rattle.model.specs.Lines.{l1dKind, l1dSetOf, l2LineLength, l2Ways}
