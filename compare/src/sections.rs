@@ -322,7 +322,7 @@ fn dropped(rng: &mut Rng, group: u64, met: &mut Met) -> Option<Case> {
     if rng.chance(7, 8) {
         ops.push(Op::Direct(Command::Mar { number: 128, bit: 1 }));
     }
-    let mut modes = LEGAL_MODES.to_vec();
+    let mut modes = [&LEGAL_MODES[..], &[7, 7]].concat();
     modes.retain(|&mode| mode_is_legal(l, mode));
     ops.push(Op::Direct(Command::Mode { mode: rng.pick(&modes) }));
     let mut lines = hot(rng, l, e);

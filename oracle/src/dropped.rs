@@ -3,7 +3,7 @@
 //! on a chip of this model, whose events tell when a writeback reached a byte and
 //! when a line with it was dropped.
 
-use std::collections::{HashMap, HashSet};
+use std::collections::{BTreeSet, HashMap, HashSet};
 
 use crate::calls::direct_with_events;
 use crate::flat::Flat;
@@ -28,7 +28,7 @@ pub struct History {
     /// The values that a byte "held since a writeback last reached its external
     /// memory (for SRAM, its SRAM byte), that value included". A byte that is not
     /// here held what `start` has, and nothing else.
-    pub held: HashMap<u32, HashSet<u8>>,
+    pub held: HashMap<u32, BTreeSet<u8>>,
     /// SRAM and external memory after the last "fresh start or mode change",
     /// either "counting as one".
     start: (Vec<u8>, Vec<u8>),
@@ -81,7 +81,7 @@ impl History {
         }
         for address in events.reached.into_iter().flatten() {
             let value = in_memory(&self.chip.l2, &self.chip.ext, address);
-            self.held.insert(address, HashSet::from([value]));
+            self.held.insert(address, BTreeSet::from([value]));
         }
         for address in events.dropped.into_iter().flatten() {
             self.dropped.insert(address);
@@ -110,9 +110,9 @@ impl History {
     }
 
     /// The values that this byte held since a writeback last reached it.
-    fn held_at(&mut self, address: u32) -> &mut HashSet<u8> {
+    fn held_at(&mut self, address: u32) -> &mut BTreeSet<u8> {
         let start = &self.start;
-        let at_start = || HashSet::from([in_memory(&start.0, &start.1, address)]);
+        let at_start = || BTreeSet::from([in_memory(&start.0, &start.1, address)]);
         self.held.entry(address).or_insert_with(at_start)
     }
 
