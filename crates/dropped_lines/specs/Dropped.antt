@@ -21,8 +21,7 @@ use Rattle.model.specs.declared.Command.{Command}
 use Rattle.dropped_lines.specs.Reached.{within, sends}
 
 -- ---- "For lists that also hold the three invalidating commands, external transfers left out": commands of every code
--- with any numbers, refused ones too, and views. A fresh start begins a list and is no call of it; transfers are no
--- calls yet.
+-- with any numbers, refused ones too, and views. A fresh start begins a list and is no call of it.
 abbrev pub listedCall : Call → Bool
 listedCall (oneCommand k) = true
 listedCall freshStart = false
@@ -61,7 +60,7 @@ does p (look b) r = false
 unfoldable pub reads : Call → Reply → ℕ → Bool
 reads c r a = does (λ k. eqb (k .code) 0 && within (k .second) (k .first) a) c r
 
--- "the last one written": the call writes a, and which byte
+-- "the last one written (a SRAM transfer in writes too)": the call writes a, and which byte. Transfers are no calls yet.
 unfoldable pub writes : Call → Reply → ℕ → Bool
 writes c r a = does (λ k. eqb (k .code) 1 && within (k .second) (k .first) a) c r
 
