@@ -12,6 +12,7 @@ pub mod dropped;
 pub mod flat;
 pub mod gen;
 pub mod geometry;
+pub mod load;
 pub mod machine;
 pub mod modes;
 pub mod record;
