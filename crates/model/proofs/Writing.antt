@@ -345,7 +345,7 @@ command-written [] y h = false-true h
 command-written (c ∷ bs) y h = after-written c bs (λ i. y (suc i)) h
 
 -- ---- whole traces
-pub allWritable : List Command → Bool
+unfoldable pub allWritable : List Command → Bool
 allWritable [] = true
 allWritable (k ∷ ks) = writable k && allWritable ks
 

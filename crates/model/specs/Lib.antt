@@ -20,3 +20,4 @@ pub mod Laws
 pub mod Opened
 pub mod ShortRuns
 pub mod Writing
+pub mod Load
