@@ -9,12 +9,15 @@ ghost use Rattle.model.specs.Trace.{command};
 ghost use Rattle.model.specs.Calls.{reply, oneCommand, freshStart, called, ran, runCall};
 ghost use Rattle.model.specs.ShortRuns.{shortRunOf, shortRunNumber};
 ghost use Rattle.model.specs.Writing.{writeCommand};
+ghost use Rattle.model.specs.Load.{loadTrace};
 ghost use Rattle.trace_writer.specs.Told.{told};
+ghost use Rattle.load.specs.Told.{toldLoad};
 ghost use Rattle.short_runs.specs.Told.{toldRun, toldNumber};
 ghost use Rattle.tags.specs.Words.{recordIn, stateIn};
 ghost use Rattle.view.specs.Into.{seenAs, viewInto};
 use access::Answer;
 use calls::Ran;
+use load::Load;
 use short_runs::RunNumber;
 use short_runs::ShortRun;
 use tags::WORDS;
@@ -287,4 +290,12 @@ pub extern "C" fn c64x_put_command(
         ≡ writeCommand (now (out .entry)) at (command code first second value) ⌝ }
 {
     trace_writer::put_command(out, at, code, first, second, value)
+}
+
+// ---- beside the chip: a load to repeat (02, U9). The trace of so many accesses goes to the start of the output.
+#[no_mangle]
+pub extern "C" fn c64x_load_trace(seed: u32, extlen: u32, accesses: u64, out: &mut [u8]) -> Load
+    ensures { λ r. ⌜ toldLoad r (now (out .exit)) ≡ loadTrace seed extlen accesses (now (out .entry)) ⌝ }
+{
+    load::load_trace(seed, extlen, accesses, out)
 }

@@ -35,7 +35,16 @@ pub accesses-worked : accesses 0 128 3
 unfolding words nextWord accessesFrom accessOf
 accesses-worked = refl
 
--- ---- an access lies in external memory
+-- ---- which access a word of 32 bits gives
+pub read-access : (e w : ℕ) → w < 0x80000000 → command 0 4 (loadAddress e w) 0 ≡ accessOf e w
+unfolding accessOf
+read-access e w h = rw (ne-eqb (w / 0x80000000 % 2) 1 (omega arith)) refl
+
+pub write-access : (e w : ℕ) → 0x80000000 ≤ w → w < 0x100000000 → command 1 4 (loadAddress e w) w ≡ accessOf e w
+unfolding accessOf
+write-access e w h g = rw (eq-eqb (w / 0x80000000 % 2) 1 (omega arith)) refl
+
+-- ---- it lies in external memory
 pub record Legal (e : ℕ) : Type 0 where
   pub low : 128 ≤ e
   pub high : e ≤ 33554432
@@ -114,16 +123,14 @@ module _ (e w : ℕ) (l : Legal e) where
   front-length = five-groups (loadAddress e w) (omega arith) (omega (arith, address-small e w l))
 
   pub read-length : w < 0x80000000 → length (commandBytes (accessOf e w)) ≡ 7
-  unfolding accessOf commandBytes firstNumbers numbersTaken
-  read-length h =
-      rw (ne-eqb (w / 0x80000000 % 2) 1 (omega arith), length-append (numberBytes 4) front, size-group, front-length)
-      refl
+  unfolding commandBytes firstNumbers numbersTaken
+  read-length h = rw (← read-access e w h, length-append (numberBytes 4) front, size-group, front-length) refl
 
   pub write-length : 0x80000000 ≤ w → w < 0x100000000 → length (commandBytes (accessOf e w)) ≡ 12
-  unfolding accessOf commandBytes firstNumbers numbersTaken
+  unfolding commandBytes firstNumbers numbersTaken
   write-length h g =
       rw (
-        eq-eqb (w / 0x80000000 % 2) 1 (omega arith),
+        ← write-access e w h g,
         length-append (numberBytes 4) (front ++ numberBytes w),
         length-append front (numberBytes w),
         size-group,

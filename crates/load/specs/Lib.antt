@@ -1,0 +1,3 @@
+pub mod Told
+pub mod Ring
+pub mod Passes
