@@ -806,6 +806,61 @@ static void writing(void)
     writing_row("c64x_put_command, refused with 11", len);
 }
 
+/* ---- a load to repeat */
+
+/* Random loads into outputs that are too short, just long enough and longer: both sides do the same. */
+static void same_loads(void)
+{
+    static const uint32_t lengths[6] = { 0, 127, 128, 65536, 33554432, 33554433 };
+    static uint8_t out[4096], out_by_c[4096];
+    size_t by[3] = { 0 };
+    for (int i = 0; i < 40000; i++) {
+        for (size_t k = 0; k < sizeof out; k++) out[k] = out_by_c[k] = (uint8_t)(i + (int)k);
+        uint32_t seed = below(UINT32_MAX), extlen = below(2) ? lengths[below(6)] : 128 * (1 + below(262144));
+        uint64_t accesses = below(16) ? below(400) : UINT64_MAX;
+        size_t len = below(sizeof out + 1);
+        if (below(2)) {
+            struct load_result whole = model_load(seed, extlen, accesses, out_by_c, sizeof out);
+            memcpy(out, out_by_c, sizeof out);
+            if (whole.number == 0) len = below(2) || whole.length == 0 ? whole.length : whole.length - 1;
+        }
+        c64x_load x = c64x_load_trace(seed, extlen, accesses, out, len);
+        struct load_result y = model_load(seed, extlen, accesses, out_by_c, len);
+        if (x.number != y.number || x.length != y.length) differ("random load", "number or length");
+        if (memcmp(out, out_by_c, sizeof out) != 0) differ("random load", "output");
+        by[y.number == 0 ? 0 : y.number == 1 ? 1 : 2]++;
+        if (differences) return;
+    }
+    printf("%zu random loads made, %zu refused with 1, %zu with 16: the same on both sides\n", by[0], by[1], by[2]);
+}
+
+/* One load of many accesses, by each side in turn; shown by the access. */
+static void load_row(const char *name, uint64_t accesses, size_t len, size_t by)
+{
+    struct times library_ns = NO_TIME, c_ns = NO_TIME;
+    uint8_t *out = room(COMMANDS * 24), *out_by_c = room(COMMANDS * 24);
+    for (int i = 0; i < RUNS; i++) {
+        double at = now();
+        c64x_load x = c64x_load_trace(1, 65536, accesses, out, len);
+        took(&library_ns, at);
+        at = now();
+        struct load_result y = model_load(1, 65536, accesses, out_by_c, len);
+        took(&c_ns, at);
+        if (x.length != y.length || x.number != y.number) differ(name, "length or number");
+    }
+    if (memcmp(out, out_by_c, COMMANDS * 24) != 0) differ(name, "output");
+    free(out);
+    free(out_by_c);
+    row(name, &library_ns, &c_ns, by);
+}
+
+static void loads(void)
+{
+    head("a load to repeat, by the access");
+    load_row("c64x_load_trace", COMMANDS, COMMANDS * 24, COMMANDS);
+    load_row("c64x_load_trace, refused with 16 (an output for as many)", UINT64_MAX, COMMANDS * 9, COMMANDS);
+}
+
 /* ---- cost against L and E */
 
 static void fresh_start(const char *name)
@@ -907,11 +962,13 @@ int main(void)
     same_short_runs();
     if (differences) return 1;
     same_puts();
+    same_loads();
     if (differences) return 1;
     time_the_clock();
     classes(&t);
     directs(&t);
     writing();
+    loads();
     growth(&t);
     short_runs();
     if (differences) printf("\n%d results differ\n", differences);

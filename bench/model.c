@@ -690,6 +690,55 @@ struct put_result model_put(uint8_t *out, size_t out_len, size_t at, uint32_t co
     return x;
 }
 
+/* ---- a load to repeat */
+
+struct words {
+    uint32_t ring[55];
+    unsigned at;
+};
+
+static void seed_words(struct words *w, uint32_t seed)
+{
+    for (int i = 0; i < 55; i++, seed += 0x9E3779B9u) w->ring[i] = seed;
+    w->at = 0;
+}
+
+static inline uint32_t next_word(struct words *w)
+{
+    unsigned at = w->at, near = at < 24 ? at + 31 : at - 24;
+    w->at = at == 54 ? 0 : at + 1;
+    return w->ring[at] += w->ring[near];
+}
+
+/* A read has 7 bytes and a write 12: whether all fit is known before the first is written. */
+struct load_result model_load(uint32_t seed, uint32_t extlen, uint64_t accesses, uint8_t *out, size_t out_len)
+{
+    struct load_result x = { 0, 1 };
+    struct words w;
+    size_t left = out_len;
+    if (!legal_ext(extlen)) return x;
+    x.number = 16;
+    seed_words(&w, seed);
+    for (uint64_t n = 0; n < accesses; n++) {
+        size_t bytes = next_word(&w) >> 31 ? 12 : 7;
+        if (left < bytes) return x;
+        left -= bytes;
+    }
+    uint8_t *p = out;
+    uint32_t words = extlen / 4;
+    seed_words(&w, seed);
+    for (uint64_t n = 0; n < accesses; n++) {
+        uint32_t word = next_word(&w);
+        *p++ = (uint8_t)(word >> 31);
+        *p++ = 4;
+        p = put_number(p, EXTERNAL + word % words * 4);
+        if (word >> 31) p = put_number(p, word);
+    }
+    x.length = (size_t)(p - out);
+    x.number = 0;
+    return x;
+}
+
 /* ---- looking behind L1D */
 
 uint8_t model_view_number(const struct record *r, const struct lent *m, uint32_t address)

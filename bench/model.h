@@ -84,6 +84,14 @@ struct put_result {
 struct put_result model_put(uint8_t *out, size_t out_len, size_t at, uint32_t code, uint64_t first, uint64_t second,
                             uint64_t value);
 
+/* A load to repeat (paper 02, U9): its trace at the start of the output; how many bytes it has, and the number. */
+struct load_result {
+    size_t length;
+    uint8_t number;
+};
+
+struct load_result model_load(uint32_t seed, uint32_t extlen, uint64_t accesses, uint8_t *out, size_t out_len);
+
 /* The 64 bytes behind L1D into `seen`; the number. And the number alone. */
 uint8_t model_view(const struct record *r, const struct lent *m, uint32_t address, uint8_t *seen, size_t seen_len);
 uint8_t model_view_number(const struct record *r, const struct lent *m, uint32_t address);

@@ -15,7 +15,7 @@
 #define EXT_BYTES (1u << 20)
 
 /* The calls, in the order of the codes of a trace; then the others. */
-enum { FRESH = 12, RUN, VIEW, VIEW_NUMBER, SHORT_RUN_OF, SHORT_RUN_NUMBER, PUT, KINDS };
+enum { FRESH = 12, RUN, VIEW, VIEW_NUMBER, SHORT_RUN_OF, SHORT_RUN_NUMBER, PUT, LOAD, KINDS };
 
 static const char *const names[KINDS] = {
     "c64x_read",
@@ -37,6 +37,7 @@ static const char *const names[KINDS] = {
     "c64x_short_run_of",
     "c64x_short_run_number",
     "c64x_put_command",
+    "c64x_load_trace",
 };
 
 /* One call with its numbers. */
@@ -95,7 +96,9 @@ static void call(void)
     case SHORT_RUN_OF: c64x_short_run_of(first); break;
     case SHORT_RUN_NUMBER: c64x_short_run_number(digits, first); break;
     /* the code is that of a write, whose command is the longest */
-    default: c64x_put_command(trace, sizeof trace, 0, 1, first, second, now.value); break;
+    case PUT: c64x_put_command(trace, sizeof trace, 0, 1, first, second, now.value); break;
+    /* the seed and the number of accesses */
+    default: c64x_load_trace(first, sizeof ext, second, trace, sizeof trace); break;
     }
 }
 
@@ -188,6 +191,7 @@ static void every_call(void)
         { FRESH, 0, 0, 0 }, { VIEW, EXTERNAL + 64, 0, 0 }, { VIEW, 64, 0, 0 }, { VIEW, 4, 0, 0 },
         { VIEW_NUMBER, EXTERNAL + 64, 0, 0 }, { VIEW_NUMBER, 4, 0, 0 },
         { PUT, 4, EXTERNAL, 5 }, { PUT, UINT32_MAX, UINT32_MAX, UINT64_MAX },
+        { LOAD, 7, 1000, 0 }, { LOAD, 7, UINT32_MAX, 0 },
     };
     for (size_t i = 0; i < sizeof calls / sizeof calls[0]; i++) {
         measure(calls[i].kind, calls[i].first, calls[i].second, calls[i].value);

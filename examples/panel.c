@@ -2,11 +2,13 @@
  * What the repair panel shows: a trace is run from a fresh start, and each
  * answer is told in words, then what the two caches hold.
  *
- *   panel [TRACE]     TRACE is a file; without it a small trace of its own is run
+ *   panel [TRACE]           TRACE is a file; without it a small trace of its own is run
+ *   panel --load SEED N     with both MAR bits on, the load of this seed and N accesses
  *
  * L2 and external memory have 65,536 bytes each, all zero. Exit status: 0 the trace was run,
  * also where commands of it were refused; 1 it was stopped; 2 bad usage.
  */
+#include <errno.h>
 #include <stdio.h>
 #include <stdlib.h>
 #include <string.h>
@@ -135,14 +137,46 @@ static size_t read_trace(const char *name)
     return length;
 }
 
+/* A whole number up to `most`, or exit. */
+static uint64_t number_of(const char *word, uint64_t most)
+{
+    char *end;
+    errno = 0;
+    unsigned long long number = strtoull(word, &end, 10);
+    if (word[0] < '0' || word[0] > '9' || *end != '\0' || errno != 0 || number > most) {
+        fprintf(stderr, "panel: '%s' is no number that is meant here\n", word);
+        exit(2);
+    }
+    return number;
+}
+
+/* Makes a load behind two MAR commands in the trace; the length of all, or exit. */
+static size_t make_load(const char *seed, const char *accesses)
+{
+    c64x_trace_writer writer;
+    c64x_trace_start(&writer, trace, TRACE_BYTES);
+    c64x_trace_put(&writer, C64X_CODE_MAR, 128, 1, 0);
+    c64x_trace_put(&writer, C64X_CODE_MAR, 129, 1, 0);
+    c64x_load load = c64x_load_trace((uint32_t)number_of(seed, UINT32_MAX), EXTERNAL_BYTES,
+                                     number_of(accesses, UINT64_MAX), trace + writer.at, TRACE_BYTES - writer.at);
+    if (load.number != C64X_ACCEPTED) {
+        fprintf(stderr, "panel: %s\n", c64x_number_text(load.number));
+        exit(2);
+    }
+    return writer.at + load.length;
+}
+
 int main(int argc, char **argv)
 {
-    if (argc > 2 || (argc == 2 && argv[1][0] == '-')) {
-        fprintf(stderr, "usage: panel [TRACE]\n");
+    int load = argc == 4 && strcmp(argv[1], "--load") == 0;
+    if (!load && (argc > 2 || (argc == 2 && argv[1][0] == '-'))) {
+        fprintf(stderr, "usage: panel [TRACE], or panel --load SEED N\n");
         return 2;
     }
     size_t length;
-    if (argc == 2) {
+    if (load) {
+        length = make_load(argv[2], argv[3]);
+    } else if (argc == 2) {
         length = read_trace(argv[1]);
     } else {
         length = sizeof own_trace;

@@ -44,7 +44,7 @@
  *   10  a MAR bit is to become 0 while a cache holds a line of that range
  *   11  the trace is damaged; of a command to be written: a code that traces lack, or a number that is too wide
  *   12  fewer than 10 answer bytes are left
- *   16  fewer bytes of the output are left than the command has
+ *   16  fewer bytes of the output are left than the command, or the whole load, has
  *   18  no short run: its number is above 4,680, it has more than four digits, or a digit is above 7
  *
  * Where several are due, the lowest counts (only in a trace 11, then 12, come before 3 to 10). A refused call changes
@@ -82,7 +82,7 @@ extern "C" {
  * up when calls are added and all the others stay as they are. Version 1 passed the record by value.
  */
 #define C64X_VERSION_MAJOR 2
-#define C64X_VERSION_MINOR 2
+#define C64X_VERSION_MINOR 3
 
 /* The stack that a call needs at most, in bytes. */
 #define C64X_STACK_BYTES 4096
@@ -104,6 +104,8 @@ extern "C" {
 #define C64X_SHORT_RUN_DIGITS 4
 /* The longest command of a trace: a code, two numbers of 32 bits and one of 64. */
 #define C64X_COMMAND_BYTES 21
+/* The longest access of a load: a write. */
+#define C64X_LOAD_ACCESS_BYTES 12
 
 /*
  * One line of a cache. `valid`: it holds something; `dirty`: what it holds is not yet in the memory behind; `address`
@@ -200,6 +202,12 @@ typedef struct {
     uint8_t number;
 } c64x_put;
 
+/* What c64x_load_trace returns: how many bytes the trace has (0 where it was refused), and 0, 1 or 16. */
+typedef struct {
+    size_t length;
+    uint8_t number;
+} c64x_load;
+
 C64X_ASSERT(sizeof(size_t) == 8, "the library is for 64 bits");
 C64X_ASSERT(sizeof(c64x_line) == 8, "c64x_line");
 C64X_ASSERT(offsetof(c64x_line, valid) == 0, "c64x_line");
@@ -241,6 +249,9 @@ C64X_ASSERT(offsetof(c64x_run_number, run) == 4, "c64x_run_number");
 C64X_ASSERT(sizeof(c64x_put) == 16, "c64x_put");
 C64X_ASSERT(offsetof(c64x_put, at) == 0, "c64x_put");
 C64X_ASSERT(offsetof(c64x_put, number) == 8, "c64x_put");
+C64X_ASSERT(sizeof(c64x_load) == 16, "c64x_load");
+C64X_ASSERT(offsetof(c64x_load, length) == 0, "c64x_load");
+C64X_ASSERT(offsetof(c64x_load, number) == 8, "c64x_load");
 
 /* The three memories, as every call but the view is lent them. */
 #define C64X_LENT \
@@ -331,6 +342,21 @@ c64x_ran c64x_run(c64x_record *record, const uint8_t *trace, size_t trace_len, C
  */
 c64x_put c64x_put_command(uint8_t *out, size_t out_len, size_t at, uint32_t code, uint64_t first, uint64_t second,
                           uint64_t value);
+
+/*
+ * A load to repeat, so that every bench can exercise a chip alike: puts the trace of so many accesses to the start of
+ * the output, in the form that c64x_run reads. The trace goes by the three numbers alone, and is for a chip that has
+ * `extlen` bytes of external memory. Words of 32 bits are made of the seed: the first is the seed, the next 54 are each
+ * the one before plus 9E3779B9h, and from then on each is the sum of the words 24 and 55 places back, all modulo 2 to
+ * the 32. From the 56th on each gives an aligned access of 4 bytes to external memory: a write of the word itself where
+ * its bit 31 is set, else a read, at the offset 4 * (word % (extlen / 4)). Such a chip refuses none of them.
+ *
+ * A read has 7 bytes and a write 12, so C64X_LOAD_ACCESS_BYTES for each access are always enough. Refused: 1 for an
+ * `extlen` that external memory cannot have, then 16 where the output is too short for the whole trace. A refused call
+ * changes no byte, and bytes behind the trace never change. No accesses are a trace of 0 bytes. However many accesses
+ * are asked for, the call takes no longer than filling the output does.
+ */
+c64x_load c64x_load_trace(uint32_t seed, uint32_t extlen, uint64_t accesses, uint8_t *out, size_t out_len);
 
 /*
  * Looking behind the caches: the 64 bytes that SRAM or external memory itself has at a multiple of 64, whatever the

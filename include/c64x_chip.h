@@ -63,7 +63,7 @@ static inline const char *c64x_number_text(unsigned number)
     case C64X_REFUSED_LINE_HELD: return "refused: a cache holds a line of that range";
     case C64X_STOPPED_TRACE: return "stopped: the trace is damaged";
     case C64X_STOPPED_ANSWERS: return "stopped: fewer than 10 answer bytes are left";
-    case C64X_REFUSED_ROOM: return "refused: too few bytes of the output are left for the command";
+    case C64X_REFUSED_ROOM: return "refused: too few bytes of the output are left";
     case C64X_REFUSED_SHORT_RUN: return "refused: no short run has this number or these digits";
     default: return "unknown number";
     }
@@ -179,6 +179,13 @@ static inline c64x_ran c64x_chip_run(c64x_chip *chip, const uint8_t *trace, size
                                      size_t answers_len)
 {
     return c64x_run(&chip->record, trace, trace_len, C64X_CHIP_LENT(chip), answers, answers_len);
+}
+
+/* The trace of a load for a chip with this one's external memory, to be run on it. */
+static inline c64x_load c64x_chip_load_trace(const c64x_chip *chip, uint32_t seed, uint64_t accesses, uint8_t *out,
+                                             size_t out_len)
+{
+    return c64x_load_trace(seed, chip->record.extlen, accesses, out, out_len);
 }
 
 /* The codes of a trace. */

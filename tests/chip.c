@@ -1,8 +1,8 @@
 /*
  * Every call of include/c64x_chip.h, on cases whose outcome the paper gives: the worked example, C5, C6, C8, C9 and
  * C10, what each cache command does to a dirty line, each number of the refusal table with nothing changed, and short
- * runs at the ends of each length; the trace of the worked example, C3 and C4 are written through c64x_put_command. It
- * is compiled as C and as C++. Prints how many checks passed; exit status 1 where one failed.
+ * runs at the ends of each length; the trace of the worked example, C3 and C4 are written through c64x_put_command; a
+ * load by hand. It is compiled as C and as C++. Prints how many checks passed; exit status 1 where one failed.
  */
 #include <stdio.h>
 #include <string.h>
@@ -354,6 +354,34 @@ static void writing(void)
     CHECK(writer.at == 6 && out[4] == 0xEE && out[5] == 0x09 && out[6] == 0xEE);
 }
 
+/* The first accesses of seed 0 with 128 bytes, by hand: reads at 1Ch and 64h, a write at 2Ch. Then 1 and 16, with
+   nothing changed, and a load that the chip carries out. */
+static void loads(void)
+{
+    static const uint8_t three[] = {0x00, 0x04, 0x9C, 0x80, 0x80, 0x80, 0x08, 0x00, 0x04, 0xE4, 0x80, 0x80, 0x80,
+                                    0x08, 0x01, 0x04, 0xAC, 0x80, 0x80, 0x80, 0x08, 0xCB, 0xC8, 0xD6, 0x8C, 0x0A};
+    static uint8_t out[100 * C64X_LOAD_ACCESS_BYTES], before[sizeof out], replies[100 * C64X_ANSWER_BYTES];
+    memset(out, 0xEE, sizeof out);
+    memset(before, 0xEE, sizeof before);
+    CHECK(c64x_load_trace(0, 127, 3, out, sizeof out).number == C64X_REFUSED_LENGTH);
+    CHECK(c64x_load_trace(0, 127, 3, out, 0).number == C64X_REFUSED_LENGTH);
+    CHECK(c64x_load_trace(0, 128, 3, out, sizeof three - 1).number == C64X_REFUSED_ROOM);
+    CHECK(c64x_load_trace(0, 128, UINT64_MAX, out, sizeof out).number == C64X_REFUSED_ROOM);
+    CHECK(c64x_load_trace(0, 128, 0, out, 0).number == C64X_ACCEPTED);
+    CHECK(memcmp(out, before, sizeof out) == 0);
+    c64x_load load = c64x_load_trace(0, 128, 3, out, sizeof three);
+    CHECK(load.number == C64X_ACCEPTED && load.length == sizeof three);
+    CHECK(memcmp(out, three, sizeof three) == 0 && out[sizeof three] == 0xEE);
+
+    start(sizeof l2);
+    load = c64x_chip_load_trace(&chip, 7, 100, out, sizeof out);
+    CHECK(load.number == C64X_ACCEPTED);
+    c64x_ran ran = c64x_chip_run(&chip, out, load.length, replies, sizeof replies);
+    CHECK(ran.consumed == load.length && ran.count == 100 && ran.stop == 0);
+    for (size_t i = 0; i < 100; i++)
+        CHECK(c64x_answer_at(replies, i).number == C64X_ACCEPTED);
+}
+
 /* Every number and server has a text of its own; those that do not exist share one. */
 static void texts(void)
 {
@@ -379,6 +407,7 @@ int main(void)
     refusals();
     short_runs();
     writing();
+    loads();
     texts();
     printf("chip: %d checks passed, %d failed\n", passed, failed);
     return failed != 0;

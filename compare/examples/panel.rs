@@ -1,9 +1,10 @@
-//! What examples/panel.c has to print for a trace, told by the reference model
-//! alone. `cargo run --example panel -- TRACE`.
+//! What examples/panel.c has to print for a trace, or for a load, told by the
+//! reference model alone. `cargo run --example panel -- TRACE`, or `--load SEED N`.
 
 use std::process::ExitCode;
 
 use oracle::gen::{code, Setup};
+use oracle::load::load_trace;
 use oracle::record::Line;
 use oracle::trace::{decode, ANSWER_BYTES};
 use oracle::Command;
@@ -41,8 +42,23 @@ const REFUSALS: [&str; 13] = [
 
 const SERVERS: [&str; 5] = ["", "L1D", "SRAM", "L2 cache", "external memory"];
 
+/// Both MAR bits on, then the load of a seed for 65,536 bytes of external memory.
+fn load(seed: u32, accesses: u64) -> Vec<u8> {
+    let mut trace = vec![11, 0x80, 1, 1, 11, 0x81, 1, 1];
+    let mut out = vec![0; 65_528];
+    let made = load_trace(seed, 65_536, accesses, &mut out);
+    trace.extend(&out[..made.length]);
+    trace
+}
+
 fn main() -> ExitCode {
     let words: Vec<String> = std::env::args().skip(1).collect();
+    if let [option, seed, accesses] = &words[..] {
+        if let ("--load", Ok(seed), Ok(accesses)) = (&**option, seed.parse(), accesses.parse()) {
+            print!("{}", panel(&load(seed, accesses)));
+            return ExitCode::SUCCESS;
+        }
+    }
     let [name] = &words[..] else {
         eprintln!("usage: panel TRACE");
         return ExitCode::from(2);

@@ -3,6 +3,7 @@
 
 mod bench;
 mod boundary;
+mod load;
 mod now;
 mod pair;
 mod plant;
@@ -32,7 +33,7 @@ compare: the calls of the boundary against the reference model
   --seed S             the seed of all that is random (default 640101)
   --bench-trace PATH   the program bench-trace, to be compared as well
   --section NAME       only this section: records, lists, traces, refusals, views,
-                       short-runs, writing, two-runs, dropped
+                       short-runs, writing, two-runs, dropped, load
   --group K            only group K of that section
   --input K            nothing but input K of bench-trace
   --now PATH           a file that says which group is being run
@@ -184,6 +185,10 @@ fn run(arguments: &Arguments) -> Result<bool, String> {
          it: {}, held lines: {}",
         met.two_runs.data, met.two_runs.one_byte, met.two_runs.parted, met.two_runs.held
     );
+    println!(
+        "loads made: {}, refused with 1: {}, with 16: {}",
+        met.loads[0], met.loads[1], met.loads[2]
+    );
     let faults = met.possible_faults();
     println!(
         "ill-formed records made: {}; of each fault in each mode: {} at least",
@@ -318,6 +323,7 @@ fn met_everything(met: &Met) -> bool {
         && met.written_back > 500
         && met.puts.iter().all(|&count| count > 1_000)
         && met.two_runs.met_everything()
+        && met.loads.iter().all(|&count| count > 500)
         && met.long_runs > 0
         && met.short_runs == 4_681
         && met.history_bytes > 10_000

@@ -80,6 +80,8 @@ pub struct Met {
     /// Commands that were written, and those refused with 11 and with 16.
     pub puts: [u64; 3],
     pub two_runs: TwoRuns,
+    /// Loads that were made, and those refused with 1 and with 16.
+    pub loads: [u64; 3],
     pub servers: [u64; 5],
     pub modes: [u64; 8],
     /// Accesses to each MAR range with the bit 0 and with the bit 1.

@@ -9,6 +9,7 @@ use std::sync::OnceLock;
 use oracle::dropped::History;
 use oracle::flat::Flat;
 use oracle::geometry::{external_offset, sram_size, L1d, EXTERNAL_BASE, L2};
+use oracle::load::Load;
 use oracle::machine::{SERVER_L1D, SERVER_L2};
 use oracle::trace::ANSWER_BYTES;
 use oracle::writer::Put;
@@ -77,6 +78,12 @@ enum Plant {
     DroppedFlat,
     KeptOverDrop,
     KeptOverMode,
+    LoadByte,
+    LoadLater,
+    LoadPartial,
+    LoadLength,
+    LoadOrder,
+    LoadRun,
     BenchOutput,
     BenchStatus,
 }
@@ -92,7 +99,7 @@ const fn planted(plant: Plant, name: &'static str, about: &'static str) -> Plant
     Planted { plant, name, about }
 }
 
-pub const PLANTS: [Planted; 59] = [
+pub const PLANTS: [Planted; 65] = [
     planted(Plant::ReadValue, "read-value", "a 4-byte read from L2 cache gets 1 more"),
     planted(Plant::ReadOrder, "read-order", "a read hit in L1D turns its set's order around"),
     planted(Plant::WriteNumber, "write-number", "a write refused with 6 gets 5"),
@@ -150,6 +157,12 @@ pub const PLANTS: [Planted; 59] = [
     planted(Plant::DroppedFlat, "dropped-flat", "1 more goes to flat memory with drops"),
     planted(Plant::KeptOverDrop, "kept-over-drop", "a byte keeps its value over a drop"),
     planted(Plant::KeptOverMode, "kept-over-mode", "a byte keeps its value over a mode change"),
+    planted(Plant::LoadByte, "load-byte", "the last byte of a load is another"),
+    planted(Plant::LoadLater, "load-later", "a load changes the byte behind its trace"),
+    planted(Plant::LoadPartial, "load-partial", "a load refused with 16 leaves a code behind"),
+    planted(Plant::LoadLength, "load-length", "the length of a load of one write is one less"),
+    planted(Plant::LoadOrder, "load-order", "16 comes before 1 where there is no output"),
+    planted(Plant::LoadRun, "load-run", "a run over a load refuses its last access"),
     planted(Plant::BenchOutput, "bench-output", "bench-trace prints a line more after an 8"),
     planted(Plant::BenchStatus, "bench-status", "bench-trace fails after a 7"),
 ];
@@ -446,6 +459,26 @@ pub fn put_run(run: &mut CRun) {
 pub fn same_again(written: &[u8], trace: &[u8]) -> bool {
     let other = CHOSEN.get() == Some(&Plant::PutAgain) && trace.last() == Some(&9);
     written == trace && !other
+}
+
+/// What making a load gave back, and the output after it.
+pub fn load(out: &mut [u8], load: &mut Load) {
+    let behind = load.length;
+    match CHOSEN.get() {
+        Some(Plant::LoadByte) if load.number == 0 => change(out[..behind].last_mut()),
+        Some(Plant::LoadLater) if load.number == 0 => change(out.get_mut(behind)),
+        Some(Plant::LoadPartial) if load.number == 16 => change(out.first_mut()),
+        Some(Plant::LoadLength) if load.length == 12 => load.length -= 1,
+        Some(Plant::LoadOrder) if load.number == 1 && out.is_empty() => load.number = 16,
+        _ => {}
+    }
+}
+
+/// What a run over a load gave back.
+pub fn load_run(run: &mut CRun, answers: &mut [u8]) {
+    if CHOSEN.get() == Some(&Plant::LoadRun) && run.count > 0 {
+        answers[(run.count - 1) * ANSWER_BYTES] = 5;
+    }
 }
 
 /// What bench-trace printed, and how it ended.

@@ -12,6 +12,7 @@ use oracle::geometry::{mode_is_legal, EXTERNAL_BASE, L2};
 use oracle::short_runs;
 use oracle::{Command, Line, Record};
 
+use crate::load;
 use crate::pair::{compare, Met, OddByte, OddPlace, Op, Start};
 use crate::shrink::Case;
 use crate::two_runs;
@@ -34,7 +35,7 @@ pub enum Group {
     Words(fn(&mut Rng, u64, &mut Met) -> Option<String>),
 }
 
-pub const SECTIONS: [Section; 9] = [
+pub const SECTIONS: [Section; 10] = [
     Section {
         name: "records",
         share: 40,
@@ -99,6 +100,13 @@ pub const SECTIONS: [Section; 9] = [
         groups: 0,
         about: "lists with drops, each byte read set against its history",
         group: Group::Calls(dropped),
+    },
+    Section {
+        name: "load",
+        share: 5,
+        groups: 0,
+        about: "loads made in outputs, and run over",
+        group: Group::Words(load::group),
     },
 ];
 

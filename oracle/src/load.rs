@@ -115,6 +115,26 @@ mod tests {
         }
     }
 
+    /// Words of seed 0 by their number, the first being number 1.
+    #[test]
+    fn words_of_seed_0() {
+        let mut words = Words::of(0);
+        while words.words.len() < 160 {
+            words.next_word();
+        }
+        for (number, word) in [
+            (1, 0),
+            (2, 0x9E37_79B9),
+            (55, 0x5FB3_AD06),
+            (56, 0x28B7_BD67),
+            (80, 0xFDEB_26BF),
+            (111, 0x212F_E053),
+            (160, 0x3206_B52D),
+        ] {
+            assert_eq!(words.words[number - 1], word, "word {number}");
+        }
+    }
+
     /// Each word without its carry, told once more with numbers that have room
     /// for it, from the words as they stand in the list.
     #[test]

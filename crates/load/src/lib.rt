@@ -2,17 +2,16 @@
 // lent output. Whether it has room is asked first, by a pass over the words that stops where there is none: so no byte
 // changes where the trace is too long, and the time goes by the output's length however many accesses are asked for.
 ghost use mathlib.Core.Path.{_≡_};
-ghost use Prim.Native.Nat.{ℕ, _<_};
+ghost use Prim.Native.Nat.{ℕ, _+_, _<_, _≤_};
 ghost use lib.ListN.{length};
 ghost use lib.Dec.{leb};
-ghost use Rattle.model.specs.Writing.{commandBytes, writeCommand, writeAll, traceBytes};
-ghost use Rattle.model.specs.Load.{sum32, accessOf, accesses, loadTrace};
+ghost use Rattle.model.specs.Writing.{commandBytes, written, writeAll};
+ghost use Rattle.model.specs.Load.{sum32, accessOf, accesses, loadBytes, loadTrace};
 ghost use Rattle.model.proofs.Load.{Legal};
-ghost use Rattle.trace_writer.specs.Told.{told};
+ghost use Rattle.trace_writer.specs.Encoding.{Added};
 ghost use Rattle.load.specs.Told.{toldLoad};
 ghost use Rattle.load.specs.Ring.{placeBack, placeAfter, Ring, Next};
 use model::Command;
-use trace_writer::Put;
 
 // How many bytes the trace has, and the number.
 #[repr(C)]
@@ -20,6 +19,17 @@ pub struct Load {
     pub length: usize,
     pub number: u8,
 }
+
+// E is illegal; the output is too short for the whole trace.
+const ILLEGAL: Load = Load {
+    length: 0,
+    number: 1,
+};
+
+const TOO_SHORT: Load = Load {
+    length: 0,
+    number: 16,
+};
 
 // The words that a ring of them keeps; how many places back the two lie of which a later one is the sum.
 const RING: usize = 55;
@@ -112,24 +122,24 @@ fn bytes_of(word: u32) -> usize
     12
 }
 
-fn put_access(out: &mut [u8], at: usize, extlen: u32, word: u32) -> Put
-    requires { ⌜ Legal extlen ⌝ }
-    ensures { λ r. ⌜ told r (now (out .exit)) ≡ writeCommand (now (out .entry)) at (accessOf extlen word) ⌝ }
+// The access of a word, at a point of the output where it has room; the point behind it.
+fn put_access(out: &mut [u8], at: usize, extlen: u32, word: u32) -> usize
+    requires { ⌜ Legal extlen × (at + length (commandBytes (accessOf extlen word)) ≤ length (now out)) ⌝ }
+    ensures { λ r. ⌜ Added (now (out .entry)) at (commandBytes (accessOf extlen word)) (now (out .exit)) r ⌝ }
 {
     let a = access_of(extlen, word);
-    trace_writer::put_command(
-        out,
-        at,
-        a.code as u32,
-        a.first as u64,
-        a.second as u64,
-        a.value,
-    )
+    out[at] = a.code;
+    let sized = trace_writer::add_number(out, at + 1, a.first as u64);
+    let placed = trace_writer::add_number(out, sized, a.second as u64);
+    if a.code == 0 {
+        return placed;
+    }
+    trace_writer::add_number(out, placed, a.value)
 }
 
 // Has the trace of so many accesses room in so many bytes?
 fn has_room(seed: u32, count: u64, room: usize) -> bool
-    ensures { λ r. ⌜ ((e : ℕ) → Legal e → r ≡ leb (length (traceBytes (accesses seed e count))) room) ⌝ }
+    ensures { λ r. ⌜ ((e : ℕ) → Legal e → r ≡ leb (length (loadBytes seed e count)) room) ⌝ }
 {
     let mut ring = seeded(seed);
     let mut at: usize = 0;
@@ -148,10 +158,10 @@ fn has_room(seed: u32, count: u64, room: usize) -> bool
     true
 }
 
-// The accesses, one after another from the start of the output on.
-fn write_accesses(seed: u32, extlen: u32, count: u64, out: &mut [u8]) -> Put
-    requires { ⌜ Legal extlen ⌝ }
-    ensures { λ r. ⌜ told r (now (out .exit)) ≡ writeAll (now (out .entry)) 0 (accesses seed extlen count) ⌝ }
+// The accesses, one after another from the start of the output on; the point behind them.
+fn write_accesses(seed: u32, extlen: u32, count: u64, out: &mut [u8]) -> usize
+    requires { ⌜ Legal extlen × (length (loadBytes seed extlen count) ≤ length (now out)) ⌝ }
+    ensures { λ r. ⌜ written 0 r (now (out .exit)) ≡ writeAll (now (out .entry)) 0 (accesses seed extlen count) ⌝ }
 {
     let mut ring = seeded(seed);
     let mut at: usize = 0;
@@ -160,37 +170,24 @@ fn write_accesses(seed: u32, extlen: u32, count: u64, out: &mut [u8]) -> Put
     while made < count {
         let word = next_word(&mut ring, at);
         at = place_after(at);
-        let put = put_access(out, point, extlen, word);
-        if put.number != 0 {
-            return put;
-        }
-        point = put.at;
+        point = put_access(out, point, extlen, word);
         made += 1;
     }
-    Put {
-        at: point,
-        number: 0,
-    }
+    point
 }
 
 pub fn load_trace(seed: u32, extlen: u32, count: u64, out: &mut [u8]) -> Load
     ensures { λ r. ⌜ toldLoad r (now (out .exit)) ≡ loadTrace seed extlen count (now (out .entry)) ⌝ }
 {
     if geometry::legal_external(extlen as usize) {} else {
-        return Load {
-            length: 0,
-            number: 1,
-        };
+        return ILLEGAL;
     }
     if has_room(seed, count, out.len()) {
-        let put = write_accesses(seed, extlen, count, out);
+        let length = write_accesses(seed, extlen, count, out);
         return Load {
-            length: put.at,
+            length: length,
             number: 0,
         };
     }
-    Load {
-        length: 0,
-        number: 16,
-    }
+    TOO_SHORT
 }

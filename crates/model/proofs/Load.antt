@@ -1,27 +1,27 @@
--- 02, U9: the trace of a load decodes to its n accesses; none of them is refused; behind the trace no byte changes, and
--- with a refusal none at all. Every access can be written, since its address lies in external memory and its word has 32
--- bits; so, given room, it is what the writer makes of the accesses, and U7's theorem reads it back.
+-- 02, U9: the trace of a load decodes to its n accesses; none of them is refused; behind the trace no byte changes,
+-- and with a refusal none at all. Every access can be written, since its address lies in external memory and its word
+-- has 32 bits; so, given room, the trace is what the writer makes of the accesses, and U7's theorem reads it back.
 use Prim.Native.Nat.{ℕ, zero, suc, _+_, _*_, _-_, _/_, _%_, _<_, _≤_}
-use mathlib.Core.Bool.{Bool, true, false, cond, _&&_}
+use mathlib.Core.Bool.{true, false, _&&_}
 use mathlib.Core.List.{List, [], _∷_, _++_, map}
 use mathlib.Core.Logic.{_≢_}
-use mathlib.Core.Path.{_≡_, refl, sym, ap, _∙_, subst}
+use mathlib.Core.Path.{_≡_, refl, ap, _∙_}
 use native.Mathlib.Omega.{arith}
 use native.Mathlib.Nat.{mod-lt}
-use lib.ListN.{length, getD, length-append}
+use lib.ListN.{length, getD, replicate, length-append}
 use lib.Dec.{ltb, leb, eqb}
-use borrow.Author.Tests.{ltb-true, ltb-false, lt-ltb, le-ltb, leb-true, leb-false, le-leb, eqb-true, eqb-false, eq-eqb, ne-eqb}
-use Rattle.model.specs.Bytes.{part, stored}
+use borrow.Author.Tests.{lt-ltb, le-ltb, leb-true, le-leb, eqb-true, eqb-false, eq-eqb, ne-eqb}
+use Rattle.model.specs.Bytes.{part, stored, splice}
 use Rattle.model.specs.Laws.{bool, both-true, stored-after}
 use Rattle.model.specs.Memories.{legalExternal}
 use Rattle.model.specs.Refusals.{sizeOk, placeOk, valueOk, accessDue}
 use Rattle.model.specs.Trace.{Whole, command}
 use Rattle.model.specs.Writing.{groupsOf, numberBytes, numbersTaken, firstNumbers, commandBytes, onlyFirst}
-use Rattle.model.specs.Writing.{withoutSpare, narrow, writable, Written, written, writeAll, traceBytes}
+use Rattle.model.specs.Writing.{withoutSpare, narrow, writable, writeDue, Written, written, writeCommand}
+use Rattle.model.specs.Writing.{writeAll, traceBytes}
 use Rattle.model.specs.Load.{sum32, placesBack, nextWord, words, word, loadAddress, accessOf, accessesFrom}
-use Rattle.model.specs.Load.{accesses, loadDue, Loaded, loaded, loadTrace}
+use Rattle.model.specs.Load.{accesses, loadBytes, loadDue, Loaded, loaded, loadTrace}
 use Rattle.model.proofs.Writing.{allWritable, given-room, writing-traces}
-use Rattle.model.specs.declared.Command.{Command}
 
 -- ---- words worked out, and the first accesses of seed 0 with E = 128: two reads and a write. The numbers are those
 -- that the sentences of 02 give (oracle/ has the same ones in its tests).
@@ -34,6 +34,20 @@ pub accesses-worked : accesses 0 128 3
     ≡ command 0 4 0x8000001C 0 ∷ command 0 4 0x80000064 0 ∷ command 1 4 0x8000002C 0xA195A44B ∷ []
 unfolding words nextWord accessesFrom accessOf
 accesses-worked = refl
+
+-- its trace in an output of a byte more; 16 where there is a byte too few, and 1, which comes first
+abbrev three : List ℕ
+three =
+    0 ∷ 4 ∷ 0x9C ∷ 0x80 ∷ 0x80 ∷ 0x80 ∷ 8 ∷ 0 ∷ 4 ∷ 0xE4 ∷ 0x80 ∷ 0x80 ∷ 0x80 ∷ 8 ∷ 1 ∷ 4 ∷ 0xAC ∷ 0x80 ∷ 0x80 ∷ 0x80
+    ∷ 8 ∷ 0xCB ∷ 0xC8 ∷ 0xD6 ∷ 0x8C ∷ 10 ∷ []
+
+pub loads-worked : map (λ (x : ℕ × ℕ × ℕ). loadTrace 0 (x .0) (x .1) (replicate (x .2) 7))
+    ((128, 3, 27) ∷ (128, 3, 25) ∷ (127, 3, 25) ∷ (128, 0, 0) ∷ [])
+    ≡ loaded 0 26 (three ++ (7 ∷ [])) ∷ loaded 16 0 (replicate 25 7) ∷ loaded 1 0 (replicate 25 7) ∷ loaded 0 0 [] ∷ []
+unfolding
+    words nextWord accessesFrom accessOf loadDue loadTrace legalExternal stored splice
+    writeAll writeCommand writeDue writable narrow traceBytes commandBytes firstNumbers numbersTaken groupsOf
+loads-worked = refl
 
 -- ---- which access a word of 32 bits gives
 pub read-access : (e w : ℕ) → w < 0x80000000 → command 0 4 (loadAddress e w) 0 ≡ accessOf e w
@@ -145,7 +159,8 @@ words-length seed zero = refl
 words-length seed (suc k) = ap suc (words-length seed k)
 
 -- from there on a word is a sum of two that lie back
-pub word-later : (seed k : ℕ) → 55 ≤ k → word seed (suc k) ≡ sum32 (placesBack 24 (words seed k)) (placesBack 55 (words seed k))
+pub word-later : (seed k : ℕ) → 55 ≤ k →
+    word seed (suc k) ≡ sum32 (placesBack 24 (words seed k)) (placesBack 55 (words seed k))
 unfolding words nextWord
 word-later seed k h =
     let n = words-length seed k in
@@ -161,9 +176,9 @@ module _ (seed e : ℕ) (l : Legal e) where
   all-writable k (suc n) h =
       rw (access-writable e (word seed (suc k)) l (word-small seed k h)) (all-writable (suc k) n (omega arith))
 
-  pub trace-written : (n : ℕ) (m : List ℕ) → length (traceBytes (accesses seed e n)) ≤ length m →
+  pub trace-written : (n : ℕ) (m : List ℕ) → length (loadBytes seed e n) ≤ length m →
       writeAll m 0 (accesses seed e n)
-      ≡ written 0 (length (traceBytes (accesses seed e n))) (stored m 0 (traceBytes (accesses seed e n)))
+      ≡ written 0 (length (loadBytes seed e n)) (stored m 0 (loadBytes seed e n))
   trace-written n m h =
       let ks = accesses seed e n in
       given-room m 0 ks (all-writable 55 n (omega arith)) (omega arith) .done
@@ -177,19 +192,19 @@ all-themselves seed e k (suc n) = rw (access-itself e (word seed k), all-themsel
 -- ---- what was accepted: E is legal, the trace has room, and is there
 pub record Accepted (seed e n : ℕ) (m : List ℕ) : Type 0 where
   pub size : legalExternal e ≡ true
-  pub room : length (traceBytes (accesses seed e n)) ≤ length m
+  pub room : length (loadBytes seed e n) ≤ length m
 
 accepted-load : (seed e n : ℕ) (m : List ℕ) → loadDue seed e n m ≡ 0 → Accepted seed e n m
 unfolding loadDue
 accepted-load seed e n m h =
     bool (legalExternal e)
-    (λ t. bool (leb (length (traceBytes (accesses seed e n))) (length m))
-    (λ u. record { size = t; room = leb-true (length (traceBytes (accesses seed e n))) (length m) u })
+    (λ t. bool (leb (length (loadBytes seed e n)) (length m))
+    (λ u. record { size = t; room = leb-true (length (loadBytes seed e n)) (length m) u })
     (λ u. absurd (let z : _≡_ {A = ℕ} 16 0 = rw (t, u) at h in omega arith)))
     (λ t. absurd (let z : _≡_ {A = ℕ} 1 0 = rw t at h in omega arith))
 
 load-cases : (P : Loaded → Type 0) (seed e n : ℕ) (m : List ℕ) →
-    (Accepted seed e n m → P (loaded 0 (length (traceBytes (accesses seed e n))) (stored m 0 (traceBytes (accesses seed e n))))) →
+    (Accepted seed e n m → P (loaded 0 (length (loadBytes seed e n)) (stored m 0 (loadBytes seed e n)))) →
     (loadDue seed e n m ≢ 0 → P (loaded (loadDue seed e n m) 0 m)) → P (loadTrace seed e n m)
 unfolding loadTrace
 load-cases P seed e n m f g =
@@ -221,11 +236,12 @@ pub load-to-repeat : LoadToRepeat
 load-to-repeat =
     record {
       read-back = λ seed e n m.
-          load-cases (λ (x : Loaded). x .number ≡ 0 → Whole (part (x .out) 0 (x .length)) (accesses seed e n)) seed e n m
+          load-cases (λ (x : Loaded). x .number ≡ 0 → Whole (part (x .out) 0 (x .length)) (accesses seed e n)) seed e n
+          m
           (λ a z.
           let w = trace-written seed e (legal e (a .size)) n m (a .room) in
           let r = writing-traces .read-back m 0 (accesses seed e n) (ap (λ (x : Written). x .number) w) in
-          let d : length (traceBytes (accesses seed e n)) - 0 ≡ length (traceBytes (accesses seed e n)) = omega arith in
+          let d : length (loadBytes seed e n) - 0 ≡ length (loadBytes seed e n) = omega arith in
           rw (w, d, all-themselves seed e 56 n) at r)
           (λ d z. absurd (d z));
       as-many = λ seed e n. count-from seed e 56 n;
@@ -235,6 +251,6 @@ load-to-repeat =
           access-accepted e (word seed k) (legal e g) s (rw z at w);
       later = λ seed e n i m.
           load-cases (λ (x : Loaded). x .length ≤ i → getD (x .out) i 0 ≡ getD m i 0) seed e n m
-          (λ a h. stored-after m (traceBytes (accesses seed e n)) 0 i (omega (arith, a .room)) (omega (arith, h)))
+          (λ a h. stored-after m (loadBytes seed e n) 0 i (omega (arith, a .room)) (omega (arith, h)))
           (λ d h. refl);
     }

@@ -412,7 +412,7 @@ part-stored m xs at h =
 
 -- ---- one command, then a list of them, on the output
 module _ (m : List ℕ) (at : ℕ) (k : Command) where
-  write-accepted : writable k ≡ true → at + length (commandBytes k) ≤ length m →
+  pub write-accepted : writable k ≡ true → at + length (commandBytes k) ≤ length m →
       writeCommand m at k ≡ written 0 (at + length (commandBytes k)) (stored m at (commandBytes k))
   unfolding writeCommand writeDue
   write-accepted w h = rw (w, le-leb (at + length (commandBytes k)) (length m) h) refl

@@ -56,11 +56,14 @@ accessesFrom seed e k (suc n) = accessOf e (word seed k) ∷ accessesFrom seed e
 abbrev pub accesses : ℕ → ℕ → ℕ → List Command
 accesses seed e n = accessesFrom seed e 56 n
 
+abbrev pub loadBytes : ℕ → ℕ → ℕ → List ℕ
+loadBytes seed e n = traceBytes (accesses seed e n)
+
 -- ---- "An illegal E gets 1, checked first; output too short for the whole trace gets 16 and changes no byte."
 -- m: the output
 unfoldable pub loadDue : ℕ → ℕ → ℕ → List ℕ → ℕ
 loadDue seed e n m =
-    cond (legalExternal e) (cond (leb (length (traceBytes (accesses seed e n))) (length m)) 0 16) 1
+    cond (legalExternal e) (cond (leb (length (loadBytes seed e n)) (length m)) 0 16) 1
 
 -- what the call gives: the number, how many bytes the trace has, and the output behind it
 pub record Loaded : Type 0 where

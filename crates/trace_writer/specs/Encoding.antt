@@ -1,22 +1,22 @@
 -- How a command is made in an array and copied into the output: the loops keep one record of facts each, and each way
 -- through the code is a law.
-use Prim.Native.Nat.{ℕ, suc, _+_, _*_, _-_, _^_, _/_, _%_, _<_, _≤_}
+use Prim.Native.Nat.{ℕ, zero, suc, _+_, _*_, _-_, _^_, _/_, _%_, _<_, _≤_}
 use mathlib.Core.Bool.{Bool, true, false, cond, _&&_, _||_}
 use mathlib.Core.List.{List, [], _∷_, _++_, append-assoc}
 use mathlib.Core.Path.{_≡_, refl, sym, ap, _∙_, subst}
 use native.Mathlib.Omega.{arith}
 use native.Mathlib.Numerals.{add-one}
 use native.Mathlib.Nat.{pow-suc, mul-assoc, div-lt-iff-lt-mul}
-use lib.ListN.{length, getD, take, drop, set, length-set}
-use lib.Seq.{take-suc-set, append-snoc, length-take-le, paste, paste-suc}
+use lib.ListN.{length, getD, take, drop, set, length-set, length-append, length-take, take-append-drop}
+use lib.Seq.{set-split, take-suc-set, append-snoc, length-take-le, take-at, drop-drop, drop-set-lt, paste, paste-suc}
 use lib.Dec.{ltb, leb, eqb}
 use borrow.Author.Tests.{ltb-true, ltb-false, lt-ltb, le-ltb, leb-true, leb-false, ne-eqb}
-use Rattle.model.specs.Laws.{bool, stored-inside}
+use Rattle.model.specs.Laws.{bool, stored-inside, length-stored}
 use Rattle.model.specs.Bytes.{stored, splice}
 use Rattle.model.specs.Trace.{command}
 use Rattle.model.specs.Writing.{groupsOf, numberBytes, numbersTaken, firstNumbers, commandBytes, narrow, writable}
 use Rattle.model.specs.Writing.{writeDue, written, writeCommand}
-use Rattle.model.proofs.Writing.{shortest-one}
+use Rattle.model.proofs.Writing.{shortest-one, stored-join}
 use Rattle.model.specs.declared.Command.{Command}
 use Rattle.decode.specs.Codes.{numbersBehind, behind-none}
 
@@ -26,21 +26,51 @@ pub record Holds (bytes : List ℕ) (n most : ℕ) (xs : List ℕ) : Type 0 wher
   pub few : n ≤ most
   pub same : take n bytes ≡ xs
 
--- ---- `add_number`: the groups up to n are in place behind the first k bytes of the array bs, and `rest` follows
+-- ---- `add_number`: xs were put into bs from byte n on, and end before r
+pub record Added (bs : List ℕ) (n : ℕ) (xs after : List ℕ) (r : ℕ) : Type 0 where
+  pub out : after ≡ stored bs n xs
+  pub end : r ≡ n + length xs
+
+-- the groups up to n are in place behind the first k bytes of bs, and `rest` follows; behind them nothing is changed
 pub record Grouping (bs : List ℕ) (k number : ℕ) (bytes : List ℕ) (n rest : ℕ) : Type 0 where
-  pub full : length bytes ≡ 32
+  pub same : length bytes ≡ length bs
   pub low : k ≤ n
   pub high : n ≤ k + 9
   pub small : rest < 2 * 128 ^ (k + 9 - n)
   pub done : take n bytes ++ groupsOf (k + 9 - n) rest ≡ take k bs ++ numberBytes number
+  pub behind : drop n bytes ≡ drop n bs
 
-pub grouping-starts : (bs : List ℕ) (k number : ℕ) → length bs ≡ 32 → number < 0x10000000000000000 →
-    Grouping bs k number bs k number
-grouping-starts bs k number f h =
+pub grouping-starts : (bs : List ℕ) (k number : ℕ) → number < 0x10000000000000000 → Grouping bs k number bs k number
+grouping-starts bs k number h =
     let e : k + 9 - k ≡ 9 = omega arith in
-    record { full = f; low = omega arith; high = omega arith; small = rw e h; done = rw e refl }
+    record { same = refl; low = omega arith; high = omega arith; small = rw e h; done = rw e refl; behind = refl }
 
-module _ {bs bytes : List ℕ} {k number n rest : ℕ} (g : Grouping bs k number bytes n rest) where
+groups-some : (more v : ℕ) → 1 ≤ length (groupsOf more v)
+unfolding groupsOf
+groups-some zero v = omega arith
+groups-some (suc more) v = bool (ltb v 128) (λ t. rw t (omega arith)) (λ t. rw t (omega arith))
+
+pub groups-most : (more v : ℕ) → length (groupsOf more v) ≤ suc more
+unfolding groupsOf
+groups-most zero v = omega arith
+groups-most (suc more) v =
+    bool (ltb v 128) (λ t. rw t (omega arith)) (λ t. rw t (let h = groups-most more (v / 128) in omega arith))
+
+module _ {bs bytes : List ℕ} {k number n rest : ℕ} (g : Grouping bs k number bytes n rest)
+    (room : k + length (numberBytes number) ≤ length bs) where
+  pub grouping-inside : n < length bytes
+  grouping-inside =
+      let f = g .same in
+      let m = groups-some (k + 9 - n) rest in
+      omega (
+        arith,
+        length-append (take n bytes) (groupsOf (k + 9 - n) rest),
+        length-take n bytes,
+        length-append (take k bs) (numberBytes number),
+        length-take k bs,
+        ap length (g .done),
+      )
+
   pub grouping-less : 128 ≤ rest → n < k + 9
   grouping-less h =
       bool (ltb n (k + 9))
@@ -50,11 +80,15 @@ module _ {bs bytes : List ℕ} {k number n rest : ℕ} (g : Grouping bs k number
       let s : rest < 2 = rw z at (g .small) in
       absurd (omega arith))
 
-  pub grouping-on : 128 ≤ rest → k ≤ 22 → Grouping bs k number (set bytes n (rest % 128 + 128)) (n + 1) (rest / 128)
+  -- one byte more: what it was does not matter, and what stands behind it stays
+  behind-on : (x : ℕ) → drop (n + 1) (set bytes n x) ≡ drop (n + 1) bs
+  behind-on x =
+      rw (drop-set-lt (n + 1) bytes n x (omega arith), ← drop-drop 1 n bytes, ← drop-drop 1 n bs, g .behind) refl
+
+  pub grouping-on : 128 ≤ rest → Grouping bs k number (set bytes n (rest % 128 + 128)) (n + 1) (rest / 128)
   unfolding groupsOf
-  grouping-on h few =
+  grouping-on h =
       let l = grouping-less h in
-      let f = g .full in
       let low = g .low in
       let m = k + 9 - (n + 1) in
       let e : k + 9 - n ≡ suc m = omega arith in
@@ -63,26 +97,59 @@ module _ {bs bytes : List ℕ} {k number n rest : ℕ} (g : Grouping bs k number
       let d : take n bytes ++ ((rest % 128 + 128) ∷ groupsOf m (rest / 128)) ≡ take k bs ++ numberBytes number =
       rw (le-ltb rest 128 h) at (rw e at (g .done)) in
       record {
-        full = simp length-set f;
+        same = simp length-set (g .same);
         low = omega arith;
         high = omega arith;
         small = div-lt-iff-lt-mul {k = 128} (omega arith) .1 (subst (λ (x : ℕ). rest < x) p s);
         done =
-            rw (add-one, take-suc-set bytes n (rest % 128 + 128) (omega arith))
+            rw (add-one, take-suc-set bytes n (rest % 128 + 128) grouping-inside)
             (append-snoc (take n bytes) (rest % 128 + 128) (groupsOf (k + 9 - suc n) (rest / 128)) ∙ (rw add-one at d));
+        behind = behind-on (rest % 128 + 128);
       }
 
-  pub grouping-ends : rest < 128 → k ≤ 22 → Holds (set bytes n rest) (n + 1) (k + 10) (take k bs ++ numberBytes number)
-  grouping-ends h few =
-      let f = g .full in
-      let u = g .high in
+  pub grouping-ends : rest < 128 → Added bs k (numberBytes number) (set bytes n rest) (n + 1)
+  unfolding splice
+  grouping-ends h =
+      let xs = numberBytes number in
+      let after = set bytes n rest in
+      let f : take (n + 1) after ≡ take k bs ++ xs =
+      rw (add-one, take-suc-set bytes n rest grouping-inside)
+      (ap (λ (x : List ℕ). take n bytes ++ x) (shortest-one (k + 9 - n) rest h) ∙ g .done) in
+      let i = grouping-inside in
+      let s = g .same in
+      let r : n + 1 ≡ k + length xs =
+      omega (
+        arith,
+        ap length f,
+        length-take (n + 1) after,
+        length-set bytes n rest,
+        length-append (take k bs) xs,
+        length-take k bs,
+      ) in
       record {
-        full = simp length-set f;
-        few = omega arith;
-        same =
-            rw (add-one, take-suc-set bytes n rest (omega arith))
-            (ap (λ (x : List ℕ). take n bytes ++ x) (shortest-one (k + 9 - n) rest h) ∙ g .done);
+        out =
+            sym (take-append-drop (n + 1) after)
+            ∙ rw (f, behind-on rest, r, append-assoc (take k bs) xs (drop (k + length xs) bs)) refl
+            ∙ sym (stored-inside bs k xs room);
+        end = r;
       }
+
+-- a byte; and bytes behind bytes
+pub added-byte : (m : List ℕ) (at x : ℕ) → at < length m → Added m at (x ∷ []) (set m at x) (at + 1)
+unfolding splice
+added-byte m at x h =
+    record {
+      out = set-split m at x h ∙ sym (stored-inside m at (x ∷ []) (omega arith) ∙ rw add-one refl);
+      end = refl;
+    }
+
+pub added-more : {m xs ys out after : List ℕ} {at r s : ℕ} → at + length xs + length ys ≤ length m →
+    Added m at xs out r → Added out r ys after s → Added m at (xs ++ ys) after s
+added-more {m} {xs} {ys} {out} {after} {at} h a b =
+    let l = length-append xs ys in
+    let e = a .end in
+    let f = b .end in
+    record { out = b .out ∙ rw (a .out, e) (stored-join m xs ys at h); end = omega arith }
 
 -- ---- `copy_in`
 pub copied-next : (m s : List ℕ) (at i : ℕ) → at + i < length m → i < length s →
@@ -140,13 +207,30 @@ module _ {bs : List ℕ} {n most : ℕ} {xs : List ℕ} (h : Holds bs n most xs)
       let g = h .few in
       sym (length-take-le n bs (omega arith)) ∙ ap length (h .same)
 
-  -- a number more
-  pub holds-more : {cs : List ℕ} {j : ℕ} (ys : List ℕ) → Holds cs j (n + 10) (take n bs ++ ys) →
-      Holds cs j (most + 10) (xs ++ ys)
-  holds-more ys g =
-      let f = h .few in
-      let k = g .few in
-      record { full = g .full; few = omega arith; same = g .same ∙ ap (λ (x : List ℕ). x ++ ys) (h .same) }
+  -- a number more has room, and is there
+  module _ (few : most ≤ 22) (v : ℕ) where
+    pub number-room : n + length (numberBytes v) ≤ length bs
+    number-room = let f = h .full in let g = h .few in let l = groups-most 9 v in omega arith
+
+    pub holds-more : {cs : List ℕ} {j : ℕ} → Added bs n (numberBytes v) cs j →
+        Holds cs j (most + 10) (xs ++ numberBytes v)
+    unfolding splice
+    holds-more {cs} {j} a =
+        let ys = numberBytes v in
+        let f = h .full in
+        let g = h .few in
+        let l = groups-most 9 v in
+        let r = number-room in
+        let e = a .end in
+        let n′ : length (take n bs ++ ys) ≡ n + length ys =
+        length-append (take n bs) ys ∙ ap (λ (x : ℕ). x + length ys) (length-take-le n bs (omega arith)) in
+        let put : cs ≡ (take n bs ++ ys) ++ drop (n + length ys) bs =
+        a .out ∙ stored-inside bs n ys r ∙ sym (append-assoc (take n bs) ys (drop (n + length ys) bs)) in
+        record {
+          full = rw (a .out, length-stored bs ys n) f;
+          few = omega arith;
+          same = rw (put, e, take-at (take n bs ++ ys) (drop (n + length ys) bs) (n + length ys) n′, h .same) refl;
+        }
 
 pub holds-code : (bs : List ℕ) (c : ℕ) → length bs ≡ 32 → Holds (set bs 0 c) 1 1 (c ∷ [])
 holds-code bs c f = record { full = simp length-set f; few = omega arith; same = take-suc-set bs 0 c (omega arith) }

@@ -8,7 +8,7 @@ ghost use lib.ListN.{length, take};
 ghost use Rattle.model.specs.Bytes.{stored};
 ghost use Rattle.model.specs.Trace.{command};
 ghost use Rattle.model.specs.Writing.{numberBytes, numbersTaken, commandBytes, narrow, writeCommand};
-ghost use Rattle.trace_writer.specs.Encoding.{Holds};
+ghost use Rattle.trace_writer.specs.Encoding.{Added, Holds};
 ghost use Rattle.trace_writer.specs.Told.{told, wrote, reached};
 
 // The point behind what is written, and the number.
@@ -57,10 +57,10 @@ fn number_due(narrow: bool, fits: bool) -> u8
     16
 }
 
-// A number goes behind the first n bytes of an array.
-fn add_number(bytes: &mut [u8], n: usize, number: u64) -> usize
-    requires { ⌜ (length (now bytes) ≡ 32) × (n ≤ 22) ⌝ }
-    ensures { λ r. ⌜ Holds (now (bytes .exit)) r (n + 10) (take n (now (bytes .entry)) ++ numberBytes number) ⌝ }
+// A number goes into the bytes, from byte n on; the place behind it.
+pub fn add_number(bytes: &mut [u8], n: usize, number: u64) -> usize
+    requires { ⌜ n + length (numberBytes number) ≤ length (now bytes) ⌝ }
+    ensures { λ r. ⌜ Added (now (bytes .entry)) n (numberBytes number) (now (bytes .exit)) r ⌝ }
 {
     let mut end = n;
     let mut rest = number;

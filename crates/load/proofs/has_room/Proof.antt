@@ -1,6 +1,5 @@
 -- `load::has_room` meets its contract: each turn takes the bytes of one access from the room that is left.
 use Prim.Native.Nat.{_-_}
-use native.Mathlib.Omega.{arith}
 use Rattle.load.specs.Passes.{Turned, turn, Measuring, measuring-starts, measuring-on, measuring-stops}
 use Rattle.load.specs.Passes.{measuring-ends}
 use borrow.Author.Needs.{needs}
@@ -20,7 +19,8 @@ begin c = c .before .before .before .before
 turned : (c : tie.After-bytes-of Inv-loop μ-loop) → let made = c .before .before in
     Turned (begin c .before .before .before .args .seed) (begin c .before .loop .made) (made .next-word .last .0)
     (c .before .place-after .result) (made .next-word .result)
-turned c = turn (begin c .before .loop .inv .held) (c .before .before .next-word .ensures) (c .before .place-after .ensures)
+turned c =
+    turn (begin c .before .loop .inv .held) (c .before .before .next-word .ensures) (c .before .place-after .ensures)
 
 seeded-requires : tie.Need-seeded-requires Inv-loop μ-loop
 seeded-requires c κs = search needs
@@ -42,7 +42,8 @@ bytes-of-requires c κs = search needs
 returns : tie.Need-returns Inv-loop μ-loop
 returns c =
     let b = c .before in
-    measuring-stops (begin b .before .loop .inv) (begin b .loop-test .taken) (turned b) (b .bytes-of .ensures) (c .if1 .taken)
+    measuring-stops (begin b .before .loop .inv) (begin b .loop-test .taken) (turned b) (b .bytes-of .ensures)
+    (c .if1 .taken)
 
 add-made : tie.Need-add-made Inv-loop μ-loop
 add-made c = search needs
@@ -53,7 +54,8 @@ loop-less c = search needs
 loop-again : tie.Need-loop-again Inv-loop μ-loop
 loop-again c =
     let b = c .before in
-    measuring-on (begin b .before .loop .inv) (begin b .loop-test .taken) (turned b) (b .bytes-of .ensures) (c .if1 .left)
+    measuring-on (begin b .before .loop .inv) (begin b .loop-test .taken) (turned b) (b .bytes-of .ensures)
+    (c .if1 .left)
 
 returns-2 : tie.Need-returns-2 Inv-loop μ-loop
 returns-2 c = measuring-ends (c .before .loop .inv) (c .loop-test .left)

@@ -1,6 +1,7 @@
 -- `load::load_trace` meets its contract: an E that is legal, room for the whole trace, and then the writer's trace.
 use mathlib.Core.Bool.{true}
 use mathlib.Core.Path.{_≡_, sym, _∙_}
+use borrow.Author.Tests.{leb-true}
 use Rattle.model.specs.Memories.{legalExternal}
 use Rattle.model.proofs.Load.{legal}
 use Rattle.load.specs.Passes.{load-illegal, load-short, load-made}
@@ -18,13 +19,17 @@ legal-external-requires c κs = search needs
 returns : tie.Need-returns
 returns c =
     let a = c .before .before .before .args in
-    load-illegal (a .seed) (a .extlen) (a .count) (a .out .now) (sym (c .before .legal-external .ensures) ∙ c .if1 .left)
+    load-illegal (a .seed) (a .extlen) (a .count) (a .out .now)
+    (sym (c .before .legal-external .ensures) ∙ c .if1 .left)
 
 has-room-requires : tie.Need-has-room-requires
 has-room-requires c κs = search needs
 
 write-accesses-requires : tie.Need-write-accesses-requires
-write-accesses-requires c κs = legal _ (is-legal (c .before .before .before))
+write-accesses-requires c κs =
+    let tested = c .before in
+    let l = legal _ (is-legal (tested .before .before)) in
+    (l, leb-true _ _ (sym (tested .before .has-room .ensures _ l) ∙ tested .if2 .taken))
 
 same-length : tie.Need-same-length
 same-length c = search needs
@@ -41,7 +46,8 @@ returns-3 : tie.Need-returns-3
 returns-3 c =
     let ok = is-legal (c .before .before) in
     let a = c .before .before .before .before .before .args in
-    load-short (a .seed) (a .extlen) (a .count) (a .out .now) ok _ (c .before .has-room .ensures _ (legal _ ok)) (c .if2 .left)
+    load-short (a .seed) (a .extlen) (a .count) (a .out .now) ok _ (c .before .has-room .ensures _ (legal _ ok))
+    (c .if2 .left)
 
 pub load-trace-spec : {M : Type 1} → statement M
 load-trace-spec =

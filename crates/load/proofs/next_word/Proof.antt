@@ -34,7 +34,10 @@ element-write-ring c = search needs
 returns : tie.Need-returns
 returns c =
     let far = c .before .before .before in
-    record { made = c .sum .ensures ∙ rw (far .before .place-back .ensures, far .place-back2 .ensures) refl; put = refl }
+    record {
+      made = c .sum .ensures ∙ rw (far .before .place-back .ensures, far .place-back2 .ensures) refl;
+      put = refl;
+    }
 
 pub next-word-spec : {M : Type 1} → statement M
 next-word-spec =

@@ -3,7 +3,7 @@ use mathlib.Core.List.{_∷_, _++_}
 use mathlib.Core.Path.{_∙_, sym}
 use native.Mathlib.Omega.{arith}
 use Rattle.model.specs.Writing.{numberBytes}
-use Rattle.trace_writer.specs.Encoding.{Holds, holds-code, holds-more}
+use Rattle.trace_writer.specs.Encoding.{Holds, holds-code, number-room, holds-more}
 use Rattle.trace_writer.specs.Encoding.{bytes-none, bytes-one, bytes-two, bytes-three}
 use borrow.Author.Needs.{needs}
 use Rattle.trace_writer.proofs.encode.Statement.{statement}
@@ -24,23 +24,22 @@ one : (c : tie.After-add-number) → let a = at-first c .args in
     Holds (c .add-number .last .0) (c .add-number .result) 11 (a .code ∷ numberBytes (a .first))
 one c =
     let start = at-first c in
-    holds-more (holds-code (start .args .bytes .now) (start .args .code) (start .pre .0)) (numberBytes
-    (start .args .first))
-    (c .add-number .ensures)
+    holds-more (holds-code (start .args .bytes .now) (start .args .code) (start .pre .0)) (omega arith)
+    (start .args .first) (c .add-number .ensures)
 
 two : (c : tie.After-add-number2) → let a = at-first (at-second c) .args in
     Holds (c .add-number2 .last .0) (c .add-number2 .result) 21
     (a .code ∷ (numberBytes (a .first) ++ numberBytes (a .second)))
 two c =
     let a = at-first (at-second c) .args in
-    holds-more (one (at-second c)) (numberBytes (a .second)) (c .add-number2 .ensures)
+    holds-more (one (at-second c)) (omega arith) (a .second) (c .add-number2 .ensures)
 
 three : (c : tie.After-add-number3) → let a = at-first (at-second (at-third c)) .args in
     Holds (c .add-number3 .last .0) (c .add-number3 .result) 31
     (a .code ∷ ((numberBytes (a .first) ++ numberBytes (a .second)) ++ numberBytes (a .value)))
 three c =
     let a = at-first (at-second (at-third c)) .args in
-    holds-more (two (at-third c)) (numberBytes (a .value)) (c .add-number3 .ensures)
+    holds-more (two (at-third c)) (omega arith) (a .value) (c .add-number3 .ensures)
 
 slice-write-bytes : tie.Need-slice-write-bytes
 slice-write-bytes c = search needs
@@ -56,7 +55,10 @@ returns c =
     (holds-code (a .bytes .now) (a .code) (start .pre .0))
 
 add-number-requires : tie.Need-add-number-requires
-add-number-requires c κs = search needs
+add-number-requires c κs =
+    let start = c .before .before .before in
+    let a = start .args in
+    number-room (holds-code (a .bytes .now) (a .code) (start .pre .0)) (omega arith) (a .first)
 
 same-length-2 : tie.Need-same-length-2
 same-length-2 c = let made = c .before .before .before in one made .full ∙ sym (at-first made .pre .0)
@@ -70,8 +72,8 @@ returns-2 c =
 
 add-number-requires-2 : tie.Need-add-number-requires-2
 add-number-requires-2 c κs =
-    let h = one (c .before .before .before .before) in
-    (h .full, omega (arith, h .few))
+    let made = c .before .before .before .before in
+    number-room (one made) (omega arith) (at-first made .args .second)
 
 same-length-3 : tie.Need-same-length-3
 same-length-3 c =
@@ -87,8 +89,8 @@ returns-3 c =
 
 add-number-requires-3 : tie.Need-add-number-requires-3
 add-number-requires-3 c κs =
-    let h = two (c .before .before .before .before) in
-    (h .full, omega (arith, h .few))
+    let made = c .before .before .before .before in
+    number-room (two made) (omega arith) (at-first (at-second made) .args .value)
 
 same-length-4 : tie.Need-same-length-4
 same-length-4 c =
