@@ -1,21 +1,20 @@
 -- Demand 3 is met (`demand3`). Shown first of one command: where the chip is good by flat memory's bytes (`Matches`),
 -- both give the same answer and match again.
 -- Why: an accepted read reads right bytes, so the same; a write changes flat memory as it changes what is right; a
--- mode change likewise; the other commands are not seen. After a global writeback in a mode with an L2 cache every
--- place of external memory is right, so the two lists are equal.
+-- mode change likewise; the other commands are not seen. After a global writeback no line is dirty, so that every
+-- place of external memory and of SRAM is right: the lists are equal.
 use Prim.Native.Nat.{ℕ, _+_, _*_, _-_, _≤_, _<_}
 use mathlib.Core.Bool.{true, false, _&&_}
 use mathlib.Core.Path.{_≡_, refl, sym, ap, _∙_, subst}
-use mathlib.Core.Logic.{_≢_}
 use mathlib.Core.List.{List, [], _∷_, _++_}
 use native.Mathlib.Omega.{arith}
 use lib.ListN.{length, length-replicate}
 use lib.Seq.{ext-getD}
 use lib.Dec.{ltb, eqb}
 use borrow.Author.Tests.{eqb-true, ne-eqb, lt-leb}
-use Rattle.model.specs.Bytes.{little, littleBytes, zeroFrom}
+use Rattle.model.specs.Bytes.{part, little, littleBytes, zeroFrom}
 use Rattle.model.specs.Memories.{l1dLength, externalBase, legalL2, legalExternal, cacheSize, isMode, sramLength}
-use Rattle.model.specs.Records.{State, state, sramOf, l2SetsOf, l2LineAt, freshRecord, freshState}
+use Rattle.model.specs.Records.{State, state, sramOf, l2LineAt, freshRecord, freshState}
 use Rattle.model.specs.Access.{readAccess, writeAccess}
 use Rattle.model.specs.Modes.{smaller, flushL2, newMode, changeMode}
 use Rattle.model.specs.Commands.{l2WritebackAll, l2WritebackInvalidateAll}
@@ -23,17 +22,17 @@ use Rattle.model.specs.Flat.{Flat, flat, freshFlat, flatPart, flatPut, flatMode
 use Rattle.model.specs.Refusals.{accessDue, modeDue}
 use Rattle.model.specs.Trace.{command}
 use Rattle.model.specs.Calls.{Reply, refused, carriedOut, freshOk, freshCall, commandDue, readDone, writeDone, commandState, accepted, step, viewDone, Call, oneCommand, freshStart, look, called, after, commands}
-use Rattle.model.specs.Demand.{listedCode, listedCall, listed, compared, global, modeAfter, modeAlong, Settled, AgreesAt, Agree, Demand3, CommandsDemand3, end, next}
-use Rattle.model.specs.Laws.{bool, false-true, both-true, cond-elim, length-littleBytes}
+use Rattle.model.specs.Demand.{listedCode, listedCall, listed, compared, global, Settled, AgreesAt, Agree, Demand3, CommandsDemand3, end, next}
+use Rattle.model.specs.Laws.{bool, false-true, both-true, cond-elim, length-littleBytes, length-part, part-at}
 use Rattle.model.specs.declared.Command.{Command}
 use Rattle.agreement.proofs.Level.{Valid}
-use Rattle.agreement.proofs.Invariant.{Allowed, seenOnly, Layout}
+use Rattle.agreement.proofs.Invariant.{Allowed, seenOnly, Layout, Inside}
 use Rattle.agreement.proofs.Memory.{memoryByte, memory-low, memory-high, lowStored, highStored, low-length, high-length, Fits, read-length, read-at, written-same, wrote-memory}
-use Rattle.agreement.proofs.Good.{l1dLevel, l2Level, Good, Well, good-well}
+use Rattle.agreement.proofs.Good.{layoutOf, l1dLevel, l2Level, Good, Well, good-well}
 use Rattle.agreement.proofs.ReadWrite.{Step}
-use Rattle.agreement.proofs.Sweeps.{SweptTo, flushed, l2WritebackAll-good, l2WritebackInvalidateAll-good, flush-good}
+use Rattle.agreement.proofs.Sweeps.{AllOut, l2WritebackAll-good, l2WritebackInvalidateAll-good, flush-good}
 use Rattle.agreement.proofs.Changes.{zero-length, zero-below, zero-above, smaller-bound, fresh-good, newMode-good}
-use Rattle.agreement.proofs.Due.{access-tells, accepted-read, accepted-write, mode-tells, mode-sets}
+use Rattle.agreement.proofs.Due.{access-tells, accepted-read, accepted-write, mode-tells}
 use Rattle.agreement.proofs.Steps.{codes, Quiet, quiet-step, quiet-2, quiet-3, quiet-4, quiet-5, quiet-7, quiet-11}
 use Rattle.agreement.proofs.Tested.{legalL2-tells, legalExternal-tells, call-step}
 use Rattle.agreement.proofs.Flushes.{sweptL1d, change-swept}
@@ -87,7 +86,7 @@ module _ (z : State) (f : Flat) (m : Matches z f) (n a : ℕ) where
       (λ j h. let l = r .long in let k : j < n = omega arith in r .right j k ∙ sym (read-at (f .sram) (f .ext) a n g sram-below j k))
 
   put-matches : (v : ℕ) → accessDue (sramOf (z .rec)) (z .rec .extlen) n a v ≡ 0 → (z′ : State) → z′ ≡ writeAccess a (littleBytes v n) z .next →
-      Matches z′ (flatPut a (littleBytes v n) f) × (z′ .rec .mode ≡ z .rec .mode)
+      Matches z′ (flatPut a (littleBytes v n) f)
   put-matches v d z′ e =
       let bs = littleBytes v n in
       let f′ = flat (f .l2len) (lowStored (f .sram) a bs) (highStored (f .ext) a bs) in
@@ -98,15 +97,12 @@ module _ (z : State) (f : Flat) (m : Matches z f) (n a : ℕ) where
       (written-same (flatByte f) (flatByte f′) a bs (wrote-memory (f .sram) (f .ext) bs a g sram-below)) d in
       let q = quiet-step z (Is f′) (writeAccess a bs z .next) w in
       let s : sramOf (writeAccess a bs z .next .rec) ≡ sramOf (z .rec) = ap (λ (x : Layout). x .sram) (w .kept .layout) in
-      rw (e, flatPut-state a bs f) (
-        record {
-          good = w .good;
-          l2len = m .l2len ∙ sym (q .l2len);
-          sram = low-length (f .sram) bs a ∙ m .sram ∙ sym s;
-          ext = high-length (f .ext) bs a ∙ m .ext ∙ sym (q .extlen);
-        },
-        q .mode,
-      )
+      rw (e, flatPut-state a bs f) (record {
+        good = w .good;
+        l2len = m .l2len ∙ sym (q .l2len);
+        sram = low-length (f .sram) bs a ∙ m .sram ∙ sym s;
+        ext = high-length (f .ext) bs a ∙ m .ext ∙ sym (q .extlen);
+      })
 
 -- ---- a mode change, when everything has gone out
 mode-matches : (z : State) (f : Flat) → Matches z f → (k : ℕ) → isMode k ≡ true → cacheSize k ≤ z .rec .l2len →
@@ -131,18 +127,17 @@ mode-matches z f m k ok c none clean =
     }
 
 -- ---- one command: the same answer where it is compared, and both match again
-pub record Answered (c : Command) (r : Reply) (g : FlatReply) (before : ℕ) : Type 0 where
+pub record Answered (c : Command) (r : Reply) (g : FlatReply) : Type 0 where
   pub number : compared (oneCommand c) ≡ true → r .number ≡ g .number
   pub value : compared (oneCommand c) ≡ true → r .value ≡ g .value
   pub matches : Matches (r .next) (g .next)
-  pub mode : r .next .rec .mode ≡ modeAfter (oneCommand c) r before
 
 module _ (z : State) (f : Flat) (m : Matches z f) (a b v : ℕ) where
   same-due : (n : ℕ) → accessDue (length (f .sram)) (length (f .ext)) a b n ≡ accessDue (sramOf (z .rec)) (z .rec .extlen) a b n
   same-due n = rw (m .sram, m .ext) refl
 
-  read-answered : Answered (command 0 a b v) (step (command 0 a b v) z) (flatStep (command 0 a b v) f) (z .rec .mode)
-  unfolding step commandDue accepted readDone flatStep flatRead modeAfter
+  read-answered : Answered (command 0 a b v) (step (command 0 a b v) z) (flatStep (command 0 a b v) f)
+  unfolding step commandDue accepted readDone flatStep flatRead
   read-answered =
       let d = accessDue (sramOf (z .rec)) (z .rec .extlen) a b 0 in
       let e = same-due 0 in
@@ -153,22 +148,21 @@ module _ (z : State) (f : Flat) (m : Matches z f) (a b v : ℕ) where
         number = λ _. refl;
         value = λ _. ap little (same-bytes z f m a b (eqb-true d 0 t));
         matches = matches-quiet z f m (readAccess a b z .next) q;
-        mode = q .mode;
       }))
-      (λ t. rw t (record { number = λ _. refl; value = λ _. refl; matches = m; mode = refl })))
+      (λ t. rw t (record { number = λ _. refl; value = λ _. refl; matches = m })))
 
-  write-answered : Answered (command 1 a b v) (step (command 1 a b v) z) (flatStep (command 1 a b v) f) (z .rec .mode)
-  unfolding step commandDue accepted writeDone flatStep flatWrite modeAfter
+  write-answered : Answered (command 1 a b v) (step (command 1 a b v) z) (flatStep (command 1 a b v) f)
+  unfolding step commandDue accepted writeDone flatStep flatWrite
   write-answered =
       let d = accessDue (sramOf (z .rec)) (z .rec .extlen) a b v in
       let e = same-due v in
       rw e (bool (eqb d 0)
       (λ t. let p = put-matches z f m a b v (eqb-true d 0 t) (writeAccess b (littleBytes v a) z .next) refl in
-      rw t (record { number = λ _. refl; value = λ _. refl; matches = p .0; mode = p .1 }))
-      (λ t. rw t (record { number = λ _. refl; value = λ _. refl; matches = m; mode = refl })))
+      rw t (record { number = λ _. refl; value = λ _. refl; matches = p }))
+      (λ t. rw t (record { number = λ _. refl; value = λ _. refl; matches = m })))
 
-  mode-answered : Answered (command 10 a b v) (step (command 10 a b v) z) (flatStep (command 10 a b v) f) (z .rec .mode)
-  unfolding step commandDue accepted commandState flatStep flatChange modeAfter changeMode newMode
+  mode-answered : Answered (command 10 a b v) (step (command 10 a b v) z) (flatStep (command 10 a b v) f)
+  unfolding step commandDue accepted commandState flatStep flatChange changeMode newMode
   mode-answered =
       let d = modeDue (z .rec .l2len) a in
       let e : modeDue (f .l2len) a ≡ d = rw (m .l2len) refl in
@@ -179,129 +173,137 @@ module _ (z : State) (f : Flat) (m : Matches z f) (a b v : ℕ) where
       let m₁ = matches-quiet z f m z₁ (quiet-step z (Is f) z₁ (o .step)) in
       let s₁ : Matches (newMode a z₁) (flatMode a f) = mode-matches z₁ f m₁ a (c .0) (rw (o .step .kept .l2len) (c .1)) (o .l1dNone) (o .l2Clean) in
       let s : Matches (changeMode a z) (flatMode a f) = subst (λ (x : State). Matches x (flatMode a f)) (sym (change-swept a z)) s₁ in
-      rw t (record { number = λ _. refl; value = λ _. refl; matches = s; mode = refl }))
-      (λ t. rw t (record { number = λ _. refl; value = λ _. refl; matches = m; mode = rw t refl })))
+      rw t (record { number = λ _. refl; value = λ _. refl; matches = s }))
+      (λ t. rw t (record { number = λ _. refl; value = λ _. refl; matches = m })))
 
-  quiet-answered : (k : ℕ) → compared (oneCommand (command k a b v)) ≡ false → eqb k 10 ≡ false → flatStep (command k a b v) f ≡ flatReply 0 0 f →
+  quiet-answered : (k : ℕ) → compared (oneCommand (command k a b v)) ≡ false → flatStep (command k a b v) f ≡ flatReply 0 0 f →
       Quiet z (Is f) (step (command k a b v) z .next) →
-      Answered (command k a b v) (step (command k a b v) z) (flatStep (command k a b v) f) (z .rec .mode)
-  unfolding modeAfter
-  quiet-answered k unseen ne e q =
+      Answered (command k a b v) (step (command k a b v) z) (flatStep (command k a b v) f)
+  quiet-answered k unseen e q =
       rw e (record {
         number = λ y. false-true (sym unseen ∙ y);
         value = λ y. false-true (sym unseen ∙ y);
         matches = matches-quiet z f m (step (command k a b v) z .next) q;
-        mode = rw ne (q .mode);
       })
 
 listed-below : (k : ℕ) → 12 ≤ k → listedCode k ≡ false
 listed-below k h = rw (lt-leb k 5 (omega arith), ne-eqb k 7 (omega arith), ne-eqb k 10 (omega arith), ne-eqb k 11 (omega arith)) refl
 
 pub step-answered : (c : Command) (z : State) (f : Flat) → Matches z f → listedCode (c .code) ≡ true →
-    Answered c (step c z) (flatStep c f) (z .rec .mode)
+    Answered c (step c z) (flatStep c f)
 unfolding flatStep
 step-answered c z f m =
     let a = c .first in let b = c .second in let v = c .value in
-    codes (λ (k : ℕ). listedCode k ≡ true → Answered (command k a b v) (step (command k a b v) z) (flatStep (command k a b v) f) (z .rec .mode))
+    codes (λ (k : ℕ). listedCode k ≡ true → Answered (command k a b v) (step (command k a b v) z) (flatStep (command k a b v) f))
     (λ _. read-answered z f m a b v)
     (λ _. write-answered z f m a b v)
-    (λ _. quiet-answered z f m a b v 2 refl refl refl (quiet-2 z (Is f) (m .good) a b v))
-    (λ _. quiet-answered z f m a b v 3 refl refl refl (quiet-3 z (Is f) (m .good) a b v))
-    (λ _. quiet-answered z f m a b v 4 refl refl refl (quiet-4 z (Is f) (m .good) a b v))
-    (λ _. quiet-answered z f m a b v 5 refl refl refl (quiet-5 z (Is f) (m .good) a b v))
+    (λ _. quiet-answered z f m a b v 2 refl refl (quiet-2 z (Is f) (m .good) a b v))
+    (λ _. quiet-answered z f m a b v 3 refl refl (quiet-3 z (Is f) (m .good) a b v))
+    (λ _. quiet-answered z f m a b v 4 refl refl (quiet-4 z (Is f) (m .good) a b v))
+    (λ _. quiet-answered z f m a b v 5 refl refl (quiet-5 z (Is f) (m .good) a b v))
     (λ y. false-true y)
-    (λ _. quiet-answered z f m a b v 7 refl refl refl (quiet-7 z (Is f) (m .good) a b v))
+    (λ _. quiet-answered z f m a b v 7 refl refl (quiet-7 z (Is f) (m .good) a b v))
     (λ y. false-true y)
     (λ y. false-true y)
     (λ _. mode-answered z f m a b v)
-    (λ _. quiet-answered z f m a b v 11 refl refl refl (quiet-11 z (Is f) (m .good) a b v))
+    (λ _. quiet-answered z f m a b v 11 refl refl (quiet-11 z (Is f) (m .good) a b v))
     (λ k h y. false-true (sym (listed-below k h) ∙ y))
     (c .code)
 
--- ---- a global writeback settles external memory
-settles : (z z′ : State) (f : Flat) → Matches z f → z .rec .mode ≢ 0 → SweptTo z (Is f) (l2SetsOf (z .rec) * 4) z′ → Settled z′ f
-settles z z′ f m n u =
-    let h = flushed z (Is f) z′ (mode-sets (z .rec .mode) (m .good .tidy .sizes .legalMode) n) u in
-    let s = matches-quiet z f m z′ (quiet-step z (Is f) z′ (u .step)) in
-    let le = s .good .tidy .sizes .extLength in let hi = s .ext in
-    record {
-      same = ext-getD 0 (z′ .ext) (f .ext) (le ∙ sym hi)
-          (λ i k. let j : externalBase + i - externalBase ≡ i = omega arith in
-          h .extRight i (omega arith) ∙ (rw j at (memory-high (f .sram) (f .ext) (externalBase + i) (omega arith))));
-      l1dClean = λ s w k b. absurd (h .l1dNone s w k b);
-      l2Clean = h .l2Clean;
-    }
+-- ---- a global writeback settles external memory and SRAM: where no line is dirty, every byte of memory is right
+module _ (z z′ : State) (f : Flat) (m : Matches z f) (u : AllOut z (Is f) z′) where
+  settled-matches : Matches z′ f
+  settled-matches = matches-quiet z f m z′ (quiet-step z (Is f) z′ (u .step))
 
-global-settles : (c : Command) (z : State) (f : Flat) → Matches z f → z .rec .mode ≢ 0 → global (oneCommand c) ≡ true →
+  right-byte : (a : ℕ) → Inside (layoutOf (z′ .rec)) a → memoryByte (z′ .l2) (z′ .ext) a ≡ flatByte f a
+  right-byte a h =
+      u .step .good .inv .memoryRight a h (λ s w i _ _. absurd (u .l1dNone s w i)) (λ t v i d _. false-true (sym (u .l2Clean t v i) ∙ d))
+
+  settles : Settled z′ f
+  settles =
+      let s = settled-matches in
+      let le = s .good .tidy .sizes .extLength in let hi = s .ext in
+      let n = sramOf (z′ .rec) in let lo = s .sram in
+      let ll = s .good .tidy .sizes .l2Length in let most = s .good .tidy .sizes .l2Most in
+      let long : length (part (z′ .l2) 0 n) ≡ n = length-part (z′ .l2) 0 n (omega arith) in
+      record {
+        external = ext-getD 0 (z′ .ext) (f .ext) (le ∙ sym hi)
+            (λ i k. let j : externalBase + i - externalBase ≡ i = omega arith in
+            let above : externalBase ≤ externalBase + i = omega arith in
+            sym (rw j at (memory-high (z′ .l2) (z′ .ext) (externalBase + i) above))
+            ∙ right-byte (externalBase + i) (record { low = λ k′. absurd (omega arith); high = λ k′. omega arith })
+            ∙ (rw j at (memory-high (f .sram) (f .ext) (externalBase + i) above)));
+        sram = ext-getD 0 (part (z′ .l2) 0 n) (f .sram) (long ∙ sym lo)
+            (λ i k. let h : i < n = omega arith in let i₀ : 0 + i ≡ i = omega arith in
+            let below : i < externalBase = omega arith in
+            (rw i₀ at (part-at (z′ .l2) 0 n i (omega arith) h))
+            ∙ sym (memory-low (z′ .l2) (z′ .ext) i below)
+            ∙ right-byte i (record { low = λ k′. omega arith; high = λ k′. absurd (omega arith) })
+            ∙ memory-low (f .sram) (f .ext) i below);
+        l1dClean = λ s w i. absurd (u .l1dNone s w i);
+        l2Clean = u .l2Clean;
+      }
+
+global-settles : (c : Command) (z : State) (f : Flat) → Matches z f → global (oneCommand c) ≡ true →
     Settled (step c z .next) (flatStep c f .next)
 unfolding step commandDue accepted commandState flatStep
-global-settles c z f m n =
+global-settles c z f m =
     let a = c .first in let b = c .second in let v = c .value in
     let not-global : (k : ℕ) → global (oneCommand (command k a b v)) ≡ false → global (oneCommand (command k a b v)) ≡ true → Settled (step (command k a b v) z .next) (flatStep (command k a b v) f .next) =
     λ k e y. false-true (sym e ∙ y) in
     codes (λ (k : ℕ). global (oneCommand (command k a b v)) ≡ true → Settled (step (command k a b v) z .next) (flatStep (command k a b v) f .next))
     (not-global 0 refl) (not-global 1 refl)
-    (λ _. settles z (l2WritebackAll z) f m n (l2WritebackAll-good z (Is f) (m .good)))
-    (λ _. settles z (l2WritebackInvalidateAll z) f m n (l2WritebackInvalidateAll-good z (Is f) (m .good)))
+    (λ _. settles z (l2WritebackAll z) f m (l2WritebackAll-good z (Is f) (m .good)))
+    (λ _. settles z (l2WritebackInvalidateAll z) f m (l2WritebackInvalidateAll-good z (Is f) (m .good)))
     (not-global 4 refl) (not-global 5 refl) (not-global 6 refl) (not-global 7 refl) (not-global 8 refl) (not-global 9 refl) (not-global 10 refl)
     (not-global 11 refl)
     (λ k h. not-global k (rw (ne-eqb k 2 (omega arith), ne-eqb k 3 (omega arith)) refl))
     (c .code)
 
 -- ---- one call: a view is not compared and changes nothing, a fresh start is not listed
-call-agrees : (c : Call) (mode : ℕ) (z : State) (f : Flat) → Matches z f → z .rec .mode ≡ mode → listedCall c ≡ true → AgreesAt mode c z f
-call-agrees freshStart mode z f m e y = false-true y
-call-agrees (look a) mode z f m e y = record { number = λ n. false-true n; value = λ n. false-true n; settled = λ n. false-true n }
-call-agrees (oneCommand c) mode z f m e y =
+call-agrees : (c : Call) (z : State) (f : Flat) → Matches z f → listedCall c ≡ true → AgreesAt c z f
+call-agrees freshStart z f m y = false-true y
+call-agrees (look a) z f m y = record { number = λ n. false-true n; value = λ n. false-true n; settled = λ n. false-true n }
+call-agrees (oneCommand c) z f m y =
     let s = call-step c z (good-well z (Is f) (m .good)) in
     let r = step-answered c z f m y in
     record {
       number = λ k. rw s (r .number k);
       value = λ k. rw s (r .value k);
-      settled = λ k _ n. rw s (global-settles c z f m (λ i. n (sym e ∙ i)) k);
+      settled = λ k _. rw s (global-settles c z f m k);
     }
 
-pub call-matches : (c : Call) (mode : ℕ) (z : State) (f : Flat) → Matches z f → z .rec .mode ≡ mode → listedCall c ≡ true →
-    Matches (called c z .next) (flatCalled c f .next) × (called c z .next .rec .mode ≡ modeAfter c (called c z) mode)
-unfolding viewDone modeAfter
-call-matches freshStart mode z f m e y = false-true y
-call-matches (look a) mode z f m e y = (m, e)
-call-matches (oneCommand c) mode z f m e y =
-    let s = call-step c z (good-well z (Is f) (m .good)) in
-    let r = step-answered c z f m y in
-    rw s (r .matches, r .mode ∙ ap (λ (k : ℕ). modeAfter (oneCommand c) (step c z) k) e)
+pub call-matches : (c : Call) (z : State) (f : Flat) → Matches z f → listedCall c ≡ true → Matches (called c z .next) (flatCalled c f .next)
+unfolding viewDone
+call-matches freshStart z f m y = false-true y
+call-matches (look a) z f m y = m
+call-matches (oneCommand c) z f m y = let s = call-step c z (good-well z (Is f) (m .good)) in rw s (step-answered c z f m y .matches)
 
 -- ---- along a list
-pub agree : (cs : List Call) (mode : ℕ) (z : State) (f : Flat) → Matches z f → z .rec .mode ≡ mode → listed cs ≡ true → Agree mode cs z f
+pub agree : (cs : List Call) (z : State) (f : Flat) → Matches z f → listed cs ≡ true → Agree cs z f
 unfolding listed
-agree [] mode z f m e y = end
-agree (c ∷ cs) mode z f m e y =
+agree [] z f m y = end
+agree (c ∷ cs) z f m y =
     let p = both-true (listedCall c) (listed cs) y in
-    let r = call-matches c mode z f m e (p .0) in
-    next (call-agrees c mode z f m e (p .0))
-    (agree cs (modeAfter c (called c z) mode) (called c z .next) (flatCalled c f .next) (r .0) (r .1) (p .1))
+    next (call-agrees c z f m (p .0)) (agree cs (called c z .next) (flatCalled c f .next) (call-matches c z f m (p .0)) (p .1))
 
-pub after-matches : (cs : List Call) (mode : ℕ) (z : State) (f : Flat) → Matches z f → z .rec .mode ≡ mode → listed cs ≡ true →
-    Matches (after cs z) (flatAfter cs f) × (after cs z .rec .mode ≡ modeAlong mode cs z)
-unfolding listed after flatAfter modeAlong
-after-matches [] mode z f m e y = (m, e)
-after-matches (c ∷ cs) mode z f m e y =
+pub after-matches : (cs : List Call) (z : State) (f : Flat) → Matches z f → listed cs ≡ true → Matches (after cs z) (flatAfter cs f)
+unfolding listed after flatAfter
+after-matches [] z f m y = m
+after-matches (c ∷ cs) z f m y =
     let p = both-true (listedCall c) (listed cs) y in
-    let r = call-matches c mode z f m e (p .0) in
-    after-matches cs (modeAfter c (called c z) mode) (called c z .next) (flatCalled c f .next) (r .0) (r .1) (p .1)
+    after-matches cs (called c z .next) (flatCalled c f .next) (call-matches c z f m (p .0)) (p .1)
 
--- a list that ends with a global writeback, in a mode with an L2 cache, leaves external memory settled
-pub ends-settled : (cs : List Call) (c : Command) (mode : ℕ) (z : State) (f : Flat) → Matches z f → z .rec .mode ≡ mode →
-    listed (cs ++ (oneCommand c ∷ [])) ≡ true → global (oneCommand c) ≡ true → modeAlong mode cs z ≢ 0 →
-    Settled (after (cs ++ (oneCommand c ∷ [])) z) (flatAfter (cs ++ (oneCommand c ∷ [])) f)
-unfolding listed after flatAfter modeAlong
-ends-settled [] c mode z f m e y g n =
+-- a list that ends with a global writeback leaves external memory and SRAM settled
+pub ends-settled : (cs : List Call) (c : Command) (z : State) (f : Flat) → Matches z f → listed (cs ++ (oneCommand c ∷ [])) ≡ true →
+    global (oneCommand c) ≡ true → Settled (after (cs ++ (oneCommand c ∷ [])) z) (flatAfter (cs ++ (oneCommand c ∷ [])) f)
+unfolding listed after flatAfter
+ends-settled [] c z f m y g =
     let s = call-step c z (good-well z (Is f) (m .good)) in
-    subst (λ (r : Reply). Settled (r .next) (flatStep c f .next)) (sym s) (global-settles c z f m (λ i. n (sym e ∙ i)) g)
-ends-settled (d ∷ cs) c mode z f m e y g n =
+    subst (λ (r : Reply). Settled (r .next) (flatStep c f .next)) (sym s) (global-settles c z f m g)
+ends-settled (d ∷ cs) c z f m y g =
     let p = both-true (listedCall d) (listed (cs ++ (oneCommand c ∷ []))) y in
-    let r = call-matches d mode z f m e (p .0) in
-    ends-settled cs c (modeAfter d (called d z) mode) (called d z .next) (flatCalled d f .next) (r .0) (r .1) (p .1) g n
+    ends-settled cs c (called d z .next) (flatCalled d f .next) (call-matches d z f m (p .0)) (p .1) g
 
 -- ---- the fresh start
 pub fresh-matches : (l : ℕ) (e : List ℕ) → legalL2 l ≡ true → legalExternal (length e) ≡ true → Matches (freshState l e) (freshFlat l e)
@@ -331,10 +333,6 @@ fresh-matches l e hl he =
       ext = refl;
     }
 
-pub fresh-mode : (l : ℕ) (e : List ℕ) → freshState l e .rec .mode ≡ 0
-unfolding freshState freshRecord
-fresh-mode l e = refl
-
 -- ---- an accepted fresh start gives the fresh state, whatever bytes L1D and L2 were lent with
 pub fresh-accepted : (d m e : List ℕ) → freshCall d m e .number ≡ 0 →
     (legalL2 (length m) ≡ true) × (legalExternal (length e) ≡ true) × (freshCall d m e .next ≡ freshState (length m) e)
@@ -353,7 +351,7 @@ fresh-accepted d m e =
 pub demand3 : Demand3
 demand3 d m e h cs y =
     let p = fresh-accepted d m e h in let s = p .2 in
-    rw s (agree cs 0 (freshState (length m) e) (freshFlat (length m) e) (fresh-matches (length m) e (p .0) (p .1)) (fresh-mode (length m) e) y)
+    rw s (agree cs (freshState (length m) e) (freshFlat (length m) e) (fresh-matches (length m) e (p .0) (p .1)) y)
 
 pub commands-demand3 : CommandsDemand3
 commands-demand3 d m e h cs y = demand3 d m e h (commands cs) y

@@ -181,13 +181,14 @@ atL2-dropped z h b =
     (λ _. dropped-refl z h)
 
 -- ---- the commands
-module _ (z : State) (h : Well z) where
-  touched-dropped : (n : ℕ) (f : ℕ → State → State) → ((a : ℕ) (x : State) → Well x → Dropped x (f a x)) → (b c : ℕ) → Dropped z (eachTouched n f b c z)
-  unfolding eachTouched
-  touched-dropped n f g b c =
-      each-by (λ _ x. Dropped z x) (λ k. f ((b / n + k) * n)) (linesTouched n b c) z (dropped-refl z h)
-      (λ k _ x d. dropped-trans z x (f ((b / n + k) * n) x) d (g ((b / n + k) * n) x (d .step .good)))
+touched-dropped : (z : State) → Well z → (n : ℕ) (f : ℕ → State → State) → ((a : ℕ) (x : State) → Well x → Dropped x (f a x)) → (b c : ℕ) →
+    Dropped z (eachTouched n f b c z)
+unfolding eachTouched
+touched-dropped z h n f g b c =
+    each-by (λ _ x. Dropped z x) (λ k. f ((b / n + k) * n)) (linesTouched n b c) z (dropped-refl z h)
+    (λ k _ x d. dropped-trans z x (f ((b / n + k) * n) x) d (g ((b / n + k) * n) x (d .step .good)))
 
+module _ (z : State) (h : Well z) where
   pub l1dInvalidateAll-dropped : Dropped z (l1dInvalidateAll z)
   unfolding l1dInvalidateAll
   l1dInvalidateAll-dropped =
@@ -197,10 +198,12 @@ module _ (z : State) (h : Well z) where
 
   pub l1dInvalidateBlock-dropped : (b c : ℕ) → Dropped z (l1dInvalidateBlock b c z)
   unfolding l1dInvalidateBlock
-  l1dInvalidateBlock-dropped b c = touched-dropped 64 (atL1d emptyL1d) (λ a x g. atL1d-dropped x g a) b c
+  l1dInvalidateBlock-dropped b c = touched-dropped z h 64 (atL1d emptyL1d) (λ a x g. atL1d-dropped x g a) b c
 
+  -- the touched lines of L1D first
   pub l2InvalidateBlock-dropped : (b c : ℕ) → Dropped z (l2InvalidateBlock b c z)
   unfolding l2InvalidateBlock unlessMode0
   l2InvalidateBlock-dropped b c =
-      cond-elim (Dropped z) (mode0 (z .rec)) z (eachTouched 128 (atL2 dropL2) b c z) (λ _. dropped-refl z h)
-      (λ _. touched-dropped 128 (atL2 dropL2) (λ a x g. atL2-dropped x g a) b c)
+      let y = l1dInvalidateBlock b c z in let d = l1dInvalidateBlock-dropped b c in let g = d .step .good in
+      cond-elim (Dropped z) (mode0 (y .rec)) y (eachTouched 128 (atL2 dropL2) b c y) (λ _. d)
+      (λ _. dropped-trans z y (eachTouched 128 (atL2 dropL2) b c y) d (touched-dropped y g 128 (atL2 dropL2) (λ a x g′. atL2-dropped x g′ a) b c))

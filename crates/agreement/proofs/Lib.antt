@@ -19,5 +19,4 @@ pub mod Sweeps
 pub mod Tables
 pub mod Tested
 pub mod TraceAgreement
-pub mod Unreached
 pub mod Writeback

@@ -1,9 +1,9 @@
 -- The cache commands that write back, over all lines or over a block, and the flush before a mode change. Shown: each
--- leaves the state good; after a global writeback in a mode with an L2 cache L1D holds no external line, no L2 line
--- is dirty and external memory is right; after the flush L1D holds nothing and no L2 line is dirty.
--- Why: each is a loop of steps that keep the state good, and a slot that is done stays done: it is clean, and L1D
--- holds nothing of it, so that no later writeback into L2 can make it dirty again. Slots are counted k = set * ways +
--- way, so that "before k" is one linear test.
+-- leaves the state good; after a global writeback, and after the flush, L1D holds nothing and no L2 line is dirty
+-- (`AllOut`).
+-- Why: each is a loop of steps that keep the state good. L1D is emptied first, way by way, and nothing fills it again;
+-- so no line of L1D can make an L2 line dirty that has gone out. Slots are counted k = set * ways + way, so that
+-- "before k" is one linear test.
 use Prim.Native.Nat.{ℕ, zero, suc, _+_, _*_, _-_, _/_, _%_, _≤_, _<_}
 use mathlib.Core.Bool.{false}
 use mathlib.Core.Path.{_≡_, refl, sym, ap, _∙_}
@@ -20,11 +20,11 @@ use Rattle.model.specs.Ways.{l1dWay, l2Way, inL1d, inL2}
 use Rattle.model.specs.Access.{evictL1d}
 use Rattle.model.specs.Homes.{writeOutL2, writebackL2, evictL2}
 use Rattle.model.specs.Modes.{flushL2}
-use Rattle.model.specs.Commands.{linesTouched, eachTouched, eachL2, atL2, atL1d, unlessMode0, l2WritebackAll, l2WritebackInvalidateAll, l2WritebackBlock, l2WritebackInvalidateBlock, l1dWritebackInvalidateBlock}
+use Rattle.model.specs.Commands.{linesTouched, eachTouched, eachL2, atL2, atL1d, unlessMode0, evictAllL1d, l2WritebackAll, l2WritebackInvalidateAll, l2WritebackBlock, l2WritebackInvalidateBlock, l1dWritebackInvalidateBlock}
 use Rattle.model.specs.Laws.{bool, false-true, cond-elim, no-ways}
 use Rattle.model.specs.declared.Line.{Line}
 use Rattle.model.specs.declared.Record.{Record}
-use Rattle.agreement.proofs.Level.{Valid, same-slot}
+use Rattle.agreement.proofs.Level.{Valid, Other, same-slot}
 use Rattle.agreement.proofs.Invariant.{Allowed, carry}
 use Rattle.agreement.proofs.Memory.{memory-high}
 use Rattle.agreement.proofs.Good.{l1dLevel, l2Level, Good, kept-refl, kept-trans, l1d-hit, l2-hit, l1d-bounds, l2-bounds}
@@ -47,61 +47,9 @@ step-refl z F q = record { good = q; kept = kept-refl z }
 pub step-trans : (z x y : State) (F : Allowed) → Step z F x → Step x F y → Step z F y
 step-trans z x y F a b = record { good = b .good; kept = kept-trans z x y (a .kept) (b .kept) }
 
--- ---- all slots of L2 swept, one after another: those before slot k are done
-pub record SweptTo (z : State) (F : Allowed) (k : ℕ) (x : State) : Type 0 where
-  pub step : Step z F x
-  pub done : (t v : ℕ) → v < 4 → t * 4 + v < k → Done x t v
-
-swept-next : (z : State) (F : Allowed) (k : ℕ) (x x′ : State) → SweptTo z F k x → Swept x F (k / 4) (k % 4) x′ → SweptTo z F (suc k) x′
-swept-next z F k x x′ u s =
-    record {
-      step = record { good = s .good; kept = kept-trans z x x′ (u .step .kept) (s .kept) };
-      done = λ t v hv h. same-slot (k / 4) (k % 4) t v
-          (λ e. let g = s .done in rw (e .0, e .1) g)
-          (λ e i.
-          let c : t * 4 + v < k = bool (eqb (t * 4 + v) k)
-          (λ y. let y′ = eqb-true (t * 4 + v) k y in absurd (e (omega arith, omega arith)))
-          (λ y. let y′ = eqb-false (t * 4 + v) k y in omega arith) in
-          let d = u .done t v hv c (sym (s .valid t v e) ∙ i) in
-          (s .unsoiled t v e (d .1) ∙ d .0, λ s′ w′ i′ e′. let y = s .fewer s′ w′ i′ in d .1 s′ w′ (rw y at i′) (rw (y, s .address t v e) at e′)));
-    }
-
 -- a step on one L2 slot that sweeps it
 abbrev pub Sweeps : Allowed → (ℕ → ℕ → State → State) → Type 0
 Sweeps F f = (x : State) → Good x F → (t v : ℕ) → t < l2SetsOf (x .rec) → v < 4 → Swept x F t v (f t v x)
-
-pub sweep : (z : State) (F : Allowed) → Good z F → (f : ℕ → ℕ → State → State) → Sweeps F f → SweptTo z F (l2SetsOf (z .rec) * 4) (eachL2 f z)
-unfolding eachL2
-sweep z F q f step =
-    each-by (λ k x. SweptTo z F k x) (λ k. f (k / 4) (k % 4)) (l2SetsOf (z .rec) * 4) z
-    (record { step = step-refl z F q; done = λ t v hv h. absurd (omega arith) })
-    (λ k hk x u.
-    let h : k / 4 < l2SetsOf (z .rec) = omega arith in
-    swept-next z F k x (f (k / 4) (k % 4) x) u (step x (u .step .good) (k / 4) (k % 4) (rw (u .step .kept .mode) h) (omega arith)))
-
--- ---- what a global writeback leaves
-pub record Flushed (F : Allowed) (x : State) : Type 0 where
-  pub l1dNone : (s w : ℕ) → Valid (l1dLevel x) s w → externalBase ≤ l1dLineAt (x .rec) s w .address → ⊥
-  pub l2Clean : (t v : ℕ) → Valid (l2Level x) t v → l2LineAt (x .rec) t v .dirty ≡ false
-  pub extRight : (i : ℕ) → i < x .rec .extlen → F .right (externalBase + i) (getD (x .ext) i 0)
-
-pub flushed : (z : State) (F : Allowed) (x : State) → l2SetsOf (z .rec) ≢ 0 → SweptTo z F (l2SetsOf (z .rec) * 4) x → Flushed F x
-flushed z F x ns u =
-    let q = u .step .good in
-    let m : l2SetsOf (x .rec) ≡ l2SetsOf (z .rec) = ap (λ (y : ℕ). l2Sets y) (u .step .kept .mode) in
-    let all : (t v : ℕ) → Done x t v = λ t v i. let b = l2-bounds x F q t v i in let b₀ = b .0 in let b₁ = b .1 in u .done t v b₁ (omega arith) i in
-    let none : (s w : ℕ) → Valid (l1dLevel x) s w → externalBase ≤ l1dLineAt (x .rec) s w .address → ⊥ =
-    λ s w i h. let p = q .inv .inclusion s w i h (rw m ns) in all (p .0) (p .1) (p .2) .1 s w i (sym (p .3)) in
-    record {
-      l1dNone = none;
-      l2Clean = λ t v i. all t v i .0;
-      extRight = λ i h.
-          let j : externalBase + i - externalBase ≡ i = omega arith in
-          carry F (rw j at (sym (memory-high (x .l2) (x .ext) (externalBase + i) (omega arith))))
-          (q .inv .memoryRight (externalBase + i) (record { low = λ k. absurd (omega arith); high = λ k. omega arith })
-          (λ s w k _ e. none s w k (omega arith))
-          (λ t v k d _. false-true (sym (all t v k .0) ∙ d)));
-    }
 
 -- ---- blocks: a step that is good at every line is good over a block
 module _ (z : State) (F : Allowed) (q : Good z F) where
@@ -135,41 +83,6 @@ evictL1d-step z F q s w hs hw = let l = evictL1d-good z F q s w hs hw .left in r
 
 pub swept-step : (z : State) (F : Allowed) (t v : ℕ) (z′ : State) → Swept z F t v z′ → Step z F z′
 swept-step z F t v z′ s = record { good = s .good; kept = s .kept }
-
--- ---- the commands
-module _ (F : Allowed) where
-  pub writebackL2-sweeps : Sweeps F writebackL2
-  writebackL2-sweeps x g t v ht hv = writebackL2-good x F g t v ht hv
-
-  pub evictL2-sweeps : Sweeps F evictL2
-  evictL2-sweeps x g t v ht hv = evictL2-good x F g t v ht hv .swept
-
-module _ (z : State) (F : Allowed) (q : Good z F) where
-  pub l2WritebackAll-good : SweptTo z F (l2SetsOf (z .rec) * 4) (l2WritebackAll z)
-  unfolding l2WritebackAll
-  l2WritebackAll-good = rw (no-ways writebackL2 z) (sweep z F q writebackL2 (writebackL2-sweeps F))
-
-  pub l2WritebackInvalidateAll-good : SweptTo z F (l2SetsOf (z .rec) * 4) (l2WritebackInvalidateAll z)
-  unfolding l2WritebackInvalidateAll
-  l2WritebackInvalidateAll-good = rw (no-ways evictL2 z) (sweep z F q evictL2 (evictL2-sweeps F))
-
-  l2-block : (f : ℕ → ℕ → State → State) → Sweeps F f → (b c : ℕ) → Step z F (unlessMode0 (eachTouched 128 (atL2 f) b c) z)
-  l2-block f h b c =
-      unless-good z F q (eachTouched 128 (atL2 f) b c)
-      (touched-good z F q 128 (atL2 f) (λ a x g. atL2-good x F g f (λ t v _ ht hv. swept-step x F t v (f t v x) (h x g t v ht hv)) a) b c)
-
-  pub l2WritebackBlock-good : (b c : ℕ) → Step z F (l2WritebackBlock b c z)
-  unfolding l2WritebackBlock
-  l2WritebackBlock-good b c = l2-block writebackL2 (writebackL2-sweeps F) b c
-
-  pub l2WritebackInvalidateBlock-good : (b c : ℕ) → Step z F (l2WritebackInvalidateBlock b c z)
-  unfolding l2WritebackInvalidateBlock
-  l2WritebackInvalidateBlock-good b c = l2-block evictL2 (evictL2-sweeps F) b c
-
-  pub l1dWritebackInvalidateBlock-good : (b c : ℕ) → Step z F (l1dWritebackInvalidateBlock b c z)
-  unfolding l1dWritebackInvalidateBlock
-  l1dWritebackInvalidateBlock-good b c =
-      touched-good z F q 64 (atL1d evictL1d) (λ a x g. atL1d-good x F g evictL1d (λ s w hs hw. evictL1d-step x F g s w hs hw) a) b c
 
 -- ---- everything goes out: nothing is left in L1D, nothing dirty in L2
 record L1dEmptyTo (z : State) (F : Allowed) (k : ℕ) (x : State) : Type 0 where
@@ -208,44 +121,82 @@ sweptL1d-good z F q =
       l1dNone = λ s w i. let b = l1d-bounds x F (u .step .good) s w i in let b₀ = b .0 in let b₁ = b .1 in u .none s w b₁ (omega arith) i;
     }
 
-record L2CleanTo (z : State) (F : Allowed) (k : ℕ) (x : State) : Type 0 where
-  step : Step z F x
-  l1dNone : (s w : ℕ) → Valid (l1dLevel x) s w → ⊥
-  clean : (t v : ℕ) → v < 4 → t * 4 + v < k → Valid (l2Level x) t v → l2LineAt (x .rec) t v .dirty ≡ false
+-- ---- one L2 slot cleaned, L1D holding nothing: L1D still holds nothing, and no other slot gets dirty
+record Cleaned (x : State) (F : Allowed) (t v : ℕ) (x′ : State) : Type 0 where
+  step : Step x F x′
+  l1dNone : (s w : ℕ) → Valid (l1dLevel x′) s w → ⊥
+  clean : Valid (l2Level x′) t v → l2LineAt (x′ .rec) t v .dirty ≡ false
+  others : (t′ v′ : ℕ) → Other t v t′ v′ → (Valid (l2Level x) t′ v′ → l2LineAt (x .rec) t′ v′ .dirty ≡ false) →
+      Valid (l2Level x′) t′ v′ → l2LineAt (x′ .rec) t′ v′ .dirty ≡ false
+
+abbrev L1dNone : State → Type 0
+L1dNone x = (s w : ℕ) → Valid (l1dLevel x) s w → ⊥
+
+abbrev Cleans : Allowed → (ℕ → ℕ → State → State) → Type 0
+Cleans F f = (x : State) → Good x F → L1dNone x → (t v : ℕ) → t < l2SetsOf (x .rec) → v < 4 → Cleaned x F t v (f t v x)
 
 valid-same : (r r′ : Record) → r′ .l1d ≡ r .l1d → (s w : ℕ) → l1dLineAt r′ s w .valid ≡ l1dLineAt r s w .valid
 valid-same r r′ e s w = rw e refl
 
-l2-clean-next : (z : State) (F : Allowed) (k : ℕ) (x x′ : State) → L2CleanTo z F k x → WrittenOut x F (k / 4) (k % 4) x′ → L2CleanTo z F (suc k) x′
-l2-clean-next z F k x x′ u o =
+-- a slot that is written out, and one that is swept
+writeOut-cleans : (F : Allowed) → Cleans F writeOutL2
+writeOut-cleans F x q none t v ht hv =
+    let o = writeOutL2-good x F q t v ht hv (λ _ s w i. absurd (none s w i)) in
+    let x′ = writeOutL2 t v x in
     record {
-      step = record { good = o .good; kept = kept-trans z x x′ (u .step .kept) (o .kept) };
-      l1dNone = λ s w i. u .l1dNone s w (sym (valid-same (x .rec) (x′ .rec) (o .lines) s w) ∙ i);
-      clean = λ t v hv h. same-slot (k / 4) (k % 4) t v
-          (λ e. let g = o .clean in rw (e .0, e .1) g)
-          (λ e i. let y = o .others t v e in
-          bool (eqb (t * 4 + v) k)
-          (λ t₁. let t′ = eqb-true (t * 4 + v) k t₁ in absurd (e (omega arith, omega arith)))
-          (λ t₁. let t′ = eqb-false (t * 4 + v) k t₁ in ap (λ (r : Line). r .dirty) y ∙ u .clean t v hv (omega arith) (rw y at i)));
+      step = record { good = o .good; kept = o .kept };
+      l1dNone = λ s w i. none s w (sym (valid-same (x .rec) (x′ .rec) (o .lines) s w) ∙ i);
+      clean = o .clean;
+      others = λ t′ v′ e h i. let y = o .others t′ v′ e in ap (λ (r : Line). r .dirty) y ∙ h (rw y at i);
     }
 
+sweeps-clean : (F : Allowed) (f : ℕ → ℕ → State → State) → Sweeps F f → Cleans F f
+sweeps-clean F f h x q none t v ht hv =
+    let o = h x q t v ht hv in
+    record {
+      step = record { good = o .good; kept = o .kept };
+      l1dNone = λ s w i. let y = o .fewer s w i in none s w (rw y at i);
+      clean = λ i. o .done i .0;
+      others = λ t′ v′ e h′ i. o .unsoiled t′ v′ e (λ s w k _. absurd (none s w k)) ∙ h′ (sym (o .valid t′ v′ e) ∙ i);
+    }
+
+-- ---- all slots of L2, one after another: those before slot k are clean
+record L2CleanTo (z : State) (F : Allowed) (k : ℕ) (x : State) : Type 0 where
+  step : Step z F x
+  l1dNone : L1dNone x
+  clean : (t v : ℕ) → v < 4 → t * 4 + v < k → Valid (l2Level x) t v → l2LineAt (x .rec) t v .dirty ≡ false
+
+l2-clean-next : (z : State) (F : Allowed) (k : ℕ) (x x′ : State) → L2CleanTo z F k x → Cleaned x F (k / 4) (k % 4) x′ → L2CleanTo z F (suc k) x′
+l2-clean-next z F k x x′ u o =
+    record {
+      step = step-trans z x x′ F (u .step) (o .step);
+      l1dNone = o .l1dNone;
+      clean = λ t v hv h. same-slot (k / 4) (k % 4) t v
+          (λ e. let g = o .clean in rw (e .0, e .1) g)
+          (λ e. o .others t v e
+          (bool (eqb (t * 4 + v) k)
+          (λ y. let y′ = eqb-true (t * 4 + v) k y in absurd (e (omega arith, omega arith)))
+          (λ y. let y′ = eqb-false (t * 4 + v) k y in u .clean t v hv (omega arith))));
+    }
+
+-- L1D holds nothing, and no L2 line is dirty
 pub record AllOut (z : State) (F : Allowed) (x : State) : Type 0 where
   pub step : Step z F x
   pub l1dNone : (s w : ℕ) → Valid (l1dLevel x) s w → ⊥
   pub l2Clean : (t v : ℕ) → Valid (l2Level x) t v → l2LineAt (x .rec) t v .dirty ≡ false
 
-pub flushL2-good : (z : State) (F : Allowed) → Good z F → ((s w : ℕ) → Valid (l1dLevel z) s w → ⊥) → AllOut z F (flushL2 z)
-unfolding flushL2
-flushL2-good z F q none =
+all-clean : (F : Allowed) (f : ℕ → ℕ → State → State) → Cleans F f → (z : State) → Good z F → L1dNone z → AllOut z F (eachL2 f z)
+unfolding eachL2
+all-clean F f h z q none =
     let n = l2SetsOf (z .rec) * 4 in
-    let x = each (λ k. writeOutL2 (k / 4) (k % 4)) n z in
+    let x = each (λ k. f (k / 4) (k % 4)) n z in
     let u : L2CleanTo z F n x =
-    each-by (λ k y. L2CleanTo z F k y) (λ k. writeOutL2 (k / 4) (k % 4)) n z
+    each-by (λ k y. L2CleanTo z F k y) (λ k. f (k / 4) (k % 4)) n z
     (record { step = step-refl z F q; l1dNone = none; clean = λ t v hv h. absurd (omega arith) })
     (λ k hk y u.
-    let h : k / 4 < l2SetsOf (z .rec) = omega arith in
-    l2-clean-next z F k y (writeOutL2 (k / 4) (k % 4) y) u
-    (writeOutL2-good y F (u .step .good) (k / 4) (k % 4) (rw (u .step .kept .mode) h) (omega arith) (λ _ s w i. absurd (u .l1dNone s w i)))) in
+    let l : k / 4 < l2SetsOf (z .rec) = omega arith in
+    l2-clean-next z F k y (f (k / 4) (k % 4) y) u
+    (h y (u .step .good) (u .l1dNone) (k / 4) (k % 4) (rw (u .step .kept .mode) l) (omega arith))) in
     let m : l2SetsOf (x .rec) ≡ l2SetsOf (z .rec) = ap (λ (y : ℕ). l2Sets y) (u .step .kept .mode) in
     record {
       step = u .step;
@@ -253,8 +204,63 @@ flushL2-good z F q none =
       l2Clean = λ t v i. let b = l2-bounds x F (u .step .good) t v i in let b₀ = b .0 in let b₁ = b .1 in u .clean t v b₁ (omega arith) i;
     }
 
-pub flush-good : (z : State) (F : Allowed) → Good z F → AllOut z F (flushL2 (sweptL1d z))
-flush-good z F q =
+-- all of L1D, then all of L2
+all-out : (F : Allowed) (f : ℕ → ℕ → State → State) → Cleans F f → (z : State) → Good z F → AllOut z F (eachL2 f (sweptL1d z))
+all-out F f h z q =
     let a = sweptL1d-good z F q in
-    let b = flushL2-good (sweptL1d z) F (a .step .good) (a .l1dNone) in
-    record { step = step-trans z (sweptL1d z) (flushL2 (sweptL1d z)) F (a .step) (b .step); l1dNone = b .l1dNone; l2Clean = b .l2Clean }
+    let b = all-clean F f h (sweptL1d z) (a .step .good) (a .l1dNone) in
+    record { step = step-trans z (sweptL1d z) (eachL2 f (sweptL1d z)) F (a .step) (b .step); l1dNone = b .l1dNone; l2Clean = b .l2Clean }
+
+-- ---- the flush of a mode change
+pub flush-good : (z : State) (F : Allowed) → Good z F → AllOut z F (flushL2 (sweptL1d z))
+unfolding flushL2 eachL2
+flush-good z F q = all-out F writeOutL2 (writeOut-cleans F) z q
+
+-- ---- the commands
+module _ (F : Allowed) where
+  pub writebackL2-sweeps : Sweeps F writebackL2
+  writebackL2-sweeps x g t v ht hv = writebackL2-good x F g t v ht hv
+
+  pub evictL2-sweeps : Sweeps F evictL2
+  evictL2-sweeps x g t v ht hv = evictL2-good x F g t v ht hv .swept
+
+module _ (z : State) (F : Allowed) (q : Good z F) where
+  -- L1D first; in mode 0 there are no L2 ways to go through
+  over-all : (f : ℕ → ℕ → State → State) → Sweeps F f → AllOut z F (unlessMode0 (eachL2 f) (evictAllL1d z))
+  unfolding evictAllL1d
+  over-all f h = rw (no-ways f (sweptL1d z)) (all-out F f (sweeps-clean F f h) z q)
+
+  pub l2WritebackAll-good : AllOut z F (l2WritebackAll z)
+  unfolding l2WritebackAll
+  l2WritebackAll-good = over-all writebackL2 (writebackL2-sweeps F)
+
+  pub l2WritebackInvalidateAll-good : AllOut z F (l2WritebackInvalidateAll z)
+  unfolding l2WritebackInvalidateAll
+  l2WritebackInvalidateAll-good = over-all evictL2 (evictL2-sweeps F)
+
+  pub l1dWritebackInvalidateBlock-good : (b c : ℕ) → Step z F (l1dWritebackInvalidateBlock b c z)
+  unfolding l1dWritebackInvalidateBlock
+  l1dWritebackInvalidateBlock-good b c =
+      touched-good z F q 64 (atL1d evictL1d) (λ a x g. atL1d-good x F g evictL1d (λ s w hs hw. evictL1d-step x F g s w hs hw) a) b c
+
+pub l2-block : (z : State) (F : Allowed) → Good z F → (f : ℕ → ℕ → State → State) → Sweeps F f → (b c : ℕ) →
+    Step z F (unlessMode0 (eachTouched 128 (atL2 f) b c) z)
+l2-block z F q f h b c =
+    unless-good z F q (eachTouched 128 (atL2 f) b c)
+    (touched-good z F q 128 (atL2 f) (λ a x g. atL2-good x F g f (λ t v _ ht hv. swept-step x F t v (f t v x) (h x g t v ht hv)) a) b c)
+
+module _ (z : State) (F : Allowed) (q : Good z F) where
+  -- the touched lines of L1D first
+  over-block : (f : ℕ → ℕ → State → State) → Sweeps F f → (b c : ℕ) →
+      Step z F (unlessMode0 (eachTouched 128 (atL2 f) b c) (l1dWritebackInvalidateBlock b c z))
+  over-block f h b c =
+      let y = l1dWritebackInvalidateBlock b c z in let s = l1dWritebackInvalidateBlock-good z F q b c in
+      step-trans z y (unlessMode0 (eachTouched 128 (atL2 f) b c) y) F s (l2-block y F (s .good) f h b c)
+
+  pub l2WritebackBlock-good : (b c : ℕ) → Step z F (l2WritebackBlock b c z)
+  unfolding l2WritebackBlock
+  l2WritebackBlock-good b c = over-block writebackL2 (writebackL2-sweeps F) b c
+
+  pub l2WritebackInvalidateBlock-good : (b c : ℕ) → Step z F (l2WritebackInvalidateBlock b c z)
+  unfolding l2WritebackInvalidateBlock
+  l2WritebackInvalidateBlock-good b c = over-block evictL2 (evictL2-sweeps F) b c

@@ -16,7 +16,7 @@ use Rattle.model.specs.Bytes.{part, stored, littleBytes}
 use Rattle.model.specs.Records.{State, freshState}
 use Rattle.model.specs.Flat.{Flat, freshFlat, flatStep, flatAfter}
 use Rattle.model.specs.Calls.{Reply, Run, ran, step, call, putAnswer, runFrom, runCall, commandAt, putReply, Call, oneCommand, after, commands}
-use Rattle.model.specs.Demand.{listedCode, listed, compared, modeAlong}
+use Rattle.model.specs.Demand.{listedCode, listed, compared}
 use Rattle.model.specs.Traces.{TurnsSuffice, carriedFrom, carried, AnswersAre, Carries, RunIsCalls, AnswersAgree, Piece, pieceCommands, allCommands, RunAgrees, RunsAgree, TraceDemand3}
 use Rattle.model.specs.Laws.{bool, both-true, length-part, length-stored, length-littleBytes, part-at}
 use Rattle.model.specs.declared.Command.{Command}
@@ -25,7 +25,7 @@ use Rattle.agreement.proofs.Good.{Well, good-well}
 use Rattle.agreement.proofs.Reading.{decode-stable}
 use Rattle.agreement.proofs.Steps.{step-well}
 use Rattle.agreement.proofs.Tested.{well-due, call-step}
-use Rattle.agreement.proofs.Agreement.{Is, Matches, step-answered, agree, after-matches, ends-settled, fresh-matches, fresh-mode, fresh-accepted}
+use Rattle.agreement.proofs.Agreement.{Is, Matches, step-answered, agree, after-matches, ends-settled, fresh-matches, fresh-accepted}
 use Rattle.model.specs.Traces as T
 
 -- ---- the turns suffice: a turn more changes nothing, as long as there are as many as bytes left
@@ -182,32 +182,29 @@ commands-append : (cs ds : List Command) → commands (cs ++ ds) ≡ commands cs
 commands-append [] ds = refl
 commands-append (c ∷ cs) ds = ap (λ (x : List Call). oneCommand c ∷ x) (commands-append cs ds)
 
-run-agrees : (p : Piece) (mode : ℕ) (z : State) (f : Flat) → Matches z f → z .rec .mode ≡ mode → listed (commands (pieceCommands p)) ≡ true →
-    RunIsCalls (p .trace) (p .answers) z → RunAgrees mode p z f
-run-agrees p mode z f m e y r =
+run-agrees : (p : Piece) (z : State) (f : Flat) → Matches z f → listed (commands (pieceCommands p)) ≡ true →
+    RunIsCalls (p .trace) (p .answers) z → RunAgrees p z f
+run-agrees p z f m y r =
     record {
       answers = answers-agree (runCall (p .trace) (p .answers) z .answers) (pieceCommands p) 0 z f m y (r .answers-are);
-      places = agree (commands (pieceCommands p)) mode z f m e y;
-      ended = λ cs c i g n.
+      places = agree (commands (pieceCommands p)) z f m y;
+      ended = λ cs c i g.
           let j : commands (pieceCommands p) ≡ commands cs ++ (oneCommand c ∷ []) = ap commands i ∙ commands-append cs (c ∷ []) in
-          rw (r .next, j) (ends-settled (commands cs) c mode z f m e (rw j at y) g n);
+          rw (r .next, j) (ends-settled (commands cs) c z f m (rw j at y) g);
     }
 
-pub runs-agree : (ps : List Piece) (mode : ℕ) (z : State) (f : Flat) → Matches z f → z .rec .mode ≡ mode → listed (commands (allCommands ps)) ≡ true →
-    RunsAgree mode ps z f
+pub runs-agree : (ps : List Piece) (z : State) (f : Flat) → Matches z f → listed (commands (allCommands ps)) ≡ true →
+    RunsAgree ps z f
 unfolding allCommands
-runs-agree [] mode z f m e y = T.end
-runs-agree (p ∷ ps) mode z f m e y =
+runs-agree [] z f m y = T.end
+runs-agree (p ∷ ps) z f m y =
     let l = listed-append (pieceCommands p) (allCommands ps) y in
     let r = run-calls (p .trace) (p .answers) z (good-well z (Is f) (m .good)) in
     let x = runCall (p .trace) (p .answers) z .next in
-    let a = after-matches (commands (pieceCommands p)) mode z f m e (l .0) in
-    let m′ : Matches x (flatAfter (commands (pieceCommands p)) f) = rw (r .next) (a .0) in
-    let e′ : x .rec .mode ≡ modeAlong mode (commands (pieceCommands p)) z = rw (r .next) (a .1) in
-    T.next (run-agrees p mode z f m e (l .0) r)
-    (runs-agree ps (modeAlong mode (commands (pieceCommands p)) z) x (flatAfter (commands (pieceCommands p)) f) m′ e′ (l .1))
+    let m′ : Matches x (flatAfter (commands (pieceCommands p)) f) = rw (r .next) (after-matches (commands (pieceCommands p)) z f m (l .0)) in
+    T.next (run-agrees p z f m (l .0) r) (runs-agree ps x (flatAfter (commands (pieceCommands p)) f) m′ (l .1))
 
 pub trace-demand3 : TraceDemand3
 trace-demand3 d m e h ps y =
     let p = fresh-accepted d m e h in let s = p .2 in
-    rw s (runs-agree ps 0 (freshState (length m) e) (freshFlat (length m) e) (fresh-matches (length m) e (p .0) (p .1)) (fresh-mode (length m) e) y)
+    rw s (runs-agree ps (freshState (length m) e) (freshFlat (length m) e) (fresh-matches (length m) e (p .0) (p .1)) y)

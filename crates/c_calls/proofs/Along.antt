@@ -10,28 +10,28 @@ use Rattle.model.specs.Refusals.{viewDue}
 use Rattle.model.specs.Calls.{Reply, reply, freshCall, viewCall, viewDone, Call, oneCommand, freshStart, look, called}
 use Rattle.model.specs.declared.Command.{Command}
 use Rattle.tags.specs.Words.{recordIn}
-use Rattle.model.specs.Demand.{modeAfter, Settled, Agree, end, next}
+use Rattle.model.specs.Demand.{Settled, Agree, end, next}
 use Rattle.agreement.proofs.Agreement.{demand3}
 use Rattle.c_calls.specs.FromC.{Held, stateOf, Answered, replyOf, Chain, done, made, FromC, AgreeFromC, whole, also, Demand3FromC}
 
-along : (mode : ℕ) (cs : List Call) (h : Held) (r : Chain cs h) (f : Flat) → Agree mode cs (stateOf h) f → AgreeFromC mode cs h r f
-along mode [] h done f a = whole
-along mode (c ∷ cs) h (made x k p r) f (next a b) =
+along : (cs : List Call) (h : Held) (r : Chain cs h) (f : Flat) → Agree cs (stateOf h) f → AgreeFromC cs h r f
+along [] h done f a = whole
+along (c ∷ cs) h (made x k p r) f (next a b) =
     also
     (record {
       number = λ t. ap (λ (y : Reply). y .number) p ∙ a .number t;
       value = λ t. ap (λ (y : Reply). y .value) p ∙ a .value t;
-      settled = λ g n o. subst (λ (y : Reply). Settled (y .next) (flatCalled c f .next)) (sym p)
-          (a .settled g (sym (ap (λ (y : Reply). y .number) p) ∙ n) o);
+      settled = λ g n. subst (λ (y : Reply). Settled (y .next) (flatCalled c f .next)) (sym p)
+          (a .settled g (sym (ap (λ (y : Reply). y .number) p) ∙ n));
     })
-    (along (modeAfter c (replyOf x k) mode) cs k r (flatCalled c f .next)
-    (subst (λ (y : Reply). Agree (modeAfter c y mode) cs (y .next) (flatCalled c f .next)) (sym p) b))
+    (along cs k r (flatCalled c f .next)
+    (subst (λ (y : Reply). Agree cs (y .next) (flatCalled c f .next)) (sym p) b))
 
 pub demand3-from-c : Demand3FromC
 demand3-from-c d m e x h q z cs l r =
     let accepted : freshCall d m e .number ≡ 0 = sym (ap (λ (y : Reply). y .number) q) ∙ z in
-    along 0 cs h r (freshFlat (length m) e)
-    (subst (λ (y : Reply). Agree 0 cs (y .next) (freshFlat (length m) e)) (sym q) (demand3 d m e accepted cs l))
+    along cs h r (freshFlat (length m) e)
+    (subst (λ (y : Reply). Agree cs (y .next) (freshFlat (length m) e)) (sym q) (demand3 d m e accepted cs l))
 
 -- ---- what the contracts of crate boundary say makes such a call: a command's, the fresh start's, and the view's,
 -- whose number and bytes C is given and which leaves words and bytes as they are

@@ -4,13 +4,12 @@
 use Prim.Native.Nat.{ℕ}
 use mathlib.Core.Bool.{true}
 use mathlib.Core.Path.{_≡_}
-use mathlib.Core.Logic.{_≢_}
 use mathlib.Core.List.{List, [], _∷_}
 use lib.ListN.{length}
 use Rattle.model.specs.Records.{State, state}
 use Rattle.model.specs.Flat.{Flat, freshFlat, flatCalled}
 use Rattle.model.specs.Calls.{Reply, freshCall, Call, called}
-use Rattle.model.specs.Demand.{listed, compared, global, modeAfter, Settled}
+use Rattle.model.specs.Demand.{listed, compared, global, Settled}
 use Rattle.tags.specs.Words.{recordIn}
 
 -- what C holds between calls: the words of its record, and the three memories
@@ -43,23 +42,22 @@ pub data Chain : List Call → Held → Type 0 where
   made : {c : Call} {cs : List Call} {h : Held} (x : Answered) (k : Held) → FromC c h x k → Chain cs k → Chain (c ∷ cs) h
 
 -- ---- what agrees at one place, flat memory being in state f before the call: the number and the value that C was
--- answered; after an accepted global writeback in a mode other than 0, C's external memory is flat memory's and no line
--- of it is dirty in C's record
-pub record SameAt (mode : ℕ) (c : Call) (x : Answered) (k : Held) (f : Flat) : Type 0 where
+-- answered; after an accepted global writeback, C's external memory and SRAM are flat memory's and no line is dirty in
+-- C's record
+pub record SameAt (c : Call) (x : Answered) (k : Held) (f : Flat) : Type 0 where
   pub number : compared c ≡ true → x .number ≡ flatCalled c f .number
   pub value : compared c ≡ true → x .value ≡ flatCalled c f .value
-  pub settled : global c ≡ true → x .number ≡ 0 → mode ≢ 0 → Settled (stateOf k) (flatCalled c f .next)
+  pub settled : global c ≡ true → x .number ≡ 0 → Settled (stateOf k) (flatCalled c f .next)
 
 -- ---- along the whole list
-pub data AgreeFromC : ℕ → (cs : List Call) (h : Held) → Chain cs h → Flat → Type 0 where
-  whole : {mode : ℕ} {h : Held} {f : Flat} → AgreeFromC mode [] h done f
-  also : {mode : ℕ} {c : Call} {cs : List Call} {h k : Held} {x : Answered} {p : FromC c h x k} {r : Chain cs k} {f : Flat} →
-      SameAt mode c x k f → AgreeFromC (modeAfter c (replyOf x k) mode) cs k r (flatCalled c f .next) →
-      AgreeFromC mode (c ∷ cs) h (made x k p r) f
+pub data AgreeFromC : (cs : List Call) (h : Held) → Chain cs h → Flat → Type 0 where
+  whole : {h : Held} {f : Flat} → AgreeFromC [] h done f
+  also : {c : Call} {cs : List Call} {h k : Held} {x : Answered} {p : FromC c h x k} {r : Chain cs k} {f : Flat} →
+      SameAt c x k f → AgreeFromC cs k r (flatCalled c f .next) → AgreeFromC (c ∷ cs) h (made x k p r) f
 
 -- ---- demand 3 for what C links: from an accepted fresh start, whatever words and bytes were lent to it, for every
 -- list
 abbrev pub Demand3FromC : Type 0
 Demand3FromC =
     (d m e : List ℕ) (x : Answered) (h : Held) → replyOf x h ≡ freshCall d m e → x .number ≡ 0 →
-    (cs : List Call) → listed cs ≡ true → (r : Chain cs h) → AgreeFromC 0 cs h r (freshFlat (length m) e)
+    (cs : List Call) → listed cs ≡ true → (r : Chain cs h) → AgreeFromC cs h r (freshFlat (length m) e)

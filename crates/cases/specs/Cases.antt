@@ -5,6 +5,7 @@ use mathlib.Core.Bool.{cond}
 use mathlib.Core.List.{List, [], _∷_, map}
 use mathlib.Core.Path.{_≡_, refl}
 use lib.ListN.{replicate}
+use Rattle.model.specs.Bytes.{little, part}
 use Rattle.model.specs.Lines.{l1dSetOf, l2SetIn, l2Sets}
 use Rattle.model.specs.Records.{State, l1dLineAt, freshState}
 use Rattle.model.specs.Ways.{l1dWay}
@@ -66,7 +67,8 @@ mar128 = oneCommand (command 11 128 1 0)
 abbrev fourReads : List Call
 fourReads = mar128 ∷ reads 1 0x80000000 ∷ reads 1 0x80002000 ∷ reads 1 0x80000000 ∷ reads 1 0x80004000 ∷ []
 
--- C10: "mode 0, dirty L1D line of external memory, L2 writeback-invalidate all"
+-- C10: "mode 0, dirty L1D line of external memory, L2 writeback-invalidate all: it stays dirty." is struck by 02, U10:
+-- "Case C10 turns: the line goes out and is dropped"
 abbrev written : List Call
 written = mar128 ∷ reads 1 0x80000000 ∷ writes 1 0x80000000 7 ∷ oneCommand (command 3 0 0 0) ∷ []
 
@@ -86,8 +88,8 @@ rows start small =
     ∷ case 8 (numbers (mode 1 ∷ reads 1 0 ∷ []) small) (0 ∷ 5 ∷ [])
     -- the second line is in no way; the others have one each
     ∷ case 9 (ways (0x80000000 ∷ 0x80002000 ∷ 0x80004000 ∷ []) (after fourReads start)) (0 ∷ 2 ∷ 1 ∷ [])
-    -- it is valid and dirty
-    ∷ case 10 (only (marks (l1dLineAt (after written start .rec) 0 0))) (only 3)
+    -- it is not valid, and external memory has its byte
+    ∷ case 10 (marks (l1dLineAt (after written start .rec) 0 0) ∷ little (part (after written start .ext) 0 64) ∷ []) (0 ∷ 7 ∷ [])
     ∷ []
 
 pub cases : List Case

@@ -1,7 +1,7 @@
 -- Every command that is neither a read nor a write, by its code: the number due, the state after it, and both
 -- together as a step of paper 01.
 use Prim.Native.Nat.{ℕ, suc, _/_, _%_, _≤_, _<_}
-use mathlib.Core.Bool.{false, not, _&&_, _||_}
+use mathlib.Core.Bool.{false, not, cond, _&&_, _||_}
 use mathlib.Core.Path.{_≡_, refl, sym, ap, _∙_}
 use mathlib.Core.Logic.{_≢_}
 use native.Mathlib.Omega.{arith}
@@ -12,7 +12,7 @@ use Rattle.model.specs.Memories.{isMode}
 use Rattle.model.specs.Records.{State}
 use Rattle.model.specs.Modes.{changeMode, changeMar}
 use Rattle.model.specs.Refusals.{lowestDue, unless, blockDue, modeDue, marDue, holdsRange}
-use Rattle.model.specs.Commands.{atL2, atL1d, eachTouched, eachL2, unlessMode0, l2WritebackAll, l2WritebackInvalidateAll, l2WritebackBlock, l2WritebackInvalidateBlock, l2InvalidateBlock, l1dWritebackInvalidateBlock, l1dInvalidateBlock, l1dInvalidateAll}
+use Rattle.model.specs.Commands.{atL2, atL1d, eachTouched, eachL2, unlessMode0, evictAllL1d, l2WritebackAll, l2WritebackInvalidateAll, l2WritebackBlock, l2WritebackInvalidateBlock, l2InvalidateBlock, l1dWritebackInvalidateBlock, l1dInvalidateBlock, l1dInvalidateAll}
 use Rattle.model.specs.Calls.{reply, commandDue, commandState, accepted, step}
 use Rattle.model.specs.Laws.{bool, both-true, no-ways}
 use Rattle.model.specs.declared.Command.{Command}
@@ -22,6 +22,22 @@ use Rattle.l2_commands.specs.Steps.{l2Operation}
 -- a number from n on is n, or lies above it
 among {ℓ} : {A : Type ℓ} (m n : ℕ) → n ≤ m → (m ≡ n → A) → (suc n ≤ m → A) → A
 among m n h f g = bool (eqb m n) (λ e. f (eqb-true m n e)) (λ e. let d = eqb-false m n e in g (omega arith))
+
+-- ---- the L2 commands over a block, codes 4 to 6, by their code: the L1D command that each begins with, and all of it
+unfoldable pub l1dCode : ℕ → ℕ
+l1dCode code = cond (eqb code 6) 8 7
+
+pub code-6 : (code : ℕ) → code ≡ 6 → 8 ≡ l1dCode code
+unfolding l1dCode
+code-6 code e = rw e refl
+
+pub code-else : (code : ℕ) → code ≢ 6 → 7 ≡ l1dCode code
+unfolding l1dCode
+code-else code h = rw (ne-eqb code 6 h) refl
+
+unfoldable pub overBlock : ℕ → ℕ → ℕ → State → State
+overBlock code b n z =
+    unlessMode0 (eachTouched 128 (atL2 (l2Operation code)) b n) (eachTouched 64 (atL1d (l1dOperation (l1dCode code))) b n z)
 
 module _ (c : Command) (z : State) where
   -- ---- the number due
@@ -82,13 +98,13 @@ module _ (c : Command) (z : State) where
   due-mar e n h = rw e h
 
   -- ---- the state
-  pub state-all : 2 ≤ c .code → c .code < 4 → (y : State) → y ≡ eachL2 (l2Operation (c .code)) z → y ≡ commandState c z
+  pub state-all : 2 ≤ c .code → c .code < 4 → (y : State) → y ≡ unlessMode0 (eachL2 (l2Operation (c .code))) (evictAllL1d z) → y ≡ commandState c z
   unfolding commandState l2Operation l2WritebackAll l2WritebackInvalidateAll
   state-all h k y e =
-      e ∙ among (c .code) 2 h (λ q. rw q (sym (no-ways _ z))) (λ g. let q : c .code ≡ 3 = omega arith in rw q (sym (no-ways _ z)))
+      e ∙ among (c .code) 2 h (λ q. rw q refl) (λ g. let q : c .code ≡ 3 = omega arith in rw q refl)
 
-  pub state-l2-block : 4 ≤ c .code → c .code < 7 → (y : State) → y ≡ unlessMode0 (eachTouched 128 (atL2 (l2Operation (c .code))) (c .first) (c .second)) z → y ≡ commandState c z
-  unfolding commandState l2Operation l2WritebackBlock l2WritebackInvalidateBlock l2InvalidateBlock
+  pub state-l2-block : 4 ≤ c .code → c .code < 7 → (y : State) → y ≡ overBlock (c .code) (c .first) (c .second) z → y ≡ commandState c z
+  unfolding commandState overBlock l1dCode l1dOperation l2Operation l2WritebackBlock l2WritebackInvalidateBlock l2InvalidateBlock l1dWritebackInvalidateBlock l1dInvalidateBlock
   state-l2-block h k y e =
       e ∙ among (c .code) 4 h (λ q. rw q refl) (λ g. among (c .code) 5 g (λ q. rw q refl) (λ g′. let q : c .code ≡ 6 = omega arith in rw q refl))
 
@@ -107,6 +123,18 @@ module _ (c : Command) (z : State) where
   pub state-mar : c .code ≡ 11 → (y : State) → y ≡ changeMar (c .first) (c .second) z → y ≡ commandState c z
   unfolding commandState
   state-mar q y e = rw q e
+
+-- ---- an L2 command over all lines, or over a block: what its two loops did, one behind the other
+pub over-all : (code : ℕ) (z y x : State) → y ≡ each (λ k. l1dOperation 7 (k / 2) (k % 2)) 256 z → x ≡ eachL2 (l2Operation code) y →
+    x ≡ unlessMode0 (eachL2 (l2Operation code)) (evictAllL1d z)
+unfolding evictAllL1d l1dOperation
+over-all code z y x e f = f ∙ sym (no-ways (l2Operation code) y) ∙ ap (unlessMode0 (eachL2 (l2Operation code))) e
+
+pub over-block : (code k b n : ℕ) (z y x : State) → k ≡ l1dCode code → y ≡ eachTouched 64 (atL1d (l1dOperation k)) b n z →
+    x ≡ unlessMode0 (eachTouched 128 (atL2 (l2Operation code)) b n) y → x ≡ overBlock code b n z
+unfolding overBlock
+over-block code k b n z y x g e f =
+    f ∙ ap (unlessMode0 (eachTouched 128 (atL2 (l2Operation code)) b n)) (e ∙ ap (λ (j : ℕ). eachTouched 64 (atL1d (l1dOperation j)) b n z) g)
 
 -- ---- what an accepted change knows of its operands: the mode is a byte, the bit 0 or 1
 pub mode-byte : (l m : ℕ) → modeDue l m ≡ 0 → m < 256

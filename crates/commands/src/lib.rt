@@ -6,9 +6,12 @@ ghost use mathlib.Core.List.{List};
 ghost use Prim.Native.Nat.{ℕ, _<_, _≤_};
 ghost use lib.ListN.{length};
 ghost use Rattle.model.specs.Records.{state};
+ghost use Rattle.model.specs.Commands.{eachL2, unlessMode0, evictAllL1d};
 ghost use Rattle.model.specs.Calls.{reply, commandDue, commandState, step};
 ghost use Rattle.tags.specs.Words.{recordWords, recordIn, stateIn};
 ghost use Rattle.tags.specs.Sizes.{Lent};
+ghost use Rattle.l2_commands.specs.Steps.{l2Operation};
+ghost use Rattle.commands.specs.Codes.{l1dCode, overBlock};
 use model::Command;
 
 // The number that is due, 0 where none is; the memories, whatever they are, do not matter.
@@ -34,6 +37,55 @@ pub fn command_due(tags: &[u32], c: Command) -> u8
     11
 }
 
+// A command over all of L2, codes 2 and 3: L1D is emptied first, dirty lines going home.
+pub fn l2_over_all(
+    tags: &mut [u32],
+    sram: usize,
+    sets: usize,
+    code: u8,
+    l1d: &[u8],
+    l2: &mut [u8],
+    ext: &mut [u8],
+)
+    requires { ⌜ code ≢ 6 ⌝ }
+    requires { ⌜ Lent sram sets (now tags) ⌝ }
+    ensures { λ _. ⌜ stateIn (now (tags .exit)) (now (l1d .entry)) (now (l2 .exit)) (now (ext .exit))
+        ≡ unlessMode0 (eachL2 (l2Operation code)) (evictAllL1d (stateIn (now (tags .entry)) (now (l1d .entry)) (now (l2 .entry)) (now (ext .entry)))) ⌝ }
+{
+    l1d_commands::l1d_all(tags, sram, sets, 7, l1d, l2, ext);
+    l2_commands::l2_all(tags, sram, sets, code, l1d, l2, ext);
+}
+
+// The command for L1D that an L2 command over a block begins with: writeback-invalidate, or invalidate for invalidate.
+pub fn l1d_code(code: u8) -> u8
+    ensures { λ k. ⌜ k ≡ l1dCode code ⌝ }
+{
+    if code == 6 {
+        return 8;
+    }
+    7
+}
+
+// A command over the L2 lines that a block touches, codes 4 to 6: the L1D lines that it touches come first.
+pub fn l2_over_block(
+    tags: &mut [u32],
+    sram: usize,
+    sets: usize,
+    code: u8,
+    base: u32,
+    count: u32,
+    l1d: &[u8],
+    l2: &mut [u8],
+    ext: &mut [u8],
+)
+    requires { ⌜ Lent sram sets (now tags) ⌝ }
+    ensures { λ _. ⌜ stateIn (now (tags .exit)) (now (l1d .entry)) (now (l2 .exit)) (now (ext .exit))
+        ≡ overBlock code base count (stateIn (now (tags .entry)) (now (l1d .entry)) (now (l2 .entry)) (now (ext .entry))) ⌝ }
+{
+    l1d_commands::l1d_block(tags, sram, sets, l1d_code(code), base, count, l1d, l2, ext);
+    l2_commands::l2_block(tags, sram, sets, code, base, count, l1d, l2, ext);
+}
+
 // An accepted cache command, codes 2 to 9.
 pub fn sweep(
     tags: &mut [u32],
@@ -50,11 +102,11 @@ pub fn sweep(
         ≡ commandState c (stateIn (now (tags .entry)) (now (l1d .entry)) (now (l2 .entry)) (now (ext .entry))) ⌝ }
 {
     if c.code < 4 {
-        l2_commands::l2_all(tags, sram, sets, c.code, l1d, l2, ext);
+        l2_over_all(tags, sram, sets, c.code, l1d, l2, ext);
         return;
     }
     if c.code < 7 {
-        l2_commands::l2_block(tags, sram, sets, c.code, c.first, c.second, l1d, l2, ext);
+        l2_over_block(tags, sram, sets, c.code, c.first, c.second, l1d, l2, ext);
         return;
     }
     if c.code < 9 {

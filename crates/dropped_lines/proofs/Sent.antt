@@ -1,7 +1,8 @@
 -- A writeback that reached an address leaves no dirty line with it (`sent-clean`): where a step of an accepted command
 -- sent the line out to memory, as Reached tells it, neither cache has it dirty behind the command.
 -- Why: the step itself leaves the line clean or gone, and takes its halves out of L1D (crate agreement: `Swept`,
--- `L1dEvicted`). No later step of the same command makes it dirty again: an L2 line becomes dirty through a half in
+-- `L1dEvicted`); behind a global writeback no line is dirty at all. No later step of the same command makes it dirty
+-- again: an L2 line becomes dirty through a half in
 -- L1D, and L1D holds none of this one; a line that is fetched comes clean; and a write miss that put a line out
 -- writes into another line.
 use Prim.Native.Nat.{ℕ, zero, suc, _+_, _*_, _-_, _/_, _%_, _≤_, _<_}
@@ -36,10 +37,10 @@ use Rattle.agreement.proofs.Evict.{Clear, memory-free, evictL1d-good, left-free
 use Rattle.agreement.proofs.Writeback.{Swept, evictL2-good}
 use Rattle.agreement.proofs.Fetch.{AccessFits, cacheable-yes, fetchL2-good}
 use Rattle.agreement.proofs.ReadWrite.{Step}
-use Rattle.agreement.proofs.Sweeps.{Sweeps, step-refl, step-trans, atL1d-good, atL2-good, evictL1d-step, swept-step, writebackL2-sweeps, evictL2-sweeps, l2WritebackAll-good, l2WritebackInvalidateAll-good, l2WritebackBlock-good, l2WritebackInvalidateBlock-good, l1dWritebackInvalidateBlock-good}
+use Rattle.agreement.proofs.Sweeps.{Sweeps, AllOut, each-by, step-refl, step-trans, atL1d-good, atL2-good, evictL1d-step, swept-step, writebackL2-sweeps, evictL2-sweeps, l2-block, l2WritebackAll-good, l2WritebackInvalidateAll-good, l1dWritebackInvalidateBlock-good}
 use Rattle.agreement.proofs.Due.{accepted-fits, accepted-read, accepted-write}
 use Rattle.agreement.proofs.Steps.{codes}
-use Rattle.dropped_lines.specs.Reached.{within, outOfL2, l1dSends, l2Sends, fetchSends, readSends, writeSends, oneSends, allSend, touchedSend, touchedL1dSend, lineOfBlock, chosen, sends}
+use Rattle.dropped_lines.specs.Reached.{within, outOfL2, l1dSends, l2Sends, fetchSends, readSends, writeSends, Going, goOn, oneSends, touchedSend, touchedL1dSend, overBlockSend, lineOfBlock, chosen, sends}
 use Rattle.dropped_lines.specs.Stronger.{inDirtyLine}
 use Rattle.dropped_lines.proofs.Held.{no-dirty}
 
@@ -147,18 +148,27 @@ module _ (z : State) (F : Allowed) (q : Good z F) (f : ℕ → State → State) 
   steps zero h = step-refl z F q
   steps (suc m) h = let w = steps m (omega arith) in step-trans z (each f m z) (f m (each f m z)) F w (fine m (omega arith) (each f m z) w)
 
+  -- how far they have come
+  abbrev gone : ℕ → Going
+  gone m = each (goOn f sent) m (record { reached = z; sent = false })
+
+  gone-to : (m : ℕ) → gone m .reached ≡ each f m z
+  unfolding each goOn
+  gone-to zero = refl
+  gone-to (suc m) = ap (f m) (gone-to m)
+
   loop-sent : (m : ℕ) → m ≤ n → oneSends f sent m z ≡ true → P (each f m z)
-  unfolding oneSends each
+  unfolding oneSends each goOn
   loop-sent zero h y = false-true y
   loop-sent (suc m) h y =
       let x = each f m z in let w = steps m (omega arith) in
-      either (oneSends f sent m z) (sent m x) y
-      (λ t. stays m (omega arith) x w (loop-sent m (omega arith) t)) (λ t. comes m (omega arith) x w t)
+      either (gone m .sent) (sent m (gone m .reached)) y
+      (λ t. stays m (omega arith) x w (loop-sent m (omega arith) t)) (λ t. comes m (omega arith) x w (rw (gone-to m) at t))
 
 sets-kept : (z z′ : State) → Kept z z′ → l2SetsOf (z′ .rec) ≡ l2SetsOf (z .rec)
 sets-kept z z′ k = ap (λ (x : Layout). x .sets) (k .layout)
 
--- all L2 lines, or those of a block
+-- the L2 lines of a block
 module _ (z : State) (F : Allowed) (q : Good z F) (f : ℕ → ℕ → State → State) (sw : Sweeps F f) (a : ℕ) where
   abbrev Out : State → Type 0
   Out x = (externalBase ≤ a) × OutOfL2 x a
@@ -173,22 +183,6 @@ module _ (z : State) (F : Allowed) (q : Good z F) (f : ℕ → ℕ → State →
   out-there z′ w n o =
       let e = eqb-false (l2SetsOf (z .rec)) 0 (sym (mode0-sets (z .rec)) ∙ n) in
       out-clean z′ F (w .good) a (o .0) (λ y. e (sym (sets-kept z z′ (w .kept)) ∙ y)) (o .1)
-
-  all-out : Step z F (unlessMode0 (eachL2 f) z) → allSend f a z ≡ true → inDirtyLine (unlessMode0 (eachL2 f) z) a ≡ false
-  unfolding allSend unlessMode0 eachL2
-  all-out w′ y =
-      let n = l2SetsOf (z .rec) * 4 in
-      let g : ℕ → State → State = λ i. f (i / 4) (i % 4) in
-      let p = both-true (not (mode0 (z .rec))) (oneSends g (λ i. l2Sends a (i / 4) (i % 4)) n z) y in
-      let swept : (k : ℕ) → k < n → (x : State) → Step z F x → Swept x F (k / 4) (k % 4) (g k x) =
-      λ k h x w. let s = sets-kept z x (w .kept) in sw x (w .good) (k / 4) (k % 4) (omega arith) (omega arith) in
-      let no = not-no (mode0 (z .rec)) (p .0) in
-      rw no (out-there (each g n z) (rw no at w′) no
-      (loop-sent z F q g (λ i. l2Sends a (i / 4) (i % 4)) Out n
-      (λ k h x w. swept-step x F (k / 4) (k % 4) (g k x) (swept k h x w))
-      (λ k h x w t. comes-out x (w .good) (k / 4) (k % 4) t (swept k h x w))
-      (λ k h x w o. stays-out x (k / 4) (k % 4) o (swept k h x w))
-      n (omega arith) (p .1)))
 
   -- the line of b, if L2 holds it
   at-line : (P : State → Type 0) (b : ℕ) (x : State) → Good x F → (inL2 x b ≡ false → P x) →
@@ -259,6 +253,22 @@ module _ (z : State) (F : Allowed) (q : Good z F) (a : ℕ) where
       l1d-comes l x (w .good) (i .0) (i .1))
       (λ k h x w o. l1d-stays (lineOfBlock 64 b k) x (w .good) o)
       n (omega arith) y
+
+-- the L2 lines of a block, behind that: L1D gets no line, and L2 never holds this one
+gone-stays : (z : State) (F : Allowed) (q : Good z F) (f : ℕ → ℕ → State → State) → Sweeps F f → (a : ℕ) → Gone z F q a z → (b c : ℕ) →
+    Free 64 (l1dLevel (unlessMode0 (eachTouched 128 (atL2 f) b c) z)) a
+unfolding unlessMode0 eachTouched
+gone-stays z F q f sw a o b c =
+    let n = linesTouched 128 b c in
+    let g : ℕ → State → State = λ k. atL2 f (lineOfBlock 128 b k) in
+    let P : State → Type 0 = λ x. Free 64 (l1dLevel x) a in
+    cond-elim P (mode0 (z .rec)) z (each g n z) (λ _. o .0)
+    (λ _. each-by (λ _ x. Step z F x × P x) g n z (step-refl z F q, o .0)
+    (λ k _ x p. let l = lineOfBlock 128 b k in let w = p .0 in (
+      step-trans z x (g k x) F w (atL2-good x F (w .good) f (λ t v _ ht hv. swept-step x F t v (f t v x) (sw x (w .good) t v ht hv)) l),
+      at-line z F q f sw a P l x (w .good) (λ _. p .1) (λ _ s s′ w′ i e. let y = s .fewer s′ w′ i in p .1 s′ w′ (rw y at i) (rw y at e)),
+    ))
+    .1)
 
 -- ---- accesses at b: the line that leaves L2 for the line of b
 module _ (z : State) (F : Allowed) (q : Good z F) (a b : ℕ) where
@@ -426,25 +436,39 @@ module _ (z : State) (q : Well z) (a m b v : ℕ) where
       cond-elim (λ (r : Reply). r .number ≡ 0 → y ≡ true → inDirtyLine (r .next) a ≡ false) (eqb d 0) (carriedOut z′) (refused d z)
       (λ _ _ t. h t) (λ t e. absurd (eqb-false d 0 t e))
 
+  -- after a global writeback no line is dirty at all
+  nothing-dirty : (z′ : State) → AllOut z Anything z′ → inDirtyLine z′ a ≡ false
+  nothing-dirty z′ u = no-dirty z′ a (λ s w i _ _. absurd (u .l1dNone s w i)) (λ t v′ i d _. false-true (sym (u .l2Clean t v′ i) ∙ d))
+
   clean-2 : Clean 2
-  unfolding step commandDue accepted commandState sends l2WritebackAll
-  clean-2 _ y = all-out z Anything q writebackL2 (writebackL2-sweeps Anything) a (l2WritebackAll-good z Anything q .step) y
+  unfolding step commandDue accepted commandState
+  clean-2 _ _ = nothing-dirty (l2WritebackAll z) (l2WritebackAll-good z Anything q)
 
   clean-3 : Clean 3
-  unfolding step commandDue accepted commandState sends l2WritebackInvalidateAll
-  clean-3 _ y = all-out z Anything q evictL2 (evictL2-sweeps Anything) a (l2WritebackInvalidateAll-good z Anything q .step) y
+  unfolding step commandDue accepted commandState
+  clean-3 _ _ = nothing-dirty (l2WritebackInvalidateAll z) (l2WritebackInvalidateAll-good z Anything q)
+
+  -- a block: sent by L1D first, or by L2 then
+  over-block : (f : ℕ → ℕ → State → State) → Sweeps Anything f → overBlockSend f a m b z ≡ true →
+      inDirtyLine (unlessMode0 (eachTouched 128 (atL2 f) m b) (l1dWritebackInvalidateBlock m b z)) a ≡ false
+  unfolding overBlockSend
+  over-block f sw y =
+      let z₁ = l1dWritebackInvalidateBlock m b z in let w = l1dWritebackInvalidateBlock-good z Anything q m b in
+      let z′ = unlessMode0 (eachTouched 128 (atL2 f) m b) z₁ in
+      let w′ = l2-block z₁ Anything (w .good) f sw m b in
+      either (touchedL1dSend a m b z) (touchedSend f a m b z₁) y
+      (λ t. let o = l1d-block-gone z Anything q a m b t in
+      let free = gone-stays z₁ Anything (w .good) f sw a o m b in
+      memory-clean z₁ z′ Anything (w′ .good) (w′ .kept) a (o .1) (λ s w₂ k _ e. free s w₂ k e))
+      (λ t. block-out z₁ Anything (w .good) f sw a m b w′ t)
 
   clean-4 : Clean 4
   unfolding step commandDue accepted commandState sends l2WritebackBlock
-  clean-4 =
-      block-clean (l2WritebackBlock m b z) (touchedSend writebackL2 a m b z)
-      (λ y. block-out z Anything q writebackL2 (writebackL2-sweeps Anything) a m b (l2WritebackBlock-good z Anything q m b) y)
+  clean-4 = block-clean (l2WritebackBlock m b z) (overBlockSend writebackL2 a m b z) (over-block writebackL2 (writebackL2-sweeps Anything))
 
   clean-5 : Clean 5
   unfolding step commandDue accepted commandState sends l2WritebackInvalidateBlock
-  clean-5 =
-      block-clean (l2WritebackInvalidateBlock m b z) (touchedSend evictL2 a m b z)
-      (λ y. block-out z Anything q evictL2 (evictL2-sweeps Anything) a m b (l2WritebackInvalidateBlock-good z Anything q m b) y)
+  clean-5 = block-clean (l2WritebackInvalidateBlock m b z) (overBlockSend evictL2 a m b z) (over-block evictL2 (evictL2-sweeps Anything))
 
   clean-7 : Clean 7
   unfolding step commandDue accepted commandState sends

@@ -2,7 +2,7 @@
 -- line with address a, 128 bytes for L2's command and 64 for L1D's, each line with a is still there behind it.
 -- Why: the command goes from touched line to touched line, and what it does at one of them empties the slots of that
 -- line alone, in L2 with both its halves in L1D.
-use Prim.Native.Nat.{ℕ, _+_, _*_, _/_, _≤_, _<_}
+use Prim.Native.Nat.{ℕ, _+_, _*_, _-_, _/_, _≤_, _<_}
 use mathlib.Core.Bool.{Bool, false, not, cond, _&&_, _||_}
 use mathlib.Core.Path.{_≡_, refl, sym, _∙_}
 use mathlib.Core.Logic.{_≢_}
@@ -12,11 +12,11 @@ use borrow.Author.Tests.{le-leb, lt-ltb, ne-eqb}
 use Rattle.model.specs.Lines.{l1dSetOf, l1dLine, l2Line, upperHalf, emptyLine}
 use Rattle.model.specs.Records.{State, mode0, l2SetOf, l1dLineAt, l2LineAt, withL1dLine, withL2Line}
 use Rattle.model.specs.Ways.{l1dWay, l2Way, inL1d, inL2, emptyL1d, emptyL2}
-use Rattle.model.specs.Commands.{linesTouched, eachTouched, atL1d, atL2, unlessMode0, dropL2, l2InvalidateBlock, l1dInvalidateBlock}
+use Rattle.model.specs.Commands.{blockEnd, linesTouched, eachTouched, atL1d, atL2, unlessMode0, dropL2, l2InvalidateBlock, l1dInvalidateBlock}
 use Rattle.model.specs.Refusals.{blockDue}
 use Rattle.model.specs.Trace.{command}
 use Rattle.model.specs.Calls.{Reply, refused, carriedOut, commandDue, commandState, accepted, step, Call, oneCommand, freshStart, look, called}
-use Rattle.model.specs.Laws.{false-true, cond-elim}
+use Rattle.model.specs.Laws.{bool, false-true, cond-elim}
 use Rattle.model.specs.declared.Command.{Command}
 use Rattle.agreement.proofs.Level.{Valid, same-slot}
 use Rattle.agreement.proofs.Good.{l1dLevel, l2Level, Anything, Well, l1d-hit, l2-hit, l2-bounds, l1d-replaced, l2-replaced}
@@ -102,6 +102,20 @@ away n c a y k h e =
     let u : a / n < c .first / n + linesTouched n (c .first) (c .second) = omega arith in
     false-true (sym (rw (le-leb (c .first / n) (a / n) l, lt-ltb (a / n) (c .first / n + linesTouched n (c .first) (c .second)) u) at y))
 
+-- nor then one of half the length: where a line of 64 bytes is touched, so is the one of 128 that it lies in
+outside-half : (c : Command) (a : ℕ) → touchesLine 128 c a ≡ false → (k : ℕ) → k < linesTouched 64 (c .first) (c .second) →
+    l1dLine ((c .first / 64 + k) * 64) ≢ l1dLine a
+unfolding linesTouched
+outside-half c a y k h e =
+    bool (eqb (c .second) 0)
+    (λ t. let h₀ : k < 0 = rw t at h in absurd (omega arith))
+    (λ t. let n = blockEnd (c .first) (c .second) in
+    let h₁ : k < (n - 1) / 64 - c .first / 64 + 1 = rw t at h in
+    let l : c .first / 128 ≤ a / 128 = omega arith in
+    let u : a / 128 < c .first / 128 + ((n - 1) / 128 - c .first / 128 + 1) = omega arith in
+    false-true
+    (sym (rw (t, le-leb (c .first / 128) (a / 128) l, lt-ltb (a / 128) (c .first / 128 + ((n - 1) / 128 - c .first / 128 + 1)) u) at y)))
+
 block-spared : (a n : ℕ) (f : ℕ → State → State) → ((b : ℕ) (x : State) → Well x → Dropped x (f b x)) →
     (z : State) → Well z → (b c : ℕ) → ((k : ℕ) → k < linesTouched n b c → (x : State) → Well x → Spares a x (f ((b / n + k) * n) x)) →
     Spares a z (eachTouched n f b c z)
@@ -130,13 +144,18 @@ module _ (z : State) (q : Well z) (a m b v : ℕ) where
       cond-elim (λ (r : Reply). (eqb (r .number) 0 && y) ≡ false → Lost (r .next) ≡ false) (eqb d 0) (carriedOut z′) (refused d z)
       (λ _ e. spares-dirty a z z′ w (h e)) (λ _ _. spares-dirty a z z q (spares-refl a z))
 
+  -- the L1D lines that the block touches lie in L2 lines that it touches
   touched-6 : Touched 6
-  unfolding step commandDue accepted commandState dropTouches loses l2InvalidateBlock unlessMode0
+  unfolding step commandDue accepted commandState dropTouches loses l2InvalidateBlock l1dInvalidateBlock unlessMode0
   touched-6 =
       unless-lost (l2InvalidateBlock m b z) (l2InvalidateBlock-dropped z q m b .step .good) (touchesLine 128 (command 6 m b v) a)
-      (λ y. cond-elim (Spares a z) (mode0 (z .rec)) z (eachTouched 128 (atL2 dropL2) m b z) (λ _. spares-refl a z)
-      (λ _. block-spared a 128 (atL2 dropL2) (λ b′ x g. atL2-dropped x g b′) z q m b
-      (λ k h x g. let n = away 128 (command 6 m b v) a y k h in spared-l2 a ((m / 128 + k) * 128) x g (λ e. n (omega arith)))))
+      (λ y. let z₁ = l1dInvalidateBlock m b z in let g = l1dInvalidateBlock-dropped z q m b .step .good in
+      let p : Spares a z z₁ = block-spared a 64 (atL1d emptyL1d) (λ b′ x g′. atL1d-dropped x g′ b′) z q m b
+      (λ k h x g′. spared-l1d a ((m / 64 + k) * 64) x g′ (outside-half (command 6 m b v) a y k h)) in
+      cond-elim (Spares a z) (mode0 (z₁ .rec)) z₁ (eachTouched 128 (atL2 dropL2) m b z₁) (λ _. p)
+      (λ _. spares-trans a z z₁ (eachTouched 128 (atL2 dropL2) m b z₁) p
+      (block-spared a 128 (atL2 dropL2) (λ b′ x g′. atL2-dropped x g′ b′) z₁ g m b
+      (λ k h x g′. let n = away 128 (command 6 m b v) a y k h in spared-l2 a ((m / 128 + k) * 128) x g′ (λ e. n (omega arith))))))
 
   touched-8 : Touched 8
   unfolding step commandDue accepted commandState dropTouches loses l1dInvalidateBlock

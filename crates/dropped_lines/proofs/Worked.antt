@@ -1,7 +1,8 @@
 -- Short lists of calls from a fresh start, and for each call which of a few addresses a writeback reached (`reached`):
 -- rows that hold by computing. What is proved of the sentences says nothing of an event that is forgotten; these rows
 -- do, one for each call that sends a line out, with the clean half of an L2 line, a writeback that goes no further than
--- L2, and a line that is clean.
+-- L2, and a line that is clean. The commands are carried out without checks 1 and 2, which would go through all lent
+-- bytes each time: a record that is well formed stays so.
 use Prim.Native.Nat.{ℕ}
 use mathlib.Core.Bool.{Bool, true, false}
 use mathlib.Core.List.{List, [], _∷_, map}
@@ -9,18 +10,19 @@ use mathlib.Core.Path.{_≡_, refl}
 use lib.ListN.{replicate}
 use Rattle.model.specs.Records.{State, freshState}
 use Rattle.model.specs.Trace.{command}
-use Rattle.model.specs.Calls.{Call, oneCommand, called}
+use Rattle.model.specs.Calls.{Reply, step, oneCommand}
 use Rattle.model.specs.Opened.{opened}
-use Rattle.dropped_lines.specs.Reached.{l1dSends, l2Sends, fetchSends, readSends, writeSends, oneSends, allSend, touchedSend, touchedL1dSend, sends}
+use Rattle.model.specs.declared.Command.{Command}
+use Rattle.dropped_lines.specs.Reached.{goOn, l1dSends, l2Sends, fetchSends, readSends, writeSends, oneSends, allSend, touchedSend, touchedL1dSend, allL1dSend, overAllSend, overBlockSend, sends}
 use Rattle.dropped_lines.specs.Dropped.{changesMode, reached}
 
--- ---- a place: the call, and what is told of each address
+-- ---- a place: the command, and what is told of each address
 pub record Place : Type 0 where
-  pub call : Call
+  pub asked : Command
   pub told : List Bool
 
 abbrev at : ℕ → ℕ → ℕ → ℕ → List Bool → Place
-at code a b v ts = record { call = oneCommand (command code a b v); told = ts }
+at code a b v ts = record { asked = command code a b v; told = ts }
 
 abbrev reads : ℕ → List Bool → Place
 reads a ts = at 0 1 a 0 ts
@@ -40,9 +42,12 @@ mode m ts = at 10 m 0 0 ts
 abbrev mar128 : List Bool → Place
 mar128 ts = at 11 128 1 0 ts
 
+unfoldable pub tells : List ℕ → Command → State → Reply → (State → List (List Bool)) → List (List Bool)
+tells bs k z r rest = map (λ b. reached (oneCommand k) z r b) bs ∷ rest (r .next)
+
 unfoldable pub along : List ℕ → List Place → State → List (List Bool)
 along bs [] z = []
-along bs (p ∷ ps) z = map (λ b. reached (p .call) z (called (p .call) z) b) bs ∷ along bs ps (called (p .call) z .next)
+along bs (p ∷ ps) z = tells bs (p .asked) z (step (p .asked) z) (along bs ps)
 
 unfoldable pub given : ℕ → List ℕ → List Place → List (List Bool)
 given e bs ps = along bs ps (freshState 32768 (replicate e 0))
@@ -64,15 +69,18 @@ pub sram : List Place
 sram = reads 0 none ∷ writes 0 none ∷ reads 0x2000 none ∷ reads 0x4000 first ∷ reads 0 none ∷ []
 
 sram-told : given 128 (0 ∷ 64 ∷ []) sram ≡ stated sram
-unfolding opened l1dSends l2Sends fetchSends readSends writeSends oneSends allSend touchedSend touchedL1dSend sends changesMode reached along given stated sram
+unfolding opened goOn l1dSends l2Sends fetchSends readSends writeSends oneSends allSend touchedSend touchedL1dSend allL1dSend overAllSend overBlockSend sends changesMode reached tells along given stated sram
 sram-told = refl
 
--- ---- the rest of them: both halves of an L2 line of external memory. In mode 0 L1D's line goes there itself
+-- ---- the rest of them: both halves of an L2 line of external memory. In mode 0 L1D's line goes there itself,
+-- by L2's commands too (02, U10)
 pub modeZero : List Place
-modeZero = mar128 none ∷ reads 0x80000000 none ∷ writes 0x80000000 none ∷ all 2 none ∷ block 7 0x80000000 first ∷ mode 0 both ∷ []
+modeZero =
+    mar128 none ∷ reads 0x80000000 none ∷ writes 0x80000000 none ∷ block 7 0x80000000 first ∷ reads 0x80000000 none ∷ writes 0x80000000 none ∷ all 2 first
+    ∷ reads 0x80000000 none ∷ writes 0x80000000 none ∷ block 4 0x80000000 first ∷ mode 0 both ∷ []
 
 modeZero-told : given 128 (0x80000000 ∷ 0x80000040 ∷ []) modeZero ≡ stated modeZero
-unfolding opened l1dSends l2Sends fetchSends readSends writeSends oneSends allSend touchedSend touchedL1dSend sends changesMode reached along given stated modeZero
+unfolding opened goOn l1dSends l2Sends fetchSends readSends writeSends oneSends allSend touchedSend touchedL1dSend allL1dSend overAllSend overBlockSend sends changesMode reached tells along given stated modeZero
 modeZero-told = refl
 
 -- In mode 1 it goes into L2, and from there all of the line goes out, once, by 4, 5, 2 and 3.
@@ -83,7 +91,7 @@ modeOne =
     ∷ writes 0x80000040 none ∷ all 3 both ∷ []
 
 modeOne-told : given 128 (0x80000000 ∷ 0x80000040 ∷ []) modeOne ≡ stated modeOne
-unfolding opened l1dSends l2Sends fetchSends readSends writeSends oneSends allSend touchedSend touchedL1dSend sends changesMode reached along given stated modeOne
+unfolding opened goOn l1dSends l2Sends fetchSends readSends writeSends oneSends allSend touchedSend touchedL1dSend allL1dSend overAllSend overBlockSend sends changesMode reached tells along given stated modeOne
 modeOne-told = refl
 
 -- Five lines of one L2 set, addresses in two of them: the first is put out by a write miss, the second by a read miss.
@@ -93,5 +101,5 @@ putOut =
     ∷ writes 0x80008000 first ∷ reads 0x80000000 (false ∷ true ∷ []) ∷ []
 
 putOut-told : given 32896 (0x80000000 ∷ 0x80002000 ∷ []) putOut ≡ stated putOut
-unfolding opened l1dSends l2Sends fetchSends readSends writeSends oneSends allSend touchedSend touchedL1dSend sends changesMode reached along given stated putOut
+unfolding opened goOn l1dSends l2Sends fetchSends readSends writeSends oneSends allSend touchedSend touchedL1dSend allL1dSend overAllSend overBlockSend sends changesMode reached tells along given stated putOut
 putOut-told = refl

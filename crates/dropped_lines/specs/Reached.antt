@@ -2,7 +2,7 @@
 -- call is made of the steps of Access, Homes and Commands (crate model), and two of them send the bytes of a line out
 -- to memory. Here is for each call whether one of its steps sends address a out, in the order in which they are done;
 -- `sent-clean` (proofs/Sent) shows that no dirty line has a afterwards.
-use Prim.Native.Nat.{ℕ, zero, suc, _+_, _*_, _/_, _%_}
+use Prim.Native.Nat.{ℕ, _+_, _*_, _/_, _%_}
 use mathlib.Core.Bool.{Bool, false, not, cond, _&&_, _||_}
 use lib.Dec.{ltb, leb, eqb}
 use Rattle.model.specs.Basics.{each}
@@ -11,7 +11,7 @@ use Rattle.model.specs.Records.{State, mode0, l2SetsOf, l2SetOf, l1dSetAt, l1dL
 use Rattle.model.specs.Ways.{l1dVictim, l1dWay, l2Way, inL1d, inL2}
 use Rattle.model.specs.Homes.{homeIsL2, l2WayFor, takeHalves, writebackL2, evictL2}
 use Rattle.model.specs.Access.{cacheable, evictL1d}
-use Rattle.model.specs.Commands.{linesTouched, atL1d, atL2}
+use Rattle.model.specs.Commands.{linesTouched, atL1d, atL2, evictAllL1d, l1dWritebackInvalidateBlock}
 use Rattle.model.specs.declared.Command.{Command}
 
 -- address a is one of the n bytes at b
@@ -55,10 +55,16 @@ unfoldable pub writeSends : ℕ → ℕ → State → Bool
 writeSends a b z = cacheable (z .rec) b && (not (inL1d z b) && fetchSends a b z)
 
 -- ---- commands: the steps f 0, f 1, .. f (n - 1), of which f k sends a out of the state that it meets where s k says
--- so
+-- so: how far they have come, and whether one of them did
+pub record Going : Type 0 where
+  pub reached : State
+  pub sent : Bool
+
+unfoldable pub goOn : (ℕ → State → State) → (ℕ → State → Bool) → ℕ → Going → Going
+goOn f s k g = record { reached = f k (g .reached); sent = g .sent || s k (g .reached) }
+
 unfoldable pub oneSends : (ℕ → State → State) → (ℕ → State → Bool) → ℕ → State → Bool
-oneSends f s zero z = false
-oneSends f s (suc n) z = oneSends f s n z || s n (each f n z)
+oneSends f s n z = each (goOn f s) n (record { reached = z; sent = false }) .sent
 
 -- each L2 line; each touched L2 line; each touched L1D line; f is what is done to it
 unfoldable pub allSend : (ℕ → ℕ → State → State) → ℕ → State → Bool
@@ -84,14 +90,26 @@ touchedL1dSend a b c z =
     l1dSends a (l1dSetOf (lineOfBlock (l1dKind .lineLength) b k)) (l1dWay x (lineOfBlock (l1dKind .lineLength) b k)) x)
     (linesTouched (l1dKind .lineLength) b c) z
 
+-- each L1D line
+unfoldable pub allL1dSend : ℕ → State → Bool
+allL1dSend a z =
+    oneSends (λ i. evictL1d (i / l1dKind .ways) (i % l1dKind .ways)) (λ i. l1dSends a (i / l1dKind .ways) (i % l1dKind .ways)) (l1dKind .sets * l1dKind .ways) z
+
+-- 02, U10: the L2 commands begin with L1D
+unfoldable pub overAllSend : (ℕ → ℕ → State → State) → ℕ → State → Bool
+overAllSend f a z = allL1dSend a z || allSend f a (evictAllL1d z)
+
+unfoldable pub overBlockSend : (ℕ → ℕ → State → State) → ℕ → ℕ → ℕ → State → Bool
+overBlockSend f a b c z = touchedL1dSend a b c z || touchedSend f a b c (l1dWritebackInvalidateBlock b c z)
+
 -- ---- does an accepted command k, on state z, send address a out. (A mode change sends every dirty line home; it
 -- counts as a writeback of every byte, in Dropped.)
 unfoldable pub sends : Command → State → ℕ → Bool
 sends k z a =
     cond (eqb (k .code) 0) (readSends a (k .second) z)
     (cond (eqb (k .code) 1) (writeSends a (k .second) z)
-    (cond (eqb (k .code) 2) (allSend writebackL2 a z)
-    (cond (eqb (k .code) 3) (allSend evictL2 a z)
-    (cond (eqb (k .code) 4) (touchedSend writebackL2 a (k .first) (k .second) z)
-    (cond (eqb (k .code) 5) (touchedSend evictL2 a (k .first) (k .second) z)
+    (cond (eqb (k .code) 2) (overAllSend writebackL2 a z)
+    (cond (eqb (k .code) 3) (overAllSend evictL2 a z)
+    (cond (eqb (k .code) 4) (overBlockSend writebackL2 a (k .first) (k .second) z)
+    (cond (eqb (k .code) 5) (overBlockSend evictL2 a (k .first) (k .second) z)
     (cond (eqb (k .code) 7) (touchedL1dSend a (k .first) (k .second) z) false))))))

@@ -1,7 +1,7 @@
 -- Short lists of calls from a fresh start, and what they are answered: the chip's number, server and value, flat
 -- memory's number and value, and the bytes that a view shows. Rows of one table, and one theorem, `worked`, which
--- holds by computing: a definition that is not the paper's fails at a value here. Each of the four mistakes that
--- paper 01 names has a row, and so have the servers, the view, writebacks, mode and MAR changes and drops.
+-- holds by computing: a definition that is not the paper's fails at a value here. Each of the mistakes that
+-- paper 01 names has a row (the second is the rule since 02, U10), and so have the servers, the view, writebacks, mode and MAR changes and drops.
 -- The first command of a row meets checks 1 and 2, the others are carried out without: to go through all lent bytes
 -- and lines at each is half of the time of the check, and a record that is well formed stays so (`Stays`).
 use Prim.Native.Nat.{ℕ}
@@ -9,11 +9,12 @@ use mathlib.Core.List.{List, [], _∷_, map, _++_}
 use mathlib.Core.Path.{_≡_, refl}
 use lib.ListN.{replicate}
 use Rattle.model.specs.Bytes.{little}
-use Rattle.model.specs.Records.{State, withExternal, freshState}
+use Rattle.model.specs.Records.{State, withExternal, l1dSetAt, freshState}
 use Rattle.model.specs.Trace.{command}
 use Rattle.model.specs.Calls.{Reply, Call, oneCommand, freshStart, look, called, step, viewDone, after}
 use Rattle.model.specs.Flat.{Flat, FlatReply, freshFlat, flatCalled}
 use Rattle.model.specs.Opened.{opened}
+use Rattle.model.specs.declared.Order2.{Order2}
 
 -- ---- a place of a list: the call, and what is answered: number, server, value; flat memory's number and value; the
 -- bytes shown, as one number
@@ -106,12 +107,25 @@ external =
     (reads 0x80000000 4 1 ∷ reads 0x80000000 4 1 ∷ mar128 1 0 ∷ reads 0x80000000 4 1 ∷ reads 0x80000000 1 1
     ∷ writes 0x80000040 3 4 ∷ reads 0x80000040 4 3 ∷ [])
 
--- "The mode 0 L2 command empties L1D.": it does nothing.
+-- 02, U10: "L2 commands reach all of L1D", in mode 0 too: the global ones and the two block writebacks send a dirty
+-- line home and make it invalid, block invalidate drops it. 01's second mistake is the rule now.
 pub modeZero : Row
 modeZero =
     row 0
-    (mar128 1 0 ∷ reads 0x80000000 4 1 ∷ writes 0x80000000 7 1 ∷ all 2 ∷ all 3 ∷ block 4 0x80000000 ∷ block 5 0x80000000
-    ∷ block 6 0x80000000 ∷ reads 0x80000000 1 7 ∷ [])
+    (mar128 1 0 ∷ reads 0x80000000 4 1 ∷ writes 0x80000000 7 1 ∷ all 2 ∷ shows 0x80000000 0 7
+    ∷ reads 0x80000000 4 7 ∷ writes 0x80000000 8 1 ∷ all 3 ∷ shows 0x80000000 0 8
+    ∷ reads 0x80000000 4 8 ∷ writes 0x80000000 9 1 ∷ block 4 0x80000000 ∷ shows 0x80000000 0 9
+    ∷ reads 0x80000000 4 9 ∷ writes 0x80000000 3 1 ∷ block 5 0x80000000 ∷ shows 0x80000000 0 3
+    ∷ reads 0x80000000 4 3 ∷ writes 0x80000000 5 1 ∷ block 6 0x80000000 ∷ apart (oneCommand (command 0 1 0x80000000 0)) 4 3 5 ∷ [])
+
+-- The same for SRAM, and in the other ways and sets: a block leaves a line that it does not touch.
+pub sramReached : Row
+sramReached =
+    row 0
+    (reads 0 2 0 ∷ writes 0 5 1 ∷ reads 128 2 0 ∷ writes 128 4 1 ∷ all 2 ∷ shows 0 0 5 ∷ shows 128 0 4 ∷ reads 0 2 5
+    ∷ writes 0 6 1 ∷ reads 128 2 4 ∷ block 4 0 ∷ shows 0 0 6 ∷ reads 0 2 6 ∷ reads 128 1 4
+    ∷ writes 0 7 1 ∷ block 5 0 ∷ shows 0 0 7 ∷ reads 0 2 7
+    ∷ writes 0 8 1 ∷ block 6 0 ∷ apart (oneCommand (command 0 1 0 0)) 2 7 8 ∷ [])
 
 -- Three lines of one L1D set: the way used last stays, a dirty line that leaves goes home.
 pub replaced : Row
@@ -203,6 +217,10 @@ modeZero-holds : given modeZero ≡ stated modeZero
 unfolding opened both stepped along begun started given stated modeZero
 modeZero-holds = refl
 
+sramReached-holds : given sramReached ≡ stated sramReached
+unfolding opened both stepped along begun started given stated sramReached
+sramReached-holds = refl
+
 replaced-holds : given replaced ≡ stated replaced
 unfolding opened both stepped along begun started given stated replaced
 replaced-holds = refl
@@ -228,10 +246,26 @@ unfolding opened both stepped along begun started given stated evicted
 evicted-holds = refl
 
 pub table : List Row
-table = sram ∷ external ∷ modeZero ∷ replaced ∷ modes ∷ views ∷ throughL2 ∷ lastSet ∷ evicted ∷ []
+table = sram ∷ external ∷ modeZero ∷ sramReached ∷ replaced ∷ modes ∷ views ∷ throughL2 ∷ lastSet ∷ evicted ∷ []
 
 pub worked : map given table ≡ map stated table
 unfolding table
 worked i =
-    sram-holds i ∷ external-holds i ∷ modeZero-holds i ∷ replaced-holds i ∷ modes-holds i ∷ views-holds i
+    sram-holds i ∷ external-holds i ∷ modeZero-holds i ∷ sramReached-holds i ∷ replaced-holds i ∷ modes-holds i ∷ views-holds i
     ∷ throughL2-holds i ∷ lastSet-holds i ∷ evicted-holds i ∷ []
+
+-- ---- "Invalidation changes no order.": two lines of one L1D set are read, then one of them, or both, are made invalid
+unfoldable pub stepAll : List Place → State → State
+stepAll [] z = z
+stepAll (p ∷ ps) z = stepAll ps (stepped (p .call) z .next)
+
+unfoldable pub orderOf : Order2 → List ℕ
+orderOf o = o .first ∷ o .second ∷ []
+
+unfoldable pub orderAfter : Place → List ℕ
+orderAfter p =
+    orderOf (l1dSetAt (stepAll (reads 0 2 0 ∷ reads 0x2000 2 0 ∷ p ∷ []) (freshState 32768 (replicate 128 0)) .rec) 0 .order)
+
+pub orders-kept : map orderAfter (block 4 0 ∷ block 6 0 ∷ all 3 ∷ []) ≡ (1 ∷ 0 ∷ []) ∷ (1 ∷ 0 ∷ []) ∷ (1 ∷ 0 ∷ []) ∷ []
+unfolding opened stepped stepAll orderOf orderAfter
+orders-kept = refl

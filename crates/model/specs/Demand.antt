@@ -2,17 +2,16 @@
 -- list and not one for each call."
 -- Read it from the top: the calls that a list may hold, what is compared of a call, what a global writeback settles,
 -- both runs along the list, the demand.
-use Prim.Native.Nat.{ℕ, _≤_}
-use mathlib.Core.Bool.{Bool, true, false, cond, _&&_, _||_}
+use Prim.Native.Nat.{ℕ}
+use mathlib.Core.Bool.{Bool, true, false, _&&_, _||_}
 use mathlib.Core.Path.{_≡_}
-use mathlib.Core.Logic.{_≢_}
 use mathlib.Core.List.{List, [], _∷_}
 use lib.ListN.{length}
 use lib.Dec.{leb, eqb}
-use Rattle.model.specs.Memories.{externalBase}
-use Rattle.model.specs.Records.{State, l1dLineAt, l2LineAt}
+use Rattle.model.specs.Bytes.{part}
+use Rattle.model.specs.Records.{State, sramOf, l1dLineAt, l2LineAt}
 use Rattle.model.specs.Flat.{Flat, freshFlat, flatCalled}
-use Rattle.model.specs.Calls.{Reply, freshCall, Call, oneCommand, freshStart, look, called, commands}
+use Rattle.model.specs.Calls.{freshCall, Call, oneCommand, freshStart, look, called, commands}
 use Rattle.model.specs.declared.Command.{Command}
 
 -- ---- which calls a list may hold: reads (0), writes (1), the writeback commands (2 to 5 and 7), mode changes (10)
@@ -43,46 +42,34 @@ global (oneCommand c) = eqb (c .code) 2 || eqb (c .code) 3
 global freshStart = false
 global (look a) = false
 
--- "The mode at a call is that of the last accepted mode change before it in the list, 0 if there was none.": the mode
--- behind a call that was answered r
-unfoldable pub modeAfter : Call → Reply → ℕ → ℕ
-modeAfter (oneCommand c) r mode = cond (eqb (c .code) 10 && eqb (r .number) 0) (c .first) mode
-modeAfter freshStart r mode = mode
-modeAfter (look a) r mode = mode
-
--- and the mode behind calls, one after another
-unfoldable pub modeAlong : ℕ → List Call → State → ℕ
-modeAlong mode [] z = mode
-modeAlong mode (c ∷ cs) z = modeAlong (modeAfter c (called c z) mode) cs (called c z .next)
-
--- ---- external memory is settled: the same in both, and no line of it is dirty in either cache (L2 holds lines of
--- external memory only)
+-- ---- 01: "in a mode other than 0" is struck by 02, U10: "After a global writeback, external memory and SRAM are now
+-- flat memory's in every mode, mode 0 included.": byte for byte, and no line of either cache is dirty
 pub record Settled (z : State) (f : Flat) : Type 0 where
-  pub same : z .ext ≡ f .ext
-  pub l1dClean : (s w : ℕ) → l1dLineAt (z .rec) s w .valid ≡ true → externalBase ≤ l1dLineAt (z .rec) s w .address →
-      l1dLineAt (z .rec) s w .dirty ≡ false
+  pub external : z .ext ≡ f .ext
+  pub sram : part (z .l2) 0 (sramOf (z .rec)) ≡ f .sram
+  pub l1dClean : (s w : ℕ) → l1dLineAt (z .rec) s w .valid ≡ true → l1dLineAt (z .rec) s w .dirty ≡ false
   pub l2Clean : (t v : ℕ) → l2LineAt (z .rec) t v .valid ≡ true → l2LineAt (z .rec) t v .dirty ≡ false
 
 -- ---- what agrees at one place of the list, the chip being in state z and flat memory in state f before the call
-pub record AgreesAt (mode : ℕ) (c : Call) (z : State) (f : Flat) : Type 0 where
+pub record AgreesAt (c : Call) (z : State) (f : Flat) : Type 0 where
   pub number : compared c ≡ true → called c z .number ≡ flatCalled c f .number
   pub value : compared c ≡ true → called c z .value ≡ flatCalled c f .value
-  pub settled : global c ≡ true → called c z .number ≡ 0 → mode ≢ 0 → Settled (called c z .next) (flatCalled c f .next)
+  pub settled : global c ≡ true → called c z .number ≡ 0 → Settled (called c z .next) (flatCalled c f .next)
 
 -- ---- along the whole list: both carry out the same calls, one after another, and agree at each place
-pub data Agree : ℕ → List Call → State → Flat → Type 0 where
-  end : {mode : ℕ} {z : State} {f : Flat} → Agree mode [] z f
-  next : {mode : ℕ} {c : Call} {cs : List Call} {z : State} {f : Flat} →
-      AgreesAt mode c z f → Agree (modeAfter c (called c z) mode) cs (called c z .next) (flatCalled c f .next) → Agree mode (c ∷ cs) z f
+pub data Agree : List Call → State → Flat → Type 0 where
+  end : {z : State} {f : Flat} → Agree [] z f
+  next : {c : Call} {cs : List Call} {z : State} {f : Flat} →
+      AgreesAt c z f → Agree cs (called c z .next) (flatCalled c f .next) → Agree (c ∷ cs) z f
 
--- ---- demand 3: from an accepted fresh start, which leaves mode 0, whatever bytes were lent to it, for every list
+-- ---- demand 3: from an accepted fresh start, whatever bytes were lent to it, for every list
 abbrev pub Demand3 : Type 0
 Demand3 =
     (d m e : List ℕ) → freshCall d m e .number ≡ 0 →
-    (cs : List Call) → listed cs ≡ true → Agree 0 cs (freshCall d m e .next) (freshFlat (length m) e)
+    (cs : List Call) → listed cs ≡ true → Agree cs (freshCall d m e .next) (freshFlat (length m) e)
 
 -- ---- so for every list of commands
 abbrev pub CommandsDemand3 : Type 0
 CommandsDemand3 =
     (d m e : List ℕ) → freshCall d m e .number ≡ 0 →
-    (cs : List Command) → listed (commands cs) ≡ true → Agree 0 (commands cs) (freshCall d m e .next) (freshFlat (length m) e)
+    (cs : List Command) → listed (commands cs) ≡ true → Agree (commands cs) (freshCall d m e .next) (freshFlat (length m) e)

@@ -13,7 +13,6 @@ pub mod Refusals
 pub mod Trace
 pub mod Calls
 pub mod Demand
-pub mod Sram
 pub mod Stays
 pub mod Traces
 pub mod Laws

@@ -17,7 +17,7 @@ use Rattle.model.specs.Access.{cacheable, readHit, writebackL1d, evictL1
 use Rattle.model.specs.Access.{readEmptied, readMiss, readAccess, putL1d, writeHit, writeHome, writeMiss}
 use Rattle.model.specs.Access.{writeAccess}
 use Rattle.model.specs.Modes.{smaller, flushL1d, flushL2, newMode, changeMode, changeMar}
-use Rattle.model.specs.Commands.{blockEnd, linesTouched, eachTouched, eachL2, atL2, atL1d, unlessMode0}
+use Rattle.model.specs.Commands.{blockEnd, linesTouched, eachTouched, eachL2, atL2, atL1d, unlessMode0, evictAllL1d}
 use Rattle.model.specs.Commands.{l2WritebackAll, l2WritebackInvalidateAll, l2WritebackBlock}
 use Rattle.model.specs.Commands.{l2WritebackInvalidateBlock, dropL2, l2InvalidateBlock}
 use Rattle.model.specs.Commands.{l1dWritebackInvalidateBlock, l1dInvalidateBlock, l1dInvalidateAll}
@@ -46,7 +46,7 @@ unfolding
     cacheable readHit writebackL1d evictL1d homeLine fillL1d readFilled readEmptied readMiss readAccess putL1d
     writeHit writeHome writeMiss writeAccess
     smaller flushL1d flushL2 newMode changeMode changeMar
-    blockEnd linesTouched eachTouched eachL2 atL2 atL1d unlessMode0 l2WritebackAll l2WritebackInvalidateAll
+    blockEnd linesTouched eachTouched eachL2 atL2 atL1d unlessMode0 evictAllL1d l2WritebackAll l2WritebackInvalidateAll
     l2WritebackBlock l2WritebackInvalidateBlock dropL2 l2InvalidateBlock l1dWritebackInvalidateBlock
     l1dInvalidateBlock l1dInvalidateAll
     lentL1d lentL2 lentExternal sizeOk placeOk valueOk inRange holdsRange lentDue viewLentDue accessDue blockDue

@@ -2,11 +2,10 @@
 -- every trace: a run is its commands called one after another (`RunIsCalls`), all twelve codes, damaged traces and
 -- too few answer bytes included. Then from an accepted fresh start: the answers of a run, or of runs over the pieces
 -- of a trace, are flat memory's for reads, writes and mode changes, and global writebacks settle external memory
--- (`TraceDemand3`).
+-- and SRAM (`TraceDemand3`).
 use Prim.Native.Nat.{ℕ, zero, suc, _+_, _*_, _-_, _≤_, _<_}
 use mathlib.Core.Bool.{true, false, cond}
 use mathlib.Core.Path.{_≡_}
-use mathlib.Core.Logic.{_≢_}
 use mathlib.Core.List.{List, [], _∷_, _++_}
 use lib.ListN.{length}
 use lib.Dec.{ltb, leb}
@@ -14,7 +13,7 @@ use Rattle.model.specs.Bytes.{part, littleBytes}
 use Rattle.model.specs.Records.{State}
 use Rattle.model.specs.Flat.{Flat, freshFlat, flatStep, flatAfter}
 use Rattle.model.specs.Calls.{call, runFrom, runCall, freshCall, commandAt, oneCommand, after, commands}
-use Rattle.model.specs.Demand.{compared, listed, global, modeAlong, Settled, Agree}
+use Rattle.model.specs.Demand.{compared, listed, global, Settled, Agree}
 use Rattle.model.specs.declared.Command.{Command}
 
 -- ---- as many turns as there are bytes left are enough, and more change nothing
@@ -81,22 +80,21 @@ unfoldable pub allCommands : List Piece → List Command
 allCommands [] = []
 allCommands (p ∷ ps) = pieceCommands p ++ allCommands ps
 
--- ---- what agrees of one run, the mode before it being given: its answers; at each of its places, the calls that it
--- is; and where it ends with a global writeback in a mode other than 0, external memory, and no line of it is dirty
-pub record RunAgrees (mode : ℕ) (p : Piece) (z : State) (f : Flat) : Type 0 where
+-- ---- what agrees of one run: its answers; at each of its places, the calls that it is; and where it ends with a
+-- global writeback, external memory and SRAM, and no line is dirty
+pub record RunAgrees (p : Piece) (z : State) (f : Flat) : Type 0 where
   pub answers : AnswersAgree (runCall (p .trace) (p .answers) z .answers) 0 (pieceCommands p) f
-  pub places : Agree mode (commands (pieceCommands p)) z f
-  pub ended : (cs : List Command) (c : Command) → pieceCommands p ≡ cs ++ (c ∷ []) → global (oneCommand c) ≡ true → modeAlong mode (commands cs) z ≢ 0 →
+  pub places : Agree (commands (pieceCommands p)) z f
+  pub ended : (cs : List Command) (c : Command) → pieceCommands p ≡ cs ++ (c ∷ []) → global (oneCommand c) ≡ true →
       Settled (runCall (p .trace) (p .answers) z .next) (flatAfter (commands (pieceCommands p)) f)
 
-pub data RunsAgree : ℕ → List Piece → State → Flat → Type 0 where
-  end : {mode : ℕ} {z : State} {f : Flat} → RunsAgree mode [] z f
-  next : {mode : ℕ} {p : Piece} {ps : List Piece} {z : State} {f : Flat} →
-      RunAgrees mode p z f →
-      RunsAgree (modeAlong mode (commands (pieceCommands p)) z) ps (runCall (p .trace) (p .answers) z .next) (flatAfter (commands (pieceCommands p)) f) →
-      RunsAgree mode (p ∷ ps) z f
+pub data RunsAgree : List Piece → State → Flat → Type 0 where
+  end : {z : State} {f : Flat} → RunsAgree [] z f
+  next : {p : Piece} {ps : List Piece} {z : State} {f : Flat} →
+      RunAgrees p z f → RunsAgree ps (runCall (p .trace) (p .answers) z .next) (flatAfter (commands (pieceCommands p)) f) →
+      RunsAgree (p ∷ ps) z f
 
 abbrev pub TraceDemand3 : Type 0
 TraceDemand3 =
     (d m e : List ℕ) → freshCall d m e .number ≡ 0 →
-    (ps : List Piece) → listed (commands (allCommands ps)) ≡ true → RunsAgree 0 ps (freshCall d m e .next) (freshFlat (length m) e)
+    (ps : List Piece) → listed (commands (allCommands ps)) ≡ true → RunsAgree ps (freshCall d m e .next) (freshFlat (length m) e)

@@ -15,7 +15,7 @@ use Rattle.model.specs.Ways.{l1dWay, l2Way, inL1d, inL2, emptyL1d}
 use Rattle.model.specs.Homes.{writeOutL2, writebackL2, evictL2}
 use Rattle.model.specs.Access.{writebackL1d, evictL1d}
 use Rattle.model.specs.Modes.{smaller, flushL1d, flushL2, newMode, changeMode, changeMar}
-use Rattle.model.specs.Commands.{linesTouched, eachTouched, eachL2, atL2, atL1d, unlessMode0, l2WritebackAll, l2WritebackInvalidateAll, l2WritebackBlock, l2WritebackInvalidateBlock, dropL2, l2InvalidateBlock, l1dWritebackInvalidateBlock, l1dInvalidateBlock, l1dInvalidateAll}
+use Rattle.model.specs.Commands.{linesTouched, eachTouched, eachL2, atL2, atL1d, unlessMode0, evictAllL1d, l2WritebackAll, l2WritebackInvalidateAll, l2WritebackBlock, l2WritebackInvalidateBlock, dropL2, l2InvalidateBlock, l1dWritebackInvalidateBlock, l1dInvalidateBlock, l1dInvalidateAll}
 use Rattle.model.specs.Laws.{bool}
 use Rattle.agreement.proofs.Tables.{l1dStore, l2Store, fresh-line}
 use Rattle.agreement.proofs.Good.{l1d-hit, l2-hit, cache-whole}
@@ -84,30 +84,7 @@ module _ {P : Pairing} {g : Layout} where
       emptyL2-both t v (atL1d emptyL1d (upperHalf b) (atL1d emptyL1d b z)) (atL1d emptyL1d (upperHalf b) (atL1d emptyL1d b z′))
       (half (upperHalf b) (atL1d emptyL1d b z) (atL1d emptyL1d b z′) (half b z z′ q)))
 
-  -- ---- the commands, by their codes
-  pub code-2 : Keeps P g l2WritebackAll
-  unfolding l2WritebackAll
-  code-2 = unless-both (eachL2 writebackL2) (eachL2-both writebackL2 writebackL2-both)
-
-  pub code-3 : Keeps P g l2WritebackInvalidateAll
-  unfolding l2WritebackInvalidateAll
-  code-3 = unless-both (eachL2 evictL2) (eachL2-both evictL2 evictL2-both)
-
-  block : (f : ℕ → ℕ → State → State) → AtSlot P g 4 f → (b c : ℕ) → Keeps P g (unlessMode0 (eachTouched 128 (atL2 f) b c))
-  block f h b c = unless-both (eachTouched 128 (atL2 f) b c) (touched-both 128 (atL2 f) (atL2-both f h) b c)
-
-  pub code-4 : (b c : ℕ) → Keeps P g (l2WritebackBlock b c)
-  unfolding l2WritebackBlock
-  code-4 = block writebackL2 writebackL2-both
-
-  pub code-5 : (b c : ℕ) → Keeps P g (l2WritebackInvalidateBlock b c)
-  unfolding l2WritebackInvalidateBlock
-  code-5 = block evictL2 evictL2-both
-
-  pub code-6 : (b c : ℕ) → Keeps P g (l2InvalidateBlock b c)
-  unfolding l2InvalidateBlock
-  code-6 = block dropL2 drop-both
-
+  -- ---- the commands, by their codes; those of L1D first, with which those of L2 begin
   pub code-7 : (b c : ℕ) → Keeps P g (l1dWritebackInvalidateBlock b c)
   unfolding l1dWritebackInvalidateBlock
   code-7 = touched-both 64 (atL1d evictL1d) (atL1d-both evictL1d evictL1d-both)
@@ -119,6 +96,37 @@ module _ {P : Pairing} {g : Layout} where
   pub code-9 : Keeps P g l1dInvalidateAll
   unfolding l1dInvalidateAll
   code-9 = each-both (Pair P g) (λ k. emptyL1d (k / 2) (k % 2)) (λ k. emptyL1d-both (k / 2) (k % 2)) 256
+
+  emptied-both : Keeps P g evictAllL1d
+  unfolding evictAllL1d
+  emptied-both = each-both (Pair P g) (λ k. evictL1d (k / 2) (k % 2)) (λ k. evictL1d-both (k / 2) (k % 2) (omega arith)) 256
+
+  -- over all lines of L2, over the touched ones; in no mode 0
+  all : (f : ℕ → ℕ → State → State) → AtSlot P g 4 f → Keeps P g (λ z. unlessMode0 (eachL2 f) (evictAllL1d z))
+  all f h z z′ q = unless-both (eachL2 f) (eachL2-both f h) (evictAllL1d z) (evictAllL1d z′) (emptied-both z z′ q)
+
+  block : (f : ℕ → ℕ → State → State) → AtSlot P g 4 f → (b c : ℕ) → Keeps P g (unlessMode0 (eachTouched 128 (atL2 f) b c))
+  block f h b c = unless-both (eachTouched 128 (atL2 f) b c) (touched-both 128 (atL2 f) (atL2-both f h) b c)
+
+  pub code-2 : Keeps P g l2WritebackAll
+  unfolding l2WritebackAll
+  code-2 = all writebackL2 writebackL2-both
+
+  pub code-3 : Keeps P g l2WritebackInvalidateAll
+  unfolding l2WritebackInvalidateAll
+  code-3 = all evictL2 evictL2-both
+
+  pub code-4 : (b c : ℕ) → Keeps P g (l2WritebackBlock b c)
+  unfolding l2WritebackBlock
+  code-4 b c z z′ q = block writebackL2 writebackL2-both b c (l1dWritebackInvalidateBlock b c z) (l1dWritebackInvalidateBlock b c z′) (code-7 b c z z′ q)
+
+  pub code-5 : (b c : ℕ) → Keeps P g (l2WritebackInvalidateBlock b c)
+  unfolding l2WritebackInvalidateBlock
+  code-5 b c z z′ q = block evictL2 evictL2-both b c (l1dWritebackInvalidateBlock b c z) (l1dWritebackInvalidateBlock b c z′) (code-7 b c z z′ q)
+
+  pub code-6 : (b c : ℕ) → Keeps P g (l2InvalidateBlock b c)
+  unfolding l2InvalidateBlock
+  code-6 b c z z′ q = block dropL2 drop-both b c (l1dInvalidateBlock b c z) (l1dInvalidateBlock b c z′) (code-8 b c z z′ q)
 
   -- ---- a MAR bit
   pub code-11 : (n b : ℕ) → Keeps P g (changeMar n b)

@@ -1,4 +1,4 @@
--- `others::sweep` meets its contract: each way through the code is the case of `commandState` at its code.
+-- `commands::sweep` meets its contract: each way through the code is the case of `commandState` at its code.
 use Prim.Native.Nat.{_-_}
 use mathlib.Core.Path.{_≡_}
 use native.Mathlib.Omega.{arith}
@@ -9,8 +9,8 @@ use Rattle.commands.specs.Codes.{state-all, state-l2-block, state-l1d-bl
 use Rattle.commands.proofs.sweep.Statement.{statement}
 use Rattle.commands.proofs.sweep.Tie as tie
 
-l2-all-requires : tie.Need-l2-all-requires
-l2-all-requires c κs =
+l2-over-all-requires : tie.Need-l2-over-all-requires
+l2-over-all-requires c κs =
     let p-if1 = c .before .before .before in
     let p-pre = p-if1 .before .before .before .before .before .before in
     let k = p-if1 .if1 .taken in (omega arith, p-pre .pre .1)
@@ -26,13 +26,13 @@ same-length-3 c = search needs
 
 returns : tie.Need-returns
 returns c =
-    let p-l2-all = c .before .before .before .before .before .before in
-    let p-if1 = p-l2-all .before .before .before .before in
+    let p-l2-over-all = c .before .before .before .before .before .before in
+    let p-if1 = p-l2-over-all .before .before .before .before in
     let p-args = p-if1 .before .before .before .before .before .before in
-    let a = p-args .args in state-all (a .c) (state (recordIn (a .tags .now)) (a .l1d .now) (a .l2 .now) (a .ext .now)) (p-args .pre .0 .0) (p-if1 .if1 .taken) (state (recordIn (p-l2-all .l2-all .last .0)) (a .l1d .now) (p-l2-all .l2-all .last .1 .1 .1 .1 .1 .0) (p-l2-all .l2-all .last .1 .1 .1 .1 .1 .1 .0)) (p-l2-all .l2-all .ensures)
+    let a = p-args .args in state-all (a .c) (state (recordIn (a .tags .now)) (a .l1d .now) (a .l2 .now) (a .ext .now)) (p-args .pre .0 .0) (p-if1 .if1 .taken) (state (recordIn (p-l2-over-all .l2-over-all .last .0)) (a .l1d .now) (p-l2-over-all .l2-over-all .last .1 .1 .1 .1 .1 .0) (p-l2-over-all .l2-over-all .last .1 .1 .1 .1 .1 .1 .0)) (p-l2-over-all .l2-over-all .ensures)
 
-l2-block-requires : tie.Need-l2-block-requires
-l2-block-requires c κs = search needs
+l2-over-block-requires : tie.Need-l2-over-block-requires
+l2-over-block-requires c κs = search needs
 
 same-length-4 : tie.Need-same-length-4
 same-length-4 c = search needs
@@ -45,11 +45,11 @@ same-length-6 c = search needs
 
 returns-2 : tie.Need-returns-2
 returns-2 c =
-    let p-l2-block = c .before .before .before .before .before .before in
-    let p-if2 = p-l2-block .before .before .before .before in
+    let p-l2-over-block = c .before .before .before .before .before .before in
+    let p-if2 = p-l2-over-block .before .before .before .before in
     let p-if1 = p-if2 .before .before in
     let p-args = p-if1 .before .before .before .before .before .before in
-    let a = p-args .args in state-l2-block (a .c) (state (recordIn (a .tags .now)) (a .l1d .now) (a .l2 .now) (a .ext .now)) (p-if1 .if1 .left) (p-if2 .if2 .taken) (state (recordIn (p-l2-block .l2-block .last .0)) (a .l1d .now) (p-l2-block .l2-block .last .1 .1 .1 .1 .1 .1 .1 .0) (p-l2-block .l2-block .last .1 .1 .1 .1 .1 .1 .1 .1 .0)) (p-l2-block .l2-block .ensures)
+    let a = p-args .args in state-l2-block (a .c) (state (recordIn (a .tags .now)) (a .l1d .now) (a .l2 .now) (a .ext .now)) (p-if1 .if1 .left) (p-if2 .if2 .taken) (state (recordIn (p-l2-over-block .l2-over-block .last .0)) (a .l1d .now) (p-l2-over-block .l2-over-block .last .1 .1 .1 .1 .1 .1 .1 .0) (p-l2-over-block .l2-over-block .last .1 .1 .1 .1 .1 .1 .1 .1 .0)) (p-l2-over-block .l2-over-block .ensures)
 
 l1d-block-requires : tie.Need-l1d-block-requires
 l1d-block-requires c κs = search needs
@@ -95,12 +95,12 @@ pub sweep-spec : {M : Type 1} → statement M
 sweep-spec =
     tie.close
     (tie.spec
-    l2-all-requires
+    l2-over-all-requires
     same-length
     same-length-2
     same-length-3
     returns
-    l2-block-requires
+    l2-over-block-requires
     same-length-4
     same-length-5
     same-length-6
