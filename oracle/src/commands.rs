@@ -27,9 +27,20 @@ pub fn touched_lines(base: u32, count: u32, line_length: u32) -> impl Iterator<I
     (first..end).step_by(line_length as usize).map(|address| address as u32)
 }
 
-/// An L2 command on "each L2 line (... all)", sets ascending, ways ascending.
-/// "L2 commands do nothing in mode 0 and never reach L1D lines of SRAM."
+/// L2 writeback all and writeback-invalidate all. 02, U10: they "now send every
+/// dirty L1D line home first and empty L1D, in every mode and for SRAM too." Then,
+/// as before, the command on "each L2 line (... all)", of which mode 0 has none.
+/// Sets ascending, ways ascending, in both caches.
+///
+/// 01's "L2 commands do nothing in mode 0 and never reach L1D lines of SRAM." is
+/// what U10 changes, here and in `l2_block`.
 pub fn l2_all(machine: &mut Machine, action: L2Action) {
+    for set in 0..L1d::SETS {
+        for way in 0..L1d::WAYS {
+            machine.write_back_l1d_line(set, way);
+            machine.empty_l1d_way(set, way);
+        }
+    }
     for set in 0..L2::sets(machine.record.mode) {
         for way in 0..L2::WAYS {
             if machine.record.l2[set].lines[way].valid {
@@ -39,9 +50,18 @@ pub fn l2_all(machine: &mut Machine, action: L2Action) {
     }
 }
 
-/// An L2 command on "each L2 line (touched ...)", addresses ascending. "L2
-/// commands do nothing in mode 0 and never reach L1D lines of SRAM."
+/// The three L2 block commands. 02, U10: "Besides the halves, the two L2 block
+/// writebacks first send each touched L1D line home if dirty and make it invalid,
+/// and L2 block invalidate drops each touched L1D line, likewise in every mode and
+/// for SRAM." An L1D line has 64 bytes, and the block itself says whether it is
+/// touched; that is what the L1D block commands do. Then, as before, the command
+/// on "each L2 line (touched ...)" with its halves, addresses ascending.
 pub fn l2_block(machine: &mut Machine, base: u32, count: u32, action: L2Action) {
+    let on_l1d = match action {
+        L2Action::Writeback | L2Action::WritebackInvalidate => L1dAction::WritebackInvalidate,
+        L2Action::Invalidate => L1dAction::Invalidate,
+    };
+    l1d_block(machine, base, count, on_l1d);
     for address in touched_lines(base, count, L2::LINE) {
         if let Some((set, way)) = machine.record.find_l2(address) {
             act_on_l2_line(machine, set, way, action);

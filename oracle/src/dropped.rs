@@ -1,7 +1,9 @@
 //! "Dropped lines" (02, U13): what is known of each byte along a list of calls
 //! from a fresh start, and what its sentences say of a read. The calls are made
 //! on a chip of this model, whose events tell when a writeback reached a byte and
-//! when a line with it was dropped.
+//! when a line with it was dropped. They go by the lines that did so and not by the
+//! command: since 02, U10, L2's commands too send L1D lines to SRAM, and in mode 0
+//! to external memory, and its block invalidate drops them there.
 
 use std::collections::{BTreeSet, HashMap, HashSet};
 

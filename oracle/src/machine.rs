@@ -32,7 +32,9 @@ pub struct Events {
     /// reached it.
     pub reached: Vec<Range<u32>>,
     /// "a line that was dropped": a valid line that an invalidating command made
-    /// invalid unwritten, "128 bytes for L2's, 64 for L1D's".
+    /// invalid unwritten, "128 bytes for L2's, 64 for L1D's". L2 block invalidate
+    /// drops lines of both caches, those of L1D also where L2 holds none of their
+    /// bytes (02, U10).
     pub dropped: Vec<Range<u32>>,
 }
 

@@ -106,14 +106,16 @@ fn c9_second_line_leaves_l1d() {
     assert!(setup.l1d_line(0x8000_4000).is_some());
 }
 
+/// "Case C10 turns: the line goes out and is dropped" (02, U10).
 #[test]
-fn c10_dirty_line_stays_in_mode_0() {
+fn c10_dirty_line_goes_out_in_mode_0() {
     let mut setup = setup();
     setup.mar(128, 1);
     setup.read(1, 0x8000_0000);
     setup.write(1, 0x8000_0000, 7);
     assert!(setup.l1d_line(0x8000_0000).unwrap().dirty);
-    assert_eq!(setup.call(&Command::L2WritebackInvalidateAll), Answer::refused(0));
-    assert!(setup.l1d_line(0x8000_0000).unwrap().dirty);
     assert_eq!(setup.ext[0], 0);
+    assert_eq!(setup.call(&Command::L2WritebackInvalidateAll), Answer::refused(0));
+    assert_eq!(setup.l1d_line(0x8000_0000), None);
+    assert_eq!(setup.ext[0], 7);
 }

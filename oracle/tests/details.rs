@@ -168,25 +168,22 @@ fn writeback_leaves_the_l2_line_valid_and_clean_and_no_order_changed() {
             setup.read(1, 0x40);
             setup.write(1, 0x40, 3);
             let before = setup.clone();
-            let (base, count) = (0, 65_535);
+            let count = 65_535;
             setup.call(&match (block, invalidate) {
                 (false, false) => Command::L2WritebackAll,
                 (false, true) => Command::L2WritebackInvalidateAll,
                 (true, false) => Command::L2BlockWriteback { base: A, count },
                 (true, true) => Command::L2BlockWritebackInvalidate { base: A, count },
             });
-            if block {
-                // Never the L1D lines of SRAM.
-                setup.call(&Command::L2BlockWritebackInvalidate { base, count });
-            }
             assert_eq!((setup.ext[0], setup.ext[128]), (2, 1));
             for address in [A, A + 128] {
                 let clean = Line { valid: true, dirty: false, address };
                 assert_eq!(setup.l2_line(address), if invalidate { None } else { Some(clean) });
             }
             assert_eq!(setup.l1d_line(A), None);
-            assert!(setup.l1d_line(0x40).unwrap().dirty);
-            assert_eq!(setup.l2[0x40], 4);
+            // The line of SRAM goes with all lines, and not with a block elsewhere.
+            assert_eq!(setup.l1d_line(0x40).map(|line| line.dirty), block.then_some(true));
+            assert_eq!(setup.l2[0x40], if block { 4 } else { 3 });
             for (after, before) in setup.record.l2.iter().zip(&before.record.l2) {
                 assert_eq!(after.order, before.order);
             }

@@ -38,6 +38,49 @@ fn a_line_of_l1d_reaches_its_memory() {
     }
 }
 
+/// L2's commands send L1D lines where they are at home too (02, U10), and its block
+/// invalidate drops them: 64 bytes where L2 holds no line with them.
+#[test]
+fn l2_commands_reach_lines_of_l1d() {
+    for (mode, base) in [(0, A), (0, 64), (1, 64)] {
+        let count = 17;
+        for command in [
+            Command::L2WritebackAll,
+            Command::L2WritebackInvalidateAll,
+            Command::L2BlockWriteback { base, count },
+            Command::L2BlockWritebackInvalidate { base, count },
+            Command::L2BlockInvalidate { base, count },
+        ] {
+            let mut setup = cached(mode);
+            setup.read(1, base);
+            setup.write(1, base, 5);
+            setup.read(1, base + 64);
+            let events = events(&mut setup, command);
+            let (reached, dropped) = match command {
+                Command::L2BlockInvalidate { .. } => {
+                    (vec![], vec![base..base + 64, base + 64..base + 128])
+                }
+                _ => (vec![base..base + 64], vec![]),
+            };
+            assert_eq!((events.reached, events.dropped), (reached, dropped), "{command:?}");
+        }
+    }
+}
+
+/// An L2 line is dropped behind the L1D lines that the block touches, and with the
+/// half that it does not touch.
+#[test]
+fn lines_of_both_caches_are_dropped() {
+    let mut setup = cached(1);
+    for address in [A, A + 64, A + 192, 0] {
+        setup.read(1, address);
+    }
+    let over_both = Command::L2BlockInvalidate { base: A + 64, count: 17 };
+    let both = [A + 64..A + 128, A..A + 64, A..A + 128, A + 192..A + 256, A + 128..A + 256];
+    assert_eq!(events(&mut setup, over_both).dropped, both);
+    assert!(setup.l1d_line(0).is_some());
+}
+
 /// L2 cache is not external memory; from there the line goes out whole.
 #[test]
 fn a_line_of_l2_reaches_its_memory_whole() {

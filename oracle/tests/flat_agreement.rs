@@ -4,7 +4,7 @@
 use oracle::flat::Flat;
 use oracle::gen::{command, hot, Mix, Rng, Setup, E_BOTH_RANGES, LEGAL_L};
 use oracle::wellformed::broken_clauses;
-use oracle::Command;
+use oracle::{Command, Line};
 
 /// What a list met, to see that it was worth running.
 #[derive(Default, Debug)]
@@ -12,13 +12,24 @@ struct Met {
     servers: [u32; 5],
     numbers: [u32; 13],
     modes: [u32; 8],
-    compared: u32,
+    /// Global writebacks, by the mode.
+    settled: [u32; 8],
     bypassed_in: [u32; 2],
 }
 
+/// "After a global writeback, external memory and SRAM are now flat memory's in
+/// every mode, mode 0 included." (02, U10) Nothing is dirty then, and L1D is empty.
+fn check_settled(setup: &Setup, flat: &Flat, place: &str) {
+    let s = setup.record.sram_size() as usize;
+    assert!(setup.ext == flat.ext, "{place}: external memory");
+    assert!(setup.l2[..s] == flat.sram, "{place}: SRAM");
+    assert!(setup.record.l1d.iter().flat_map(|set| set.lines).all(|line| line == Line::EMPTY));
+    assert!(!setup.record.l2.iter().flat_map(|set| set.lines).any(|line| line.dirty), "{place}");
+}
+
 /// Runs a list of calls from fresh. Without drops, reads and refusals are
-/// compared with flat memory, and external memory after each accepted global
-/// L2 writeback in a mode other than 0.
+/// compared with flat memory, and after each accepted global L2 writeback both
+/// memories.
 fn run_list(seed: u64, l: u32, e: u32, calls: u32, mix: &Mix, met: &mut Met) {
     let mut rng = Rng::new(seed);
     let mut ext = vec![0; e as usize];
@@ -54,9 +65,9 @@ fn run_list(seed: u64, l: u32, e: u32, calls: u32, mix: &Mix, met: &mut Met) {
             }
         }
         let global = matches!(command, Command::L2WritebackAll | Command::L2WritebackInvalidateAll);
-        if !drops && global && answer.number == 0 && setup.record.mode != 0 {
-            assert!(setup.ext == flat.ext, "{seed} {turn} {command:?}");
-            met.compared += 1;
+        if !drops && global && answer.number == 0 {
+            check_settled(&setup, &flat, &format!("{seed} {turn} {command:?}"));
+            met.settled[setup.record.mode as usize] += 1;
         }
     }
     assert_eq!(broken_clauses(&setup.record), []);
@@ -128,6 +139,7 @@ fn check_met(met: &Met) {
     }
     for mode in [0, 1, 2, 3, 7] {
         assert!(met.modes[mode] > 500, "{met:?}");
+        assert!(met.settled[mode] > 2, "{met:?}");
     }
-    assert!(met.compared > 50, "{met:?}");
+    assert!(met.settled.iter().sum::<u32>() > 100, "{met:?}");
 }

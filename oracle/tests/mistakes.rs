@@ -1,4 +1,6 @@
-//! "Mistakes others made here": the model makes none of them.
+//! "Mistakes others made here": the model makes none of them, but for the second,
+//! "The mode 0 L2 command empties L1D.", which "becomes the rule" (02, U10; see
+//! tests/l2_reaches_l1d.rs).
 
 use oracle::gen::Setup;
 use oracle::Command;
@@ -51,29 +53,6 @@ fn evicted_l2_line_takes_in_both_dirty_halves() {
     }
     assert_eq!((setup.l1d_line(A), setup.l1d_line(A + 64), setup.l2_line(A)), (None, None, None));
     assert_eq!((setup.ext[1], setup.ext[2], setup.ext[66]), (0x11, 0x22, 0x33));
-}
-
-/// "The mode 0 L2 command empties L1D."
-#[test]
-fn l2_commands_do_nothing_in_mode_0() {
-    let mut setup = cached(0);
-    setup.read(4, A);
-    setup.write(4, A, 0x1234);
-    setup.read(4, 0x40);
-    setup.write(4, 0x40, 0x5678);
-    let (base, count) = (A, 65_535);
-    for command in [
-        Command::L2WritebackAll,
-        Command::L2WritebackInvalidateAll,
-        Command::L2BlockWriteback { base, count },
-        Command::L2BlockWritebackInvalidate { base, count },
-        Command::L2BlockInvalidate { base, count },
-        Command::L2BlockInvalidate { base: 0, count },
-    ] {
-        let before = setup.clone();
-        assert_eq!(setup.call(&command).number, 0);
-        assert!(setup == before, "{command:?}");
-    }
 }
 
 /// "A write miss fills L1D."
