@@ -5,7 +5,6 @@ use std::mem::{align_of, offset_of, size_of};
 use std::ops::{Deref, DerefMut};
 
 use oracle::gen::Rng;
-use oracle::geometry::EXTERNAL_BASE;
 use oracle::record::{L1dSet, L2Set, Line, Record};
 use oracle::Command;
 
@@ -460,12 +459,11 @@ pub fn byte_difference(ours: &CRecord, theirs: &CRecord) -> String {
     format!("padding byte {place} is {ours:#04x}, expected {theirs:#04x}; {more} bytes differ")
 }
 
-/// A dirty line of external memory in either cache.
-pub fn dirty_external_line(record: &CRecord) -> Option<String> {
+/// A dirty line in either cache.
+pub fn dirty_line(record: &CRecord) -> Option<String> {
     let l1d = record.l1d.iter().flat_map(|set| &set.lines).map(|line| ("L1D", line));
     let l2 = record.l2.iter().flat_map(|set| &set.lines).map(|line| ("L2", line));
-    let is_external = |line: &CLine| line.address >= EXTERNAL_BASE;
-    let (cache, line) = l1d.chain(l2).find(|(_, line)| line.dirty != 0 && is_external(line))?;
+    let (cache, line) = l1d.chain(l2).find(|(_, line)| line.dirty != 0)?;
     Some(format!("{cache} line {:#x}", line.address))
 }
 
@@ -507,7 +505,7 @@ pub fn record_difference(ours: &CRecord, theirs: &CRecord) -> String {
 
 #[cfg(test)]
 mod tests {
-    use super::{byte_difference, dirty_external_line, padding_of, record_of, Held};
+    use super::{byte_difference, dirty_line, padding_of, record_of, Held};
     use oracle::{Line, Record};
 
     /// The record's own byte, 2 for each of 128 sets of L1D, 2 for each line.
@@ -544,18 +542,19 @@ mod tests {
     }
 
     #[test]
-    fn dirty_lines_of_external_memory_are_found() {
+    fn dirty_lines_are_found() {
         let mut record = Record::fresh(65_536, 65_536);
-        assert_eq!(dirty_external_line(&record_of(&record)), None);
-        // SRAM stays dirty through a global writeback.
-        record.l1d[1].lines[1] = Line { valid: true, dirty: true, address: 64 };
+        record.l1d[0].lines[0] = Line { valid: true, dirty: false, address: 0 };
         record.l2[0].lines[0] = Line { valid: true, dirty: false, address: 0x8000_0000 };
-        assert_eq!(dirty_external_line(&record_of(&record)), None);
+        assert_eq!(dirty_line(&record_of(&record)), None);
         record.l2[511].lines[3] = Line { valid: true, dirty: true, address: 0x8000_FF80 };
-        let found = dirty_external_line(&record_of(&record));
+        let found = dirty_line(&record_of(&record));
         assert_eq!(found.as_deref(), Some("L2 line 0x8000ff80"));
         record.l1d[127].lines[1] = Line { valid: true, dirty: true, address: 0x8000_1FC0 };
-        let found = dirty_external_line(&record_of(&record));
+        let found = dirty_line(&record_of(&record));
         assert_eq!(found.as_deref(), Some("L1D line 0x80001fc0"));
+        // A global writeback sends lines of SRAM home too.
+        record.l1d[1].lines[1] = Line { valid: true, dirty: true, address: 64 };
+        assert_eq!(dirty_line(&record_of(&record)).as_deref(), Some("L1D line 0x40"));
     }
 }

@@ -33,7 +33,7 @@ compare: the calls of the boundary against the reference model
   --seed S             the seed of all that is random (default 640101)
   --bench-trace PATH   the program bench-trace, to be compared as well
   --section NAME       only this section: records, lists, traces, refusals, views,
-                       short-runs, writing, two-runs, dropped, load
+                       short-runs, writing, two-runs, dropped, reaching, load
   --group K            only group K of that section
   --input K            nothing but input K of bench-trace
   --now PATH           a file that says which group is being run
@@ -173,8 +173,18 @@ fn run(arguments: &Arguments) -> Result<bool, String> {
     println!("servers met, 0 to 4: {:?}; modes: {:?}", met.servers, met.modes);
     println!(
         "refused calls and views with every byte of the record kept: {}; global writebacks with \
-         nothing left dirty: {}; memories set against flat memory: {} after calls, {} after runs",
-        met.untouched, met.written_back, met.flat_memories, met.flat_runs
+         nothing left dirty: {}; memories set against flat memory: {} after calls ({} with a line \
+         of SRAM sent home), {} after runs",
+        met.untouched,
+        met.written_back,
+        met.flat_memories.iter().sum::<u64>(),
+        met.flat_sram.iter().sum::<u64>(),
+        met.flat_runs.iter().sum::<u64>()
+    );
+    println!(
+        "dirty lines that L2 commands took out of L1D and that lay in no L2 line, of SRAM and of \
+         external memory, codes 2 to 6: {:?}",
+        met.beside_l2
     );
     println!(
         "commands written: {}, refused with 11: {}, with 16: {}",
@@ -317,8 +327,11 @@ fn met_everything(met: &Met) -> bool {
         && met.modes[7] * 100 >= met.modes.iter().sum::<u64>() * 8
         && met.ranges.iter().flatten().all(|&count| count > 50)
         && [met.odd, met.views, met.runs, met.flat_reads].iter().all(|&count| count > 1_000)
-        && met.flat_memories > 50
-        && met.flat_runs > 50
+        && [0, 1, 2, 3, 7].iter().all(|&mode| met.flat_memories[mode] > 30)
+        && [0, 1, 2, 3, 7].iter().all(|&mode| met.flat_runs[mode] > 10)
+        // Mode 7 leaves no SRAM.
+        && [0, 1, 2, 3].iter().all(|&mode| met.flat_sram[mode] > 20)
+        && met.beside_l2.iter().flatten().all(|&count| count > 50)
         && met.untouched > 10_000
         && met.written_back > 500
         && met.puts.iter().all(|&count| count > 1_000)

@@ -7,7 +7,7 @@ use std::panic::{catch_unwind, AssertUnwindSafe};
 use oracle::calls::{fresh_start, look, look_number};
 use oracle::dropped::History;
 use oracle::flat::Flat;
-use oracle::gen::{Fault, Setup, FAULTS, LEGAL_MODES, RANGE_BYTES};
+use oracle::gen::{code, Fault, Setup, FAULTS, LEGAL_MODES, RANGE_BYTES};
 use oracle::geometry::{external_length_is_legal, l2_length_is_legal, EXTERNAL_BASE, L1D_BYTES};
 use oracle::short_runs;
 use oracle::trace::{decode, ANSWER_BYTES};
@@ -15,8 +15,8 @@ use oracle::wellformed::is_well_formed;
 use oracle::{Answer, Command, Record, RunResult};
 
 use crate::boundary::{
-    self, byte_difference, dirty_external_line, padding_of, record_difference, record_of,
-    same_record, CAnswer, CRecord, CRunNumber, CShortRun, Held, Lent,
+    self, byte_difference, dirty_line, padding_of, record_difference, record_of, same_record,
+    CAnswer, CRecord, CRunNumber, CShortRun, Held, Lent,
 };
 use crate::now;
 use crate::plant;
@@ -90,9 +90,15 @@ pub struct Met {
     pub views: u64,
     pub runs: u64,
     pub flat_reads: u64,
-    pub flat_memories: u64,
-    /// Runs that ended in a global writeback, with external memory compared.
-    pub flat_runs: u64,
+    /// Global writebacks after which external memory and SRAM were set against flat
+    /// memory, by the mode, and runs that ended in one.
+    pub flat_memories: [u64; 8],
+    pub flat_runs: [u64; 8],
+    /// Those of the former before which L1D held a dirty line of SRAM.
+    pub flat_sram: [u64; 8],
+    /// Dirty lines that left L1D with an L2 command and lay in no L2 line, by the
+    /// code from 2 to 6: those of SRAM, and in mode 0 those of external memory.
+    pub beside_l2: [[u64; 2]; 5],
     /// Calls that may change no byte of the record, padding included.
     pub untouched: u64,
     /// Global writebacks after which dirty lines were looked for.
@@ -184,7 +190,7 @@ pub enum Kind {
     /// What a run took in, and how many answers it gave.
     Counts,
     Record,
-    /// A dirty line of external memory after a global writeback.
+    /// A dirty line after a global writeback.
     Dirty,
     Bytes,
     /// A sentence about dropped lines, by its place in the request.
@@ -354,11 +360,11 @@ fn expect_untouched(name: &str, ours: &CRecord, passed: &CRecord) -> Result<(), 
     Err(Wrong { kind: Kind::Record, what })
 }
 
-/// After a global writeback in a mode other than 0 everything that was written to
-/// external memory is there. This asks the record alone, and not the reference
-/// model.
+/// After a global writeback everything that was written is where it is at home, in
+/// every mode: no line is dirty in L1D, none in L2. This asks the record alone, and
+/// not the reference model.
 fn expect_nothing_dirty(name: &str, ours: &CRecord) -> Result<(), Wrong> {
-    match dirty_external_line(ours) {
+    match dirty_line(ours) {
         Some(line) => {
             let what = format!("{name}: after a global writeback {line} is dirty");
             Err(Wrong { kind: Kind::Dirty, what })
@@ -367,10 +373,18 @@ fn expect_nothing_dirty(name: &str, ours: &CRecord) -> Result<(), Wrong> {
     }
 }
 
-/// Whether this was an accepted global L2 writeback in a mode other than 0.
-fn is_global(command: &Command, answer: &Answer, record: &CRecord) -> bool {
+/// Whether this was an accepted global L2 writeback.
+fn is_global(command: &Command, answer: &Answer) -> bool {
     let global = matches!(command, Command::L2WritebackAll | Command::L2WritebackInvalidateAll);
-    global && answer.number == 0 && record.mode != 0
+    global && answer.number == 0
+}
+
+/// After a global writeback external memory and SRAM are flat memory's, byte for
+/// byte. How much of L2 is SRAM goes by flat memory.
+fn expect_settled(name: &str, l2: &[u8], ext: &[u8], flat: &Flat) -> Result<(), Wrong> {
+    expect_bytes(&format!("external memory{name}, by flat memory,"), ext, &flat.ext)?;
+    let sram = &l2[..flat.sram.len()];
+    expect_bytes(&format!("SRAM{name}, by flat memory,"), sram, &flat.sram)
 }
 
 fn answer_of(called: &CAnswer) -> Answer {
@@ -477,14 +491,16 @@ impl Pair<'_> {
         } else {
             self.theirs.call(command)
         };
+        let before = plant::before(command, &self.l2, &self.ext);
         let (record, lent) = self.lent();
         let mut called = boundary::direct(record, command, lent);
         let lent = Lent { l1d: &mut self.l1d, l2: &mut self.l2, ext: &mut self.ext };
-        plant::direct(command, &mut called, &mut self.record, &self.passed, lent);
+        plant::direct(command, &mut called, &mut self.record, &self.passed, lent, before);
         self.count(command, &theirs);
         let ours = answer_of(&called);
         expect_answer("answer", ours, theirs)?;
-        if is_global(command, &ours, &self.record) {
+        self.count_beside_l2(command);
+        if is_global(command, &ours) {
             expect_nothing_dirty("record", &self.record)?;
             self.met.written_back += 1;
         }
@@ -529,6 +545,22 @@ impl Pair<'_> {
         }
     }
 
+    /// The lines that an L2 command took out of L1D.
+    fn count_beside_l2(&mut self, command: &Command) {
+        let code = usize::from(code(command));
+        if !(2..=6).contains(&code) {
+            return;
+        }
+        let were = self.passed.l1d.iter().flat_map(|set| &set.lines);
+        let are = self.record.l1d.iter().flat_map(|set| &set.lines);
+        for line in were.zip(are).filter(|(_, now)| now.valid == 0).map(|(line, _)| line) {
+            let external = line.address >= EXTERNAL_BASE;
+            if line.dirty == 1 && (!external || self.passed.mode == 0) {
+                self.met.beside_l2[code - 2][usize::from(external)] += 1;
+            }
+        }
+    }
+
     /// The record is the expected one; where nothing was accepted, no byte of it
     /// has changed.
     fn expect_record(&mut self, accepted: bool) -> Result<(), Wrong> {
@@ -559,10 +591,13 @@ impl Pair<'_> {
     fn flat(&mut self, command: &Command, ours: &Answer) -> Result<(), Wrong> {
         self.flat_answer(command, ours)?;
         let Some(flat) = &mut self.flat else { return Ok(()) };
-        if is_global(command, ours, &self.record) {
+        if is_global(command, ours) {
             plant::flat_writeback(flat);
-            expect_bytes("external memory, by flat memory,", &self.ext, &flat.ext)?;
-            self.met.flat_memories += 1;
+            expect_settled("", &self.l2, &self.ext, flat)?;
+            self.met.flat_memories[usize::from(self.record.mode)] += 1;
+            let mut held = self.passed.l1d.iter().flat_map(|set| &set.lines);
+            let was_dirty = held.any(|line| line.dirty == 1 && line.address < EXTERNAL_BASE);
+            self.met.flat_sram[usize::from(self.record.mode)] += u64::from(was_dirty);
         }
         Ok(())
     }
@@ -588,9 +623,7 @@ impl Pair<'_> {
         self.met.long_runs += u64::from(run.consumed > 5_000);
         let carried_out = carried_out(trace, &answers, run.count);
         // The record stands as it is after the whole run.
-        let global = carried_out
-            .last()
-            .is_some_and(|(command, answer)| is_global(command, answer, &self.record));
+        let global = carried_out.last().is_some_and(|(command, answer)| is_global(command, answer));
         if global {
             expect_nothing_dirty("record after a run", &self.record)?;
             self.met.written_back += 1;
@@ -602,8 +635,8 @@ impl Pair<'_> {
         }
         if let (true, Some(flat)) = (global, &mut self.flat) {
             plant::flat_run(flat);
-            expect_bytes("external memory after a run, by flat memory,", &self.ext, &flat.ext)?;
-            self.met.flat_runs += 1;
+            expect_settled(" after a run", &self.l2, &self.ext, flat)?;
+            self.met.flat_runs[usize::from(self.record.mode)] += 1;
         }
         Ok(answers)
     }
@@ -625,10 +658,11 @@ impl Pair<'_> {
             let Some((command, length)) = decode(&trace[place..]) else { break };
             record.pad_like(&self.padding);
             *passed = **record;
+            let before = plant::before(&command, &l2, &ext);
             let lent = Lent { l1d: &mut l1d, l2: &mut l2, ext: &mut ext };
             let mut called = boundary::direct(&mut record, &command, lent);
             let lent = Lent { l1d: &mut l1d, l2: &mut l2, ext: &mut ext };
-            plant::direct(&command, &mut called, &mut record, &passed, lent);
+            plant::direct(&command, &mut called, &mut record, &passed, lent, before);
             self.met.calls += 1;
             self.met.numbers[called.number as usize] += 1;
             self.met.servers[called.server as usize] += 1;
@@ -639,7 +673,7 @@ impl Pair<'_> {
                 expect_untouched("record after a single call", &record, &passed)?;
                 self.met.untouched += 1;
             }
-            if is_global(&command, &single, &record) {
+            if is_global(&command, &single) {
                 expect_nothing_dirty("record after a single call", &record)?;
                 self.met.written_back += 1;
             }

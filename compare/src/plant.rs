@@ -2,6 +2,7 @@
 //! and what came back is changed by it before it is compared. The library, the
 //! reference model and bench-trace stay as they are.
 
+use std::ops::Range;
 use std::os::unix::process::ExitStatusExt;
 use std::process::{ExitStatus, Output};
 use std::sync::OnceLock;
@@ -11,11 +12,11 @@ use oracle::flat::Flat;
 use oracle::geometry::{external_offset, sram_size, L1d, EXTERNAL_BASE, L2};
 use oracle::load::Load;
 use oracle::machine::{SERVER_L1D, SERVER_L2};
-use oracle::trace::ANSWER_BYTES;
+use oracle::trace::{decode, ANSWER_BYTES};
 use oracle::writer::Put;
 use oracle::{Answer, Command};
 
-use crate::boundary::{CAnswer, CRecord, CRun, CRunNumber, CShortRun, Lent};
+use crate::boundary::{CAnswer, CLine, CRecord, CRun, CRunNumber, CShortRun, Lent};
 use crate::pair::SMALL;
 
 /// The planted differences; `PLANTS` says what each does.
@@ -52,6 +53,17 @@ enum Plant {
     WritebackDirty,
     RunDirty,
     FlatRun,
+    SramLeftDirty,
+    ModeZeroSkips,
+    EmptiedOrder,
+    BlockDropsSram,
+    BlockTakesBoth,
+    InvalidateWrites,
+    RunSramDirty,
+    FlatGlobalSram,
+    FlatModeZero,
+    FlatRunSram,
+    FlatRunModeZero,
     FlatByte,
     ShortRunDigit,
     ShortRunBehind,
@@ -84,6 +96,7 @@ enum Plant {
     LoadLength,
     LoadOrder,
     LoadRun,
+    KeptOverL2,
     BenchOutput,
     BenchStatus,
 }
@@ -99,7 +112,7 @@ const fn planted(plant: Plant, name: &'static str, about: &'static str) -> Plant
     Planted { plant, name, about }
 }
 
-pub const PLANTS: [Planted; 65] = [
+pub const PLANTS: [Planted; 77] = [
     planted(Plant::ReadValue, "read-value", "a 4-byte read from L2 cache gets 1 more"),
     planted(Plant::ReadOrder, "read-order", "a read hit in L1D turns its set's order around"),
     planted(Plant::WriteNumber, "write-number", "a write refused with 6 gets 5"),
@@ -131,6 +144,17 @@ pub const PLANTS: [Planted; 65] = [
     planted(Plant::WritebackDirty, "writeback-dirty", "a global writeback leaves a line dirty"),
     planted(Plant::RunDirty, "run-dirty", "a run that ends in one leaves a line dirty"),
     planted(Plant::FlatRun, "flat-run", "a run that ends in one changes flat memory"),
+    planted(Plant::SramLeftDirty, "sram-left-dirty", "a global writeback leaves out SRAM's lines"),
+    planted(Plant::ModeZeroSkips, "mode-0-skips", "a global writeback does nothing in mode 0"),
+    planted(Plant::EmptiedOrder, "emptied-order", "sets that a global writeback empties are fresh"),
+    planted(Plant::BlockDropsSram, "block-drops-sram", "L2 block writebacks drop SRAM's lines"),
+    planted(Plant::BlockTakesBoth, "block-takes-both", "L2 block commands take 128 bytes of SRAM"),
+    planted(Plant::InvalidateWrites, "invalidate-writes", "L2 block invalidate sends SRAM home"),
+    planted(Plant::RunSramDirty, "run-sram-dirty", "a run that ends in one leaves SRAM dirty"),
+    planted(Plant::FlatGlobalSram, "flat-writeback-sram", "a global writeback changes flat SRAM"),
+    planted(Plant::FlatModeZero, "flat-mode-0", "one in mode 0 changes flat external memory"),
+    planted(Plant::FlatRunSram, "flat-run-sram", "a run that ends in one changes flat SRAM"),
+    planted(Plant::FlatRunModeZero, "flat-run-mode-0", "a run that ends in that does so"),
     planted(Plant::FlatByte, "flat-byte", "a 1-byte read gets 1 more by flat memory"),
     planted(Plant::ShortRunDigit, "short-run-digit", "the last of four digits of a run is wrong"),
     planted(Plant::ShortRunBehind, "short-run-behind", "a run of three has a digit behind them"),
@@ -163,6 +187,7 @@ pub const PLANTS: [Planted; 65] = [
     planted(Plant::LoadLength, "load-length", "the length of a load of one write is one less"),
     planted(Plant::LoadOrder, "load-order", "16 comes before 1 where there is no output"),
     planted(Plant::LoadRun, "load-run", "a run over a load refuses its last access"),
+    planted(Plant::KeptOverL2, "kept-over-l2", "a byte keeps its value over L2's drop of SRAM"),
     planted(Plant::BenchOutput, "bench-output", "bench-trace prints a line more after an 8"),
     planted(Plant::BenchStatus, "bench-status", "bench-trace fails after a 7"),
 ];
@@ -200,6 +225,107 @@ fn make_dirty(record: &mut CRecord) {
     }
 }
 
+/// L2 and external memory before a call.
+pub struct Before {
+    l2: Vec<u8>,
+    ext: Vec<u8>,
+}
+
+/// What a difference needs that puts bytes back.
+pub fn before(command: &Command, l2: &[u8], ext: &[u8]) -> Option<Before> {
+    let wanted = match CHOSEN.get()? {
+        Plant::SramLeftDirty | Plant::ModeZeroSkips => is_global(command),
+        Plant::BlockDropsSram => is_l2_block(command),
+        _ => false,
+    };
+    wanted.then(|| Before { l2: l2.to_vec(), ext: ext.to_vec() })
+}
+
+/// Whether this is a block command of L2.
+fn is_l2_block(command: &Command) -> bool {
+    matches!(
+        command,
+        Command::L2BlockWriteback { .. }
+            | Command::L2BlockWritebackInvalidate { .. }
+            | Command::L2BlockInvalidate { .. }
+    )
+}
+
+/// The lines of SRAM that an L2 command took out of L1D, by set and way.
+fn sram_lines_taken(passed: &CRecord, record: &CRecord) -> Vec<(usize, usize, CLine)> {
+    let mut taken = Vec::new();
+    for (set, (held, now)) in passed.l1d.iter().zip(&record.l1d).enumerate() {
+        for (way, line) in held.lines.iter().enumerate() {
+            if line.valid == 1 && line.address < EXTERNAL_BASE && now.lines[way].valid == 0 {
+                taken.push((set, way, *line));
+            }
+        }
+    }
+    taken
+}
+
+/// The bytes of a line of SRAM.
+fn sram_bytes(line: &CLine) -> Range<usize> {
+    let from = line.address as usize;
+    from..from + L1d::LINE as usize
+}
+
+/// What an L2 command has left in L1D and in the memories after it was accepted:
+/// mistakes in reaching the lines of L1D.
+fn reached(
+    plant: Plant,
+    command: &Command,
+    record: &mut CRecord,
+    passed: &CRecord,
+    lent: Lent,
+    before: Option<Before>,
+) {
+    let taken = sram_lines_taken(passed, record);
+    let dirty = taken.iter().filter(|(_, _, line)| line.dirty == 1);
+    match (plant, before) {
+        (Plant::SramLeftDirty, Some(before)) => {
+            for (set, way, line) in dirty {
+                record.l1d[*set].lines[*way] = *line;
+                lent.l2[sram_bytes(line)].copy_from_slice(&before.l2[sram_bytes(line)]);
+            }
+        }
+        (Plant::ModeZeroSkips, Some(before)) if record.mode == 0 => {
+            record.l1d = passed.l1d;
+            lent.l2.copy_from_slice(&before.l2);
+            lent.ext.copy_from_slice(&before.ext);
+        }
+        (Plant::BlockDropsSram, Some(before)) => {
+            for (_, _, line) in dirty {
+                lent.l2[sram_bytes(line)].copy_from_slice(&before.l2[sram_bytes(line)]);
+            }
+        }
+        (Plant::EmptiedOrder, _) if is_global(command) => {
+            for (held, now) in passed.l1d.iter().zip(&mut record.l1d) {
+                if held.lines.iter().any(|line| line.valid == 1) {
+                    now.order = [1, 0];
+                }
+            }
+        }
+        (Plant::BlockTakesBoth, _) if is_l2_block(command) => {
+            for (_, _, line) in &taken {
+                let other = line.address ^ L1d::LINE;
+                let mut ways = record.l1d[L1d::set_of(other)].lines.iter_mut();
+                if let Some(half) = ways.find(|way| way.valid == 1 && way.address == other) {
+                    (half.valid, half.dirty, half.address) = (0, 0, 0);
+                }
+            }
+        }
+        (Plant::InvalidateWrites, _) if matches!(command, Command::L2BlockInvalidate { .. }) => {
+            for (set, way, line) in dirty {
+                let from = L1d::offset(*set, *way);
+                let bytes = &lent.l1d[from..from + L1d::LINE as usize];
+                lent.l2[sram_bytes(line)].copy_from_slice(bytes);
+            }
+        }
+        _ => {}
+    }
+}
+
 /// What a direct call gave back, and the record and the memories after it.
 pub fn direct(
     command: &Command,
@@ -207,9 +333,14 @@ pub fn direct(
     record: &mut CRecord,
     passed: &CRecord,
     lent: Lent,
+    before: Option<Before>,
 ) {
     let Some(plant) = CHOSEN.get() else { return };
     let accepted = called.number == 0;
+    if accepted && (is_global(command) || is_l2_block(command)) {
+        let lent = Lent { l1d: &mut *lent.l1d, l2: &mut *lent.l2, ext: &mut *lent.ext };
+        reached(*plant, command, record, passed, lent, before);
+    }
     match (plant, *command) {
         (Plant::ReadValue, Command::Read { size: 4, .. }) if called.server == SERVER_L2 => {
             called.value += 1;
@@ -248,6 +379,24 @@ pub fn direct(
     }
 }
 
+/// Whether the last command of a whole trace is a global L2 writeback.
+fn ends_globally(trace: &[u8]) -> bool {
+    let (mut place, mut last) = (0, None);
+    while let Some((command, length)) = decode(&trace[place..]) {
+        place += length;
+        last = Some(command);
+    }
+    last.is_some_and(|command| is_global(&command))
+}
+
+/// L1D holds the last line of SRAM's first 8 Kbytes, dirty, if there is SRAM.
+fn hold_sram_line(record: &mut CRecord) {
+    if sram_size(record.l2len, record.mode.into()) > 0 {
+        let line = &mut record.l1d[127].lines[0];
+        (line.valid, line.dirty, line.address) = (1, 1, 127 * L1d::LINE);
+    }
+}
+
 /// What a fresh start gave back, and the record after it.
 pub fn fresh(called: &mut CAnswer, record: &mut CRecord, passed: &CRecord) {
     match CHOSEN.get() {
@@ -269,6 +418,9 @@ pub fn run(run: &mut CRun, answers: &mut [u8], record: &mut CRecord, trace: &[u8
         Some(Plant::RunPadding) if run.stop == 2 => change(Some(record.some_padding())),
         // A code that is a whole command.
         Some(Plant::RunDirty) if run.stop == 0 && trace.last() == Some(&2) => make_dirty(record),
+        Some(Plant::RunSramDirty) if run.stop == 0 && ends_globally(trace) => {
+            hold_sram_line(record);
+        }
         _ => {}
     }
 }
@@ -380,15 +532,22 @@ pub fn flat_answer(command: &Command, number: &mut u8, value: &mut u64) {
 
 /// Flat memory after a global writeback.
 pub fn flat_writeback(flat: &mut Flat) {
-    if CHOSEN.get() == Some(&Plant::FlatWriteback) {
-        change(flat.ext.last_mut());
+    match CHOSEN.get() {
+        Some(Plant::FlatWriteback) => change(flat.ext.last_mut()),
+        Some(Plant::FlatGlobalSram) => change(flat.sram.last_mut()),
+        // In mode 0 all of L2 is SRAM.
+        Some(Plant::FlatModeZero) if flat.s == flat.l => change(flat.ext.last_mut()),
+        _ => {}
     }
 }
 
 /// Flat memory after a run that ends in a global writeback.
 pub fn flat_run(flat: &mut Flat) {
-    if CHOSEN.get() == Some(&Plant::FlatRun) {
-        change(flat.ext.last_mut());
+    match CHOSEN.get() {
+        Some(Plant::FlatRun) => change(flat.ext.last_mut()),
+        Some(Plant::FlatRunSram) => change(flat.sram.last_mut()),
+        Some(Plant::FlatRunModeZero) if flat.s == flat.l => change(flat.ext.last_mut()),
+        _ => {}
     }
 }
 
@@ -412,6 +571,10 @@ pub fn history_answer(command: &Command, answer: &mut Answer) {
 pub fn keeps_over(command: &Command) -> bool {
     match CHOSEN.get() {
         Some(Plant::KeptOverMode) => matches!(command, Command::Mode { .. }),
+        // From there a block does not come to external memory.
+        Some(Plant::KeptOverL2) => {
+            matches!(command, Command::L2BlockInvalidate { base, .. } if *base < EXTERNAL_BASE / 2)
+        }
         Some(Plant::KeptOverDrop) => matches!(
             command,
             Command::L2BlockInvalidate { .. }

@@ -1,4 +1,4 @@
-//! What is compared: eight sections, each made of groups, each group of a few
+//! What is compared: ten sections, each made of groups, each group of a few
 //! lists of calls. A group is known by its section and number, and equal seeds
 //! give equal groups.
 
@@ -8,7 +8,7 @@ use oracle::gen::{
     Mix, Rng, Setup, TraceKind, E_BOTH_RANGES, FAULTS, LEGAL_L, LEGAL_MODES, RANGE_BYTES,
     TRACE_KINDS, WRONG_LENGTHS,
 };
-use oracle::geometry::{mode_is_legal, EXTERNAL_BASE, L2};
+use oracle::geometry::{mode_is_legal, sram_size, EXTERNAL_BASE, L2};
 use oracle::short_runs;
 use oracle::{Command, Line, Record};
 
@@ -35,7 +35,7 @@ pub enum Group {
     Words(fn(&mut Rng, u64, &mut Met) -> Option<String>),
 }
 
-pub const SECTIONS: [Section; 10] = [
+pub const SECTIONS: [Section; 11] = [
     Section {
         name: "records",
         share: 40,
@@ -100,6 +100,13 @@ pub const SECTIONS: [Section; 10] = [
         groups: 0,
         about: "lists with drops, each byte read set against its history",
         group: Group::Calls(dropped),
+    },
+    Section {
+        name: "reaching",
+        share: 10,
+        groups: 0,
+        about: "L2 commands on lines that L1D alone holds, set against flat memory",
+        group: Group::Calls(reaching),
     },
     Section {
         name: "load",
@@ -296,7 +303,7 @@ fn lists(rng: &mut Rng, group: u64, met: &mut Met) -> Option<Case> {
             let kind = rng.pick(&[TraceKind::Valid, TraceKind::CutOff, TraceKind::UnknownCode]);
             let mut trace = gen::trace(rng, &lines, &mix, count, kind).bytes;
             let mut answer_bytes = 10 * count + rng.below(12) as usize;
-            // After a run that ends in a global writeback external memory is known.
+            // After a run that ends in a global writeback both memories are known.
             if kind == TraceKind::Valid && rng.chance(2, 3) {
                 encode(&global_writeback(rng), &mut trace);
                 answer_bytes += 10;
@@ -347,6 +354,57 @@ fn dropped(rng: &mut Rng, group: u64, met: &mut Met) -> Option<Case> {
         }
     }
     check(Start { history: true, ..plain(rng, setup) }, ops, met)
+}
+
+/// A list from fresh in which L2's commands come often, and half of the lines that
+/// calls come back to lie in SRAM, beside each other and in one set: L1D alone holds
+/// them, and in mode 0 those of external memory too. In every third group L2 block
+/// invalidate drops some; then each byte that is read keeps to its history, and in
+/// the others to flat memory.
+fn reaching(rng: &mut Rng, group: u64, met: &mut Met) -> Option<Case> {
+    let mode = LEGAL_MODES[group as usize % LEGAL_MODES.len()];
+    // Some of L2 is left as SRAM where that can be.
+    let with_sram: Vec<u32> = LEGAL_L.into_iter().filter(|&l| sram_size(l, mode) > 0).collect();
+    let l = if mode == 7 { LEGAL_L[7] } else { rng.pick(&with_sram) };
+    let e = [65_536, 8_192, 6 * 65_536, 128][group as usize % 4];
+    let drops = group % 3 == 2;
+    let mix = Mix {
+        l2_all: 60,
+        l2_block_writeback: 120,
+        l2_block_invalidate: if drops { 60 } else { 0 },
+        mode: 3,
+        mar: 8,
+        ..Mix::NO_DROPS
+    };
+    let mut ext = vec![0; e as usize];
+    rng.fill(&mut ext);
+    let setup = Setup::fresh_over(l, ext);
+    let begin = [Command::Mar { number: 128, bit: 1 }, Command::Mode { mode }];
+    let mut ops = begin.map(Op::Direct).to_vec();
+    let mut lines = hot(rng, l, e);
+    for _ in 0..lines.lines.len() / 2 {
+        let line = 64 * rng.below(4) + 8_192 * rng.below(4);
+        lines.lines.extend([line, line ^ 64]);
+    }
+    for _ in 0..600 {
+        match rng.below(60) {
+            0 => {
+                let count = rng.below(12) as usize;
+                let mut trace = gen::trace(rng, &lines, &mix, count, TraceKind::Valid).bytes;
+                encode(&global_writeback(rng), &mut trace);
+                ops.push(Op::RunAndSingleCalls { trace, answer_bytes: 10 * (count + 1) });
+            }
+            // A line becomes dirty: it is read and written.
+            1..=20 => {
+                let (size, address) = (4, rng.pick(&lines.lines) + 4 * rng.below(16));
+                ops.push(Op::Direct(Command::Read { size, address }));
+                let value = rng.next_u32().into();
+                ops.push(Op::Direct(Command::Write { size, address, value }));
+            }
+            _ => ops.push(Op::Direct(command(rng, &lines, &mix))),
+        }
+    }
+    check(Start { flat: !drops, history: drops, ..plain(rng, setup) }, ops, met)
 }
 
 fn global_writeback(rng: &mut Rng) -> Command {
@@ -419,7 +477,7 @@ fn flat_traces(rng: &mut Rng, l: u32, e: u32, met: &mut Met) -> Option<Case> {
     let setup = Setup::fresh_over(l, ext);
     let lines = hot(rng, l, e);
     let mut modes = LEGAL_MODES.to_vec();
-    modes.retain(|&mode| mode != 0 && mode_is_legal(l, mode));
+    modes.retain(|&mode| mode_is_legal(l, mode));
     let mut ops = Vec::new();
     for turn in 0..8 {
         let mut trace = Vec::new();
