@@ -504,6 +504,25 @@ static void mode_after_writes(struct trace *t, uint32_t mode, uint32_t other)
     }
 }
 
+/* Every line of L1D, all of one memory, is read and written: from here on it holds 256 dirty lines. */
+static void fill_l1d(struct trace *t, uint32_t from)
+{
+    for (uint32_t a = 0; a < 16384; a += 64) {
+        put(t, 0, 4, from + a, 0);
+        put(t, 1, 4, from + a + 8, t->count);
+    }
+}
+
+/* L1D is filled with dirty lines, then a global command sends them home, over and over. */
+static void filled_then(struct trace *t, uint32_t from, uint8_t code)
+{
+    clear(t);
+    while (t->count < COMMANDS) {
+        fill_l1d(t, from);
+        put(t, code, 0, 0, 0);
+    }
+}
+
 static void classes(struct trace *t)
 {
     head("trace run, by the command [servers]");
@@ -599,6 +618,17 @@ static void classes(struct trace *t)
     clear(t);
     put(t, 9, 0, 0, 0);
     class("a run of one command, L1D invalidate all", t);
+    for (uint32_t mode = 0; mode < 2; mode++)
+        for (int external = 0; external < 2; external++)
+            for (uint8_t code = 2; code <= 3; code++) {
+                char name[60];
+                start(t, 1, mode);
+                play("set-up", t);
+                filled_then(t, external ? EXTERNAL : 0, code);
+                snprintf(name, sizeof name, "256 dirty %s lines, then code %d, mode %u",
+                         external ? "external" : "SRAM", code, mode);
+                class(name, t);
+            }
 }
 
 /* ---- direct calls */
@@ -697,6 +727,24 @@ static void check_alone(const char *record)
     view(text, 4, 4);
 }
 
+/* A global writeback with all 256 lines of L1D dirty. */
+static void full_l1d(struct trace *t)
+{
+    for (uint32_t mode = 0; mode < 2; mode++)
+        for (int external = 0; external < 2; external++) {
+            start(t, 1, mode);
+            fill_l1d(t, external ? EXTERNAL : 0);
+            play("full L1D", t);
+            lib.answers_len = c.answers_len = 0;
+            for (uint8_t code = 2; code <= 3; code++) {
+                char name[60];
+                snprintf(name, sizeof name, "%d L2 writeback%s all, %s lines, mode %u", code,
+                         code == 3 ? "-invalidate" : "", external ? "external" : "SRAM", mode);
+                direct(name, code, 0, 0, 0);
+            }
+        }
+}
+
 static void directs(struct trace *t)
 {
     head("direct call, few lines (L = 65,536, mode 1)");
@@ -708,6 +756,9 @@ static void directs(struct trace *t)
     head("direct call, all lines dirty (L = 262,144, mode 7)");
     fill(t, 262144, 1 << 20, 7);
     each_call(65535);
+
+    head("direct call, all lines of L1D dirty (L = 65,536)");
+    full_l1d(t);
 
     head("the check of the whole record, and little more");
     static const uint32_t modes[5] = { 0, 1, 2, 3, 7 };

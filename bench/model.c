@@ -438,36 +438,7 @@ static inline uint64_t block_end(uint32_t base, uint32_t count)
     return end < 0x100000000u ? end : 0x100000000u;
 }
 
-/* 2, 4: writeback; 3, 5: writeback-invalidate; 6: invalidate. */
-static inline void l2_act(struct machine *k, int code, struct l2_set *u, int v)
-{
-    struct line *x = &u->lines[v];
-    uint8_t *data = code == 6 ? NULL : l2_data(k, u, v);
-    take_half(k, x->address, x, data);
-    take_half(k, x->address + L1D_LINE, x, data);
-    if (data && x->dirty) write_out(k, x, data);
-    x->dirty = 0;
-    if (code != 2 && code != 4) empty(x);
-}
-
-static void l2_all(struct machine *k, int code)
-{
-    for (uint32_t t = 0; t < k->sets; t++)
-        for (int w = 0; w < L2_WAYS; w++)
-            if (k->r->l2[t].lines[w].valid) l2_act(k, code, &k->r->l2[t], w);
-}
-
-static void l2_block(struct machine *k, int code, uint32_t base, uint32_t count)
-{
-    if (k->sets == 0 || count == 0) return;
-    uint64_t end = block_end(base, count);
-    for (uint64_t a = base & ~(uint32_t)(L2_LINE - 1); a < end; a += L2_LINE) {
-        struct l2_set *u = l2_set_of(k, (uint32_t)a);
-        int w = l2_find(u, (uint32_t)a);
-        if (w >= 0) l2_act(k, code, u, w);
-    }
-}
-
+/* The L1D lines of a block leave; 7: dirty ones go home first, 8: they are dropped. */
 static void l1d_block(struct machine *k, int code, uint32_t base, uint32_t count)
 {
     if (count == 0) return;
@@ -486,6 +457,51 @@ static void l1d_all(struct machine *k)
     for (int s = 0; s < L1D_SETS; s++) memset(k->r->l1d[s].lines, 0, sizeof k->r->l1d[s].lines);
 }
 
+/* Every dirty line goes home; no way is emptied. */
+static void l1d_home(struct machine *k)
+{
+    for (int s = 0; s < L1D_SETS; s++)
+        for (int w = 0; w < L1D_WAYS; w++)
+            if (k->r->l1d[s].lines[w].dirty) send_home(k, &k->r->l1d[s], w);
+}
+
+/* 2, 4: writeback; 3, 5: writeback-invalidate; 6: invalidate. */
+static inline void l2_leave(struct machine *k, int code, struct line *x, const uint8_t *data)
+{
+    if (code != 6 && x->dirty) write_out(k, x, data);
+    x->dirty = 0;
+    if (code != 2 && code != 4) empty(x);
+}
+
+/* All of L1D goes home first, in every mode and for SRAM too (02, U10), so that no L2 line has halves there. */
+static void l2_all(struct machine *k, int code)
+{
+    l1d_home(k);
+    l1d_all(k);
+    for (uint32_t t = 0; t < k->sets; t++)
+        for (int w = 0; w < L2_WAYS; w++)
+            if (k->r->l2[t].lines[w].valid) l2_leave(k, code, &k->r->l2[t].lines[w], l2_data(k, &k->r->l2[t], w));
+}
+
+/* The L1D lines of the block leave first, in every mode and for SRAM too (02, U10); an L2 line takes its other half
+   with it. */
+static void l2_block(struct machine *k, int code, uint32_t base, uint32_t count)
+{
+    l1d_block(k, code == 6 ? 8 : 7, base, count);
+    if (k->sets == 0 || count == 0) return;
+    uint64_t end = block_end(base, count);
+    for (uint64_t a = base & ~(uint32_t)(L2_LINE - 1); a < end; a += L2_LINE) {
+        struct l2_set *u = l2_set_of(k, (uint32_t)a);
+        int w = l2_find(u, (uint32_t)a);
+        if (w < 0) continue;
+        struct line *x = &u->lines[w];
+        uint8_t *data = l2_data(k, u, w);
+        take_half(k, x->address, x, code == 6 ? NULL : data);
+        take_half(k, x->address + L1D_LINE, x, code == 6 ? NULL : data);
+        l2_leave(k, code, x, data);
+    }
+}
+
 /* ---- modes */
 
 static void fresh_sets(struct record *r)
@@ -499,9 +515,7 @@ static void fresh_sets(struct record *r)
 static void change_mode(struct machine *k, uint8_t mode)
 {
     struct record *r = k->r;
-    for (int s = 0; s < L1D_SETS; s++)
-        for (int w = 0; w < L1D_WAYS; w++)
-            if (r->l1d[s].lines[w].dirty) send_home(k, &r->l1d[s], w);
+    l1d_home(k);
     for (uint32_t t = 0; t < k->sets; t++)
         for (int w = 0; w < L2_WAYS; w++)
             if (r->l2[t].lines[w].dirty) write_out(k, &r->l2[t].lines[w], l2_data(k, &r->l2[t], w));

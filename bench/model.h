@@ -1,5 +1,5 @@
-/* A plain C model of paper 01, "The C64x data memory in two levels", to measure the proved library against. Like the
-   library it is lent the record in place and copies it nowhere. The record's layout is that of include/c64x.h, so that
+/* A plain C model of paper 01, "The C64x data memory in two levels", as the requests of paper 02 have left it, to
+   measure the proved library against. Like the library it is lent the record in place and copies it nowhere. The record's layout is that of include/c64x.h, so that
    both sides can be held against each other field by field. Little-endian hosts only. */
 #ifndef MODEL_H
 #define MODEL_H

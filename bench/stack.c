@@ -185,6 +185,7 @@ static void every_call(void)
         { 1, 8, EXTERNAL + 64, 5 }, { 1, 8, EXTERNAL + 0x50000, 5 }, { 1, 8, 64, 5 }, { 1, 1, 0, 256 },
         { 2, 0, 0, 0 }, { 3, 0, 0, 0 },
         { 4, EXTERNAL, 65535, 0 }, { 5, EXTERNAL, 65535, 0 }, { 6, EXTERNAL, 65535, 0 },
+        { 4, 0, 65535, 0 }, { 5, 0, 65535, 0 }, { 6, 0, 65535, 0 },
         { 7, EXTERNAL, 65535, 0 }, { 7, 0, 65535, 0 }, { 8, EXTERNAL, 65535, 0 }, { 9, 0, 0, 0 },
         { 10, 0, 0, 0 }, { 10, 1, 0, 0 }, { 10, 2, 0, 0 }, { 10, 3, 0, 0 }, { 10, 7, 0, 0 }, { 10, 4, 0, 0 },
         { 11, 128, 1, 0 }, { 11, 128, 0, 0 }, { 11, 129, 0, 0 }, { 11, 7, 0, 0 },
@@ -210,8 +211,8 @@ static void fresh(size_t l)
     if (c64x_fresh(&record, LENT).number != 0) abort();
 }
 
-/* Every line of both caches in use and dirty. */
-static void fill(uint32_t mode)
+/* Every line of both caches in use and dirty; those of L1D lie from an address on. */
+static void fill(uint32_t mode, uint32_t from)
 {
     static const uint32_t lines[8] = { 0, 256, 512, 1024, 0, 0, 0, 2048 };
     fresh(262144);
@@ -219,8 +220,8 @@ static void fill(uint32_t mode)
     c64x_change_mode(&record, mode, LENT);
     for (uint32_t i = 0; i < lines[mode]; i++) c64x_write(&record, 4, EXTERNAL + 128 * i, i, LENT);
     for (uint32_t i = 0; i < 256; i++) {
-        c64x_read(&record, 4, EXTERNAL + 64 * i, LENT);
-        c64x_write(&record, 4, EXTERNAL + 64 * i, i, LENT);
+        c64x_read(&record, 4, from + 64 * i, LENT);
+        c64x_write(&record, 4, from + 64 * i, i, LENT);
     }
 }
 
@@ -238,7 +239,9 @@ int main(void)
     measure(SHORT_RUN_OF, C64X_SHORT_RUNS - 1, 0, 0);
     for (uint32_t i = 0; i <= sizeof digits; i++) measure(SHORT_RUN_NUMBER, i, 0, 0);
     for (int i = 0; i < 5; i++) {
-        fill(modes[i]);
+        fill(modes[i], 0); /* SRAM; in mode 7 there is none */
+        every_call();
+        fill(modes[i], EXTERNAL);
         every_call();
         record.l2[5].lines[1].valid = 2; /* refused with 2 */
         every_call();

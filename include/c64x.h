@@ -279,9 +279,13 @@ c64x_answer c64x_write(c64x_record *record, uint32_t size, uint32_t address, uin
  *   writeback-invalidate  the same, then the lines leave the cache
  *   invalidate            the lines leave the cache; what was written to them is lost
  *
- * An L2 command first takes the L1D lines that lie inside its L2 lines: dirty ones go into the L2 line (invalidate
- * drops them), and all of them leave L1D. It never touches L1D lines of SRAM. In mode 0 L2 commands do nothing.
- * Refused: 1 and 2, and blocks 4 and 7.
+ * An L2 command reaches L1D first, in every mode and for SRAM too. One on all lines sends every dirty line of L1D to
+ * the memory behind it (SRAM, the L2 cache, or in mode 0 external memory), and L1D is empty then. One on a block does
+ * so with the L1D lines of the block, 64 bytes each; invalidate drops them. Then come the L2 lines, of which mode 0 has
+ * none. An L2 line that belongs to a block takes in both L1D lines that lie inside it, also the one that does not
+ * belong to the block, and both leave L1D. So after c64x_l2_writeback_all and c64x_l2_writeback_invalidate_all no line
+ * is dirty in either cache, in any mode, and SRAM and external memory have all that was written to them, but for what
+ * an invalidate has lost. The order of use stays as it is in every set. Refused: 1 and 2, and blocks 4 and 7.
  */
 c64x_answer c64x_l2_writeback_all(c64x_record *record, C64X_LENT);
 c64x_answer c64x_l2_writeback_invalidate_all(c64x_record *record, C64X_LENT);

@@ -1,8 +1,9 @@
 /*
- * Every call of include/c64x_chip.h, on cases whose outcome the paper gives: the worked example, C5, C6, C8, C9 and
- * C10, what each cache command does to a dirty line, each number of the refusal table with nothing changed, and short
- * runs at the ends of each length; the trace of the worked example, C3 and C4 are written through c64x_put_command; a
- * load by hand. It is compiled as C and as C++. Prints how many checks passed; exit status 1 where one failed.
+ * Every call of include/c64x_chip.h, on cases whose outcome the papers give: the worked example, C5, C6, C8, C9 and
+ * C10, what each cache command does to a dirty line and L2's to lines that L1D alone holds, each number of the refusal
+ * table with nothing changed, and short runs at the ends of each length; the trace of the worked example, C3 and C4 are
+ * written through c64x_put_command; a load by hand. It is compiled as C and as C++. Prints how many checks passed; exit
+ * status 1 where one failed.
  */
 #include <stdio.h>
 #include <string.h>
@@ -139,9 +140,54 @@ static void cases(void)
     CHECK(c64x_chip_read(&chip, 1, 0x80000000).server == C64X_SERVER_L1D);
     CHECK(c64x_chip_read(&chip, 1, 0x80004000).server == C64X_SERVER_EXTERNAL);
     CHECK(l1d_line(0x80000000) && !l1d_line(0x80002000) && l1d_line(0x80004000));
-    CHECK(c64x_chip_write(&chip, 1, 0x80000000, 9).server == C64X_SERVER_L1D);          /* C10 */
+    CHECK(c64x_chip_write(&chip, 1, 0x80000000, 9).server == C64X_SERVER_L1D);          /* C10, as 02 turns it */
+    CHECK(dirty(l1d_line(0x80000000)) && ext[0] == 0);
     CHECK(done(c64x_chip_l2_writeback_invalidate_all(&chip)));
-    CHECK(dirty(l1d_line(0x80000000)));
+    CHECK(!l1d_line(0x80000000) && ext[0] == 9);
+}
+
+/* A word of SRAM and one of external memory are 6 in L1D, each behind it 5; so is the word 64 bytes on. */
+static void dirty_lines(unsigned mode)
+{
+    static const uint32_t words[] = {64, 128, EXT + 64, EXT + 128};
+    start(sizeof l2);
+    CHECK(done(c64x_chip_change_mar(&chip, 128, 1)));
+    CHECK(done(c64x_chip_change_mode(&chip, mode)));
+    for (size_t i = 0; i < sizeof words / sizeof words[0]; i++) {
+        CHECK(c64x_chip_write(&chip, 4, words[i], 5).number == C64X_ACCEPTED);
+        CHECK(c64x_chip_read(&chip, 4, words[i]).value == 5);
+        CHECK(c64x_chip_write(&chip, 4, words[i], 6).server == C64X_SERVER_L1D);
+    }
+    CHECK(l2[64] == 5 && l2[128] == 5 && ext[64] == (mode ? 0 : 5));
+}
+
+/* L2 commands reach all of L1D, in every mode and for SRAM too. */
+static void l2_commands(void)
+{
+    for (unsigned mode = 0; mode < 2; mode++) {
+        dirty_lines(mode);
+        CHECK(done(c64x_chip_l2_writeback_all(&chip)));
+        CHECK(!l1d_line(64) && !l1d_line(128) && !l1d_line(EXT + 64) && !l1d_line(EXT + 128));
+        CHECK(l2[64] == 6 && l2[128] == 6 && ext[64] == 6 && ext[128] == 6);
+        CHECK(mode ? clean(l2_line(EXT)) : !l2_line(EXT));
+        dirty_lines(mode);
+        CHECK(done(c64x_chip_l2_writeback_invalidate_all(&chip)));
+        CHECK(!l1d_line(64) && !l1d_line(128) && !l1d_line(EXT + 64) && !l1d_line(EXT + 128) && !l2_line(EXT));
+        CHECK(l2[64] == 6 && l2[128] == 6 && ext[64] == 6 && ext[128] == 6);
+        /* a line of the block alone; in mode 1 an L2 line brings its other half, which is not here */
+        dirty_lines(mode);
+        CHECK(done(c64x_chip_l2_writeback_block(&chip, 64, 16)));
+        CHECK(!l1d_line(64) && dirty(l1d_line(128)) && l2[64] == 6 && l2[128] == 5);
+        CHECK(done(c64x_chip_l2_writeback_invalidate_block(&chip, 128, 1)));
+        CHECK(!l1d_line(128) && l2[128] == 6 && dirty(l1d_line(EXT + 64)));
+        CHECK(done(c64x_chip_l2_writeback_invalidate_block(&chip, EXT + 64, 1)));
+        CHECK(!l1d_line(EXT + 64) && dirty(l1d_line(EXT + 128)) && ext[64] == 6);
+        dirty_lines(mode);
+        CHECK(done(c64x_chip_l2_invalidate_block(&chip, 64, 17)));
+        CHECK(!l1d_line(64) && !l1d_line(128) && l2[64] == 5 && l2[128] == 5);
+        CHECK(done(c64x_chip_l2_invalidate_block(&chip, EXT + 64, 1)));
+        CHECK(!l1d_line(EXT + 64) && dirty(l1d_line(EXT + 128)) && ext[64] == (mode ? 0 : 5));
+    }
 }
 
 /* In mode 1 the word at 80000000h is 5 in external memory, 6 in the L2 line and 7 in L1D. */
@@ -404,6 +450,7 @@ int main(void)
     worked_example();
     cases();
     commands();
+    l2_commands();
     refusals();
     short_runs();
     writing();
