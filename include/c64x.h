@@ -58,7 +58,7 @@
  * same time on different threads. Calls on one chip may not: give each chip to one thread, or guard it by a lock.
  *
  * STACK. A call needs at most C64X_STACK_BYTES of stack. That leaves room to grow: no call was measured to take more
- * than 912 bytes. `sh bench/stack` measures each of them, and fails where one takes more than is said here.
+ * than 928 bytes. `sh bench/stack` measures each of them, and fails where one takes more than is said here.
  *
  * LINKING. The functions stand in target/staticlib/libboundary.a (64-bit x86), which `rt staticlib boundary` writes.
  * They call nothing but memcpy and memset of the C library: no allocation, no files, no signals.
@@ -282,10 +282,11 @@ c64x_answer c64x_write(c64x_record *record, uint32_t size, uint32_t address, uin
  * An L2 command reaches L1D first, in every mode and for SRAM too. One on all lines sends every dirty line of L1D to
  * the memory behind it (SRAM, the L2 cache, or in mode 0 external memory), and L1D is empty then. One on a block does
  * so with the L1D lines of the block, 64 bytes each; invalidate drops them. Then come the L2 lines, of which mode 0 has
- * none. An L2 line that belongs to a block takes in both L1D lines that lie inside it, also the one that does not
- * belong to the block, and both leave L1D. So after c64x_l2_writeback_all and c64x_l2_writeback_invalidate_all no line
- * is dirty in either cache, in any mode, and SRAM and external memory have all that was written to them, but for what
- * an invalidate has lost. The order of use stays as it is in every set. Refused: 1 and 2, and blocks 4 and 7.
+ * none. With an L2 line of the block goes the L1D line inside it that does not belong to the block: a dirty one goes
+ * into the L2 line (invalidate drops it), and it leaves L1D. So after c64x_l2_writeback_all and
+ * c64x_l2_writeback_invalidate_all no line is dirty in either cache, in any mode, and SRAM and external memory have all
+ * that was written to them, but for what an invalidate has lost. The order of use stays as it is in every set.
+ * Refused: 1 and 2, and blocks 4 and 7.
  */
 c64x_answer c64x_l2_writeback_all(c64x_record *record, C64X_LENT);
 c64x_answer c64x_l2_writeback_invalidate_all(c64x_record *record, C64X_LENT);
