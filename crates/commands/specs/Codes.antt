@@ -1,6 +1,6 @@
 -- Every command that is neither a read nor a write, by its code: the number due, the state after it, and both
 -- together as a step of paper 01.
-use Prim.Native.Nat.{ℕ, suc, _/_, _%_, _≤_, _<_}
+use Prim.Native.Nat.{ℕ, suc, _+_, _/_, _%_, _≤_, _<_}
 use mathlib.Core.Bool.{false, not, cond, _&&_, _||_}
 use mathlib.Core.Path.{_≡_, refl, sym, ap, _∙_}
 use mathlib.Core.Logic.{_≢_}
@@ -10,18 +10,24 @@ use borrow.Author.Tests.{eqb-true, eqb-false, eq-eqb, ne-eqb, leb-true, leb-fals
 use Rattle.model.specs.Basics.{each}
 use Rattle.model.specs.Memories.{isMode}
 use Rattle.model.specs.Records.{State}
+use Rattle.model.specs.Homes.{writeOutL2, writebackL2, evictL2}
 use Rattle.model.specs.Modes.{changeMode, changeMar}
 use Rattle.model.specs.Refusals.{lowestDue, unless, blockDue, modeDue, marDue, holdsRange}
 use Rattle.model.specs.Commands.{atL2, atL1d, eachTouched, eachL2, unlessMode0, evictAllL1d, l2WritebackAll, l2WritebackInvalidateAll, l2WritebackBlock, l2WritebackInvalidateBlock, l2InvalidateBlock, l1dWritebackInvalidateBlock, l1dInvalidateBlock, l1dInvalidateAll}
 use Rattle.model.specs.Calls.{reply, commandDue, commandState, accepted, step}
 use Rattle.model.specs.Laws.{bool, both-true, no-ways}
 use Rattle.model.specs.declared.Command.{Command}
+use Rattle.sweeps.specs.Emptied.{Bare, clearL2, evicted-all, bare-writebacks, bare-evicts}
 use Rattle.l1d_commands.specs.Steps.{l1dOperation}
 use Rattle.l2_commands.specs.Steps.{l2Operation}
 
 -- a number from n on is n, or lies above it
 among {ℓ} : {A : Type ℓ} (m n : ℕ) → n ≤ m → (m ≡ n → A) → (suc n ≤ m → A) → A
 among m n h f g = bool (eqb m n) (λ e. f (eqb-true m n e)) (λ e. let d = eqb-false m n e in g (omega arith))
+
+-- ---- the L2 commands over all lines, codes 2 and 3, by their code
+unfoldable pub overAll : ℕ → State → State
+overAll code z = unlessMode0 (eachL2 (cond (eqb code 2) writebackL2 evictL2)) (evictAllL1d z)
 
 -- ---- the L2 commands over a block, codes 4 to 6, by their code: the L1D command that each begins with, and all of it
 unfoldable pub l1dCode : ℕ → ℕ
@@ -98,8 +104,8 @@ module _ (c : Command) (z : State) where
   due-mar e n h = rw e h
 
   -- ---- the state
-  pub state-all : 2 ≤ c .code → c .code < 4 → (y : State) → y ≡ unlessMode0 (eachL2 (l2Operation (c .code))) (evictAllL1d z) → y ≡ commandState c z
-  unfolding commandState l2Operation l2WritebackAll l2WritebackInvalidateAll
+  pub state-all : 2 ≤ c .code → c .code < 4 → (y : State) → y ≡ overAll (c .code) z → y ≡ commandState c z
+  unfolding commandState overAll l2WritebackAll l2WritebackInvalidateAll
   state-all h k y e =
       e ∙ among (c .code) 2 h (λ q. rw q refl) (λ g. let q : c .code ≡ 3 = omega arith in rw q refl)
 
@@ -125,10 +131,19 @@ module _ (c : Command) (z : State) where
   state-mar q y e = rw q e
 
 -- ---- an L2 command over all lines, or over a block: what its two loops did, one behind the other
-pub over-all : (code : ℕ) (z y x : State) → y ≡ each (λ k. l1dOperation 7 (k / 2) (k % 2)) 256 z → x ≡ eachL2 (l2Operation code) y →
-    x ≡ unlessMode0 (eachL2 (l2Operation code)) (evictAllL1d z)
-unfolding evictAllL1d l1dOperation
-over-all code z y x e f = f ∙ sym (no-ways (l2Operation code) y) ∙ ap (unlessMode0 (eachL2 (l2Operation code))) e
+-- L1D holds nothing after the first, so that the second need not look for halves
+pub over-all : (code : ℕ) → 2 ≤ code → code < 4 → (k : ℕ) → k ≡ code + 8 → (z y x : State) → y ≡ each (λ i. l1dOperation 7 (i / 2) (i % 2)) 256 z →
+    x ≡ eachL2 (l2Operation k) y → x ≡ overAll code z
+unfolding evictAllL1d overAll l1dOperation l2Operation
+over-all code lo hi k ek z y x e f =
+    let bare : Bare y = rw e (evicted-all z) in
+    among code 2 lo
+    (λ q. let k₁₀ : k ≡ 10 = omega arith in
+    let f′ : x ≡ eachL2 writeOutL2 y = rw k₁₀ at f in
+    rw q (f′ ∙ sym (bare-writebacks y bare) ∙ sym (no-ways writebackL2 y) ∙ ap (unlessMode0 (eachL2 writebackL2)) e))
+    (λ g. let q : code ≡ 3 = omega arith in let k₁₁ : k ≡ 11 = omega arith in
+    let f′ : x ≡ eachL2 clearL2 y = rw k₁₁ at f in
+    rw q (f′ ∙ sym (bare-evicts y bare) ∙ sym (no-ways evictL2 y) ∙ ap (unlessMode0 (eachL2 evictL2)) e))
 
 pub over-block : (code k b n : ℕ) (z y x : State) → k ≡ l1dCode code → y ≡ eachTouched 64 (atL1d (l1dOperation k)) b n z →
     x ≡ unlessMode0 (eachTouched 128 (atL2 (l2Operation code)) b n) y → x ≡ overBlock code b n z

@@ -6,12 +6,10 @@ ghost use mathlib.Core.List.{List};
 ghost use Prim.Native.Nat.{ℕ, _<_, _≤_};
 ghost use lib.ListN.{length};
 ghost use Rattle.model.specs.Records.{state};
-ghost use Rattle.model.specs.Commands.{eachL2, unlessMode0, evictAllL1d};
 ghost use Rattle.model.specs.Calls.{reply, commandDue, commandState, step};
 ghost use Rattle.tags.specs.Words.{recordWords, recordIn, stateIn};
 ghost use Rattle.tags.specs.Sizes.{Lent};
-ghost use Rattle.l2_commands.specs.Steps.{l2Operation};
-ghost use Rattle.commands.specs.Codes.{l1dCode, overBlock};
+ghost use Rattle.commands.specs.Codes.{overAll, l1dCode, overBlock};
 use model::Command;
 
 // The number that is due, 0 where none is; the memories, whatever they are, do not matter.
@@ -37,7 +35,8 @@ pub fn command_due(tags: &[u32], c: Command) -> u8
     11
 }
 
-// A command over all of L2, codes 2 and 3: L1D is emptied first, dirty lines going home.
+// A command over all of L2, codes 2 and 3: L1D is emptied first, dirty lines going home, so that no half is looked for
+// then (10 and 11 of crate l2_commands).
 pub fn l2_over_all(
     tags: &mut [u32],
     sram: usize,
@@ -47,13 +46,13 @@ pub fn l2_over_all(
     l2: &mut [u8],
     ext: &mut [u8],
 )
-    requires { ⌜ code ≢ 6 ⌝ }
+    requires { ⌜ (2 ≤ code) × (code < 4) ⌝ }
     requires { ⌜ Lent sram sets (now tags) ⌝ }
     ensures { λ _. ⌜ stateIn (now (tags .exit)) (now (l1d .entry)) (now (l2 .exit)) (now (ext .exit))
-        ≡ unlessMode0 (eachL2 (l2Operation code)) (evictAllL1d (stateIn (now (tags .entry)) (now (l1d .entry)) (now (l2 .entry)) (now (ext .entry)))) ⌝ }
+        ≡ overAll code (stateIn (now (tags .entry)) (now (l1d .entry)) (now (l2 .entry)) (now (ext .entry))) ⌝ }
 {
     l1d_commands::l1d_all(tags, sram, sets, 7, l1d, l2, ext);
-    l2_commands::l2_all(tags, sram, sets, code, l1d, l2, ext);
+    l2_commands::l2_all(tags, sram, sets, code + 8, l1d, l2, ext);
 }
 
 // The command for L1D that an L2 command over a block begins with: writeback-invalidate, or invalidate for invalidate.

@@ -1,7 +1,7 @@
 -- The step that a code asks for at one way of L2, and the ways through the code of one line as the cases of the
 -- definitions.
 use Prim.Native.Nat.{ℕ, _*_, _/_, _%_}
-use mathlib.Core.Bool.{false, cond, _||_}
+use mathlib.Core.Bool.{false, cond}
 use mathlib.Core.Path.{_≡_, refl, sym, ap, _∙_}
 use mathlib.Core.List.{List}
 use lib.ListN.{set}
@@ -18,20 +18,26 @@ use Rattle.model.specs.Commands.{atL1d, dropL2, eachL2, unlessMode0}
 use Rattle.model.specs.Laws.{bool, mode0-sets}
 use Rattle.model.specs.declared.Line.{Line}
 use Rattle.model.specs.declared.L2Set.{L2Set}
-use Rattle.tags.specs.Sizes.{same-write-out-l2, same-writeback-l2, same-evict-l2}
+use Rattle.tags.specs.Sizes.{same-trans, same-empty-l2, same-write-out-l2, same-writeback-l2, same-evict-l2}
 use Rattle.sweeps.specs.Fixed.{Fixed, drop-l2}
+use Rattle.sweeps.specs.Emptied.{clearL2}
 
--- ---- the definition of paper 01 that a code asks for at a way of L2: 6 block invalidate, 10 what a mode change
--- does, 2 and 4 writeback, else writeback-invalidate
+-- ---- the definition that a code asks for at a way of L2: 6 block invalidate, 4 block writeback, 10 and 11 writeback
+-- and writeback-invalidate where L1D holds nothing, else writeback-invalidate
 unfoldable pub l2Operation : ℕ → ℕ → ℕ → State → State
-l2Operation code = cond (eqb code 6) dropL2 (cond (eqb code 10) writeOutL2 (cond (eqb code 2 || eqb code 4) writebackL2 evictL2))
+l2Operation code = cond (eqb code 6) dropL2 (cond (eqb code 10) writeOutL2 (cond (eqb code 11) clearL2 (cond (eqb code 4) writebackL2 evictL2)))
+
+same-clear : (t v : ℕ) → Fixed (clearL2 t v)
+unfolding clearL2
+same-clear t v z = same-trans (emptyL2 t v (writeOutL2 t v z)) (writeOutL2 t v z) z (same-empty-l2 t v (writeOutL2 t v z)) (same-write-out-l2 t v z)
 
 pub act-fixed : (code t v : ℕ) → Fixed (l2Operation code t v)
 unfolding l2Operation
 act-fixed code t v =
     bool (eqb code 6) (λ e. rw e (drop-l2 t v))
     (λ e. bool (eqb code 10) (λ f. rw (e, f) (same-write-out-l2 t v))
-    (λ f. bool (eqb code 2 || eqb code 4) (λ g. rw (e, f, g) (same-writeback-l2 t v)) (λ g. rw (e, f, g) (same-evict-l2 t v))))
+    (λ f. bool (eqb code 11) (λ g. rw (e, f, g) (same-clear t v))
+    (λ g. bool (eqb code 4) (λ h. rw (e, f, g, h) (same-writeback-l2 t v)) (λ h. rw (e, f, g, h) (same-evict-l2 t v)))))
 
 -- ---- an L2 line is dropped: both halves, then the line
 pub dropped : (y z z₁ z₂ : State) (t v u : ℕ) (x : Line) → x ≡ l2LineAt (z .rec) t v → z₁ ≡ atL1d emptyL1d (x .address) z → u ≡ upperHalf (x .address) →
@@ -48,17 +54,21 @@ pub act-10 : (code t v : ℕ) (y z : State) → code ≡ 10 → y ≡ writeOutL2
 unfolding l2Operation
 act-10 code t v y z e h = rw e h
 
-pub act-2 : (code t v : ℕ) (y z : State) → code ≡ 2 → y ≡ writebackL2 t v z → y ≡ l2Operation code t v z
+pub cleared : (t v : ℕ) (x y z : State) → y ≡ writeOutL2 t v z → x ≡ emptyL2 t v y → x ≡ clearL2 t v z
+unfolding clearL2
+cleared t v x y z h e = rw (e, h) refl
+
+pub act-11 : (code t v : ℕ) (y z : State) → code ≡ 11 → y ≡ clearL2 t v z → y ≡ l2Operation code t v z
 unfolding l2Operation
-act-2 code t v y z e h = rw e h
+act-11 code t v y z e h = rw e h
 
 pub act-4 : (code t v : ℕ) (y z : State) → code ≡ 4 → y ≡ writebackL2 t v z → y ≡ l2Operation code t v z
 unfolding l2Operation
 act-4 code t v y z e h = rw e h
 
-pub act-else : (code t v : ℕ) (x y z : State) → code ≢ 6 → code ≢ 10 → code ≢ 2 → code ≢ 4 → y ≡ writebackL2 t v z → x ≡ emptyL2 t v y → x ≡ l2Operation code t v z
+pub act-else : (code t v : ℕ) (x y z : State) → code ≢ 6 → code ≢ 10 → code ≢ 11 → code ≢ 4 → y ≡ writebackL2 t v z → x ≡ emptyL2 t v y → x ≡ l2Operation code t v z
 unfolding l2Operation evictL2
-act-else code t v x y z a b c d h e = rw (ne-eqb code 6 a, ne-eqb code 10 b, ne-eqb code 2 c, ne-eqb code 4 d, e, h) refl
+act-else code t v x y z a b c d h e = rw (ne-eqb code 6 a, ne-eqb code 10 b, ne-eqb code 11 c, ne-eqb code 4 d, e, h) refl
 
 -- ---- an empty way stays as it is, but for block invalidate, which looks for halves
 module _ (z : State) (t v : ℕ) (empty : l2LineAt (z .rec) t v ≡ emptyLine) where
@@ -83,11 +93,12 @@ module _ (z : State) (t v : ℕ) (empty : l2LineAt (z .rec) t v ≡ emptyLine) w
       (set-getD (z .rec .l2) t noL2Set)
 
   pub act-empty : (code : ℕ) → code ≢ 6 → z ≡ l2Operation code t v z
-  unfolding l2Operation evictL2
+  unfolding l2Operation evictL2 clearL2
   act-empty code h =
       bool (eqb code 10) (λ f. rw (ne-eqb code 6 h, f) (sym empty-out))
-      (λ f. bool (eqb code 2 || eqb code 4) (λ g. rw (ne-eqb code 6 h, f, g) (sym empty-back))
-      (λ g. rw (ne-eqb code 6 h, f, g) (sym (ap (emptyL2 t v) empty-back ∙ empty-empty))))
+      (λ f. bool (eqb code 11) (λ g. rw (ne-eqb code 6 h, f, g) (sym (ap (emptyL2 t v) empty-out ∙ empty-empty)))
+      (λ g. bool (eqb code 4) (λ i. rw (ne-eqb code 6 h, f, g, i) (sym empty-back))
+      (λ i. rw (ne-eqb code 6 h, f, g, i) (sym (ap (emptyL2 t v) empty-back ∙ empty-empty)))))
 
 -- ---- a block: none in mode 0, else its lines one by one
 pub block-none : (g : State → State) (z : State) (sets : ℕ) → sets ≡ l2SetsOf (z .rec) → sets ≡ 0 → z ≡ unlessMode0 g z

@@ -1,5 +1,6 @@
 // The L2 cache commands on lent words: what is done to one line, to the lines of a block, to all lines. `code` is the
-// trace's; 10 stands for what a mode change does. Each contract is the definition of paper 01 that the code asks for
+// trace's for a block; 10 and 11 are writeback and writeback-invalidate where L1D holds nothing, as behind a mode change
+// or a command over all lines, which empty L1D first. Each contract is the definition that the code asks for
 // (`l2Operation`), at one way, at the line of an address, at each line.
 ghost use mathlib.Core.Bool.{true};
 ghost use mathlib.Core.Path.{_≡_};
@@ -12,6 +13,7 @@ ghost use Rattle.model.specs.Ways.{emptyL1d};
 ghost use Rattle.model.specs.Commands.{atL1d, atL2, dropL2, eachTouched, eachL2, unlessMode0};
 ghost use Rattle.tags.specs.Words.{recordWords, stateIn};
 ghost use Rattle.tags.specs.Sizes.{Lent};
+ghost use Rattle.sweeps.specs.Emptied.{clearL2};
 ghost use Rattle.l2_commands.specs.Steps.{l2Operation};
 use geometry::L1d;
 use geometry::L2;
@@ -43,6 +45,25 @@ pub fn drop_l2(tags: &mut [u32], t: usize, v: usize)
     tags::l2_put(tags, t, v, geometry::empty_line());
 }
 
+// Written out if dirty, and the way emptied; no half is looked for.
+pub fn clear_l2(
+    tags: &mut [u32],
+    sram: usize,
+    sets: usize,
+    t: usize,
+    v: usize,
+    l2: &[u8],
+    ext: &mut [u8],
+)
+    requires { ⌜ (t < 512) × (v < 4) ⌝ }
+    requires { ⌜ Lent sram sets (now tags) ⌝ }
+    ensures { λ _. ⌜ ((d : List ℕ) → stateIn (now (tags .exit)) d (now (l2 .entry)) (now (ext .exit))
+        ≡ clearL2 t v (stateIn (now (tags .entry)) d (now (l2 .entry)) (now (ext .entry)))) ⌝ }
+{
+    l2_writeback::write_out_l2(tags, sram, sets, t, v, l2, ext);
+    tags::l2_put(tags, t, v, geometry::empty_line());
+}
+
 // What the code asks for, at one way.
 pub fn l2_operate(
     tags: &mut [u32],
@@ -68,10 +89,11 @@ pub fn l2_operate(
         l2_writeback::write_out_l2(tags, sram, sets, t, v, l2, ext);
         return;
     }
-    l2_writeback::writeback_l2(tags, sram, sets, t, v, l1d, l2, ext);
-    if code == 2 {
+    if code == 11 {
+        clear_l2(tags, sram, sets, t, v, l2, ext);
         return;
     }
+    l2_writeback::writeback_l2(tags, sram, sets, t, v, l1d, l2, ext);
     if code == 4 {
         return;
     }

@@ -1,11 +1,10 @@
--- `l2_sweeps::l2_operate` meets its contract: each way through the code is the case of `l2Operation` at its code.
-use Prim.Native.Nat.{_-_}
+-- `l2_commands::l2_operate` meets its contract: each way through the code is the case of `l2Operation` at its code.
 use mathlib.Core.Path.{ap, _∙_}
-use borrow.Author.Needs.{needs}
 use Rattle.model.specs.Records.{state, withL2Line}
-use Rattle.tags.specs.Words.{recordIn}
+use Rattle.tags.specs.Words.{recordIn, stateIn}
 use Rattle.sweeps.specs.At.{emptied-l2}
-use Rattle.l2_commands.specs.Steps.{act-6, act-10, act-2, act-4, act-else}
+use Rattle.l2_commands.specs.Steps.{act-6, act-10, act-11, act-4, act-else}
+use borrow.Author.Needs.{needs}
 use Rattle.l2_commands.proofs.l2_operate.Statement.{statement}
 use Rattle.l2_commands.proofs.l2_operate.Tie as tie
 
@@ -20,8 +19,9 @@ returns c =
     let p-drop-l2 = c .before .before in
     let p-if1 = p-drop-l2 .before .before in
     let p-args = p-if1 .before .before .before .before .before in
-    let a = p-args .args in act-6 (a .code) (a .t) (a .v) (state (recordIn (p-drop-l2 .drop-l2 .last .0)) (a .l1d .now) (a .l2 .now) (a .ext .now)) (state (recordIn (a .tags .now)) (a .l1d .now) (a .l2 .now) (a .ext .now)) (p-if1 .if1 .taken)
-    (p-drop-l2 .drop-l2 .ensures (a .l1d .now) (a .l2 .now) (a .ext .now))
+    let a = p-args .args in let y = p-drop-l2 .drop-l2 in
+    act-6 (a .code) (a .t) (a .v) (stateIn (y .last .0) (a .l1d .now) (a .l2 .now) (a .ext .now)) (stateIn (a .tags .now) (a .l1d .now) (a .l2 .now) (a .ext .now)) (p-if1 .if1 .taken)
+    (y .ensures (a .l1d .now) (a .l2 .now) (a .ext .now))
 
 write-out-l2-requires : tie.Need-write-out-l2-requires
 write-out-l2-requires c κs = search needs
@@ -40,11 +40,11 @@ returns-2 c =
     let p-write-out-l2 = c .before .before .before .before in
     let p-if2 = p-write-out-l2 .before .before .before .before in
     let p-args = p-if2 .before .before .before .before .before .before in
-    let a = p-args .args in act-10 (a .code) (a .t) (a .v) (state (recordIn (p-write-out-l2 .write-out-l2 .last .0)) (a .l1d .now) (a .l2 .now) (p-write-out-l2 .write-out-l2 .last .1 .1 .1 .1 .1 .1 .0)) (state (recordIn (a .tags .now)) (a .l1d .now) (a .l2 .now) (a .ext .now))
-    (p-if2 .if2 .taken) (p-write-out-l2 .write-out-l2 .ensures (a .l1d .now))
+    let a = p-args .args in let y = p-write-out-l2 .write-out-l2 in
+    act-10 (a .code) (a .t) (a .v) (stateIn (y .last .0) (a .l1d .now) (a .l2 .now) (y .last .1 .1 .1 .1 .1 .1 .0)) (stateIn (a .tags .now) (a .l1d .now) (a .l2 .now) (a .ext .now)) (p-if2 .if2 .taken) (y .ensures (a .l1d .now))
 
-writeback-l2-requires : tie.Need-writeback-l2-requires
-writeback-l2-requires c κs = search needs
+clear-l2-requires : tie.Need-clear-l2-requires
+clear-l2-requires c κs = search needs
 
 same-length-5 : tie.Need-same-length-5
 same-length-5 c = search needs
@@ -57,9 +57,14 @@ same-length-7 c = search needs
 
 returns-3 : tie.Need-returns-3
 returns-3 c =
-    let p-writeback-l2 = c .before .before .before .before .before .before .before in
-    let p-args = p-writeback-l2 .before .before .before .before .before .before .before .before .before .before in
-    let a = p-args .args in act-2 (a .code) (a .t) (a .v) (state (recordIn (p-writeback-l2 .writeback-l2 .last .0)) (a .l1d .now) (p-writeback-l2 .writeback-l2 .last .1 .1 .1 .1 .1 .1 .0) (p-writeback-l2 .writeback-l2 .last .1 .1 .1 .1 .1 .1 .1 .0)) (state (recordIn (a .tags .now)) (a .l1d .now) (a .l2 .now) (a .ext .now)) (c .if3 .taken) (p-writeback-l2 .writeback-l2 .ensures)
+    let p-clear-l2 = c .before .before .before .before in
+    let p-if3 = p-clear-l2 .before .before .before .before in
+    let p-args = p-if3 .before .before .before .before .before .before .before in
+    let a = p-args .args in let y = p-clear-l2 .clear-l2 in
+    act-11 (a .code) (a .t) (a .v) (stateIn (y .last .0) (a .l1d .now) (a .l2 .now) (y .last .1 .1 .1 .1 .1 .1 .0)) (stateIn (a .tags .now) (a .l1d .now) (a .l2 .now) (a .ext .now)) (p-if3 .if3 .taken) (y .ensures (a .l1d .now))
+
+writeback-l2-requires : tie.Need-writeback-l2-requires
+writeback-l2-requires c κs = search needs
 
 same-length-8 : tie.Need-same-length-8
 same-length-8 c = search needs
@@ -72,9 +77,11 @@ same-length-10 c = search needs
 
 returns-4 : tie.Need-returns-4
 returns-4 c =
-    let p-writeback-l2 = c .before .before .before .before .before .before .before .before in
-    let p-args = p-writeback-l2 .before .before .before .before .before .before .before .before .before .before in
-    let a = p-args .args in act-4 (a .code) (a .t) (a .v) (state (recordIn (p-writeback-l2 .writeback-l2 .last .0)) (a .l1d .now) (p-writeback-l2 .writeback-l2 .last .1 .1 .1 .1 .1 .1 .0) (p-writeback-l2 .writeback-l2 .last .1 .1 .1 .1 .1 .1 .1 .0)) (state (recordIn (a .tags .now)) (a .l1d .now) (a .l2 .now) (a .ext .now)) (c .if4 .taken) (p-writeback-l2 .writeback-l2 .ensures)
+    let p-if4 = c in
+    let p-writeback-l2 = p-if4 .before .before .before .before .before .before .before in
+    let p-args = p-writeback-l2 .before .before .before .before .before .before .before .before .before .before .before in
+    let a = p-args .args in let y = p-writeback-l2 .writeback-l2 in
+    act-4 (a .code) (a .t) (a .v) (stateIn (y .last .0) (a .l1d .now) (y .last .1 .1 .1 .1 .1 .1 .0) (y .last .1 .1 .1 .1 .1 .1 .1 .0)) (stateIn (a .tags .now) (a .l1d .now) (a .l2 .now) (a .ext .now)) (p-if4 .if4 .taken) (y .ensures)
 
 empty-line-requires : tie.Need-empty-line-requires
 empty-line-requires c κs = search needs
@@ -96,13 +103,14 @@ returns-5 c =
     let p-l2-put = c .before .before in
     let p-empty-line = p-l2-put .before in
     let p-if4 = p-empty-line .before .before in
-    let p-if3 = p-if4 .before in
-    let p-writeback-l2 = p-if3 .before .before .before .before .before .before .before in
-    let p-if2 = p-writeback-l2 .before .before .before .before in
+    let p-writeback-l2 = p-if4 .before .before .before .before .before .before .before in
+    let p-if3 = p-writeback-l2 .before .before .before .before in
+    let p-if2 = p-if3 .before in
     let p-if1 = p-if2 .before in
     let p-args = p-if1 .before .before .before .before .before in
-    let a = p-args .args in let y = state (recordIn (p-writeback-l2 .writeback-l2 .last .0)) (a .l1d .now) (p-writeback-l2 .writeback-l2 .last .1 .1 .1 .1 .1 .1 .0) (p-writeback-l2 .writeback-l2 .last .1 .1 .1 .1 .1 .1 .1 .0) in let q = recordIn (p-l2-put .l2-put .last .0) in
-    act-else (a .code) (a .t) (a .v) (state q (y .l1d) (y .l2) (y .ext)) y (state (recordIn (a .tags .now)) (a .l1d .now) (a .l2 .now) (a .ext .now)) (p-if1 .if1 .left) (p-if2 .if2 .left) (p-if3 .if3 .left) (p-if4 .if4 .left) (p-writeback-l2 .writeback-l2 .ensures)
+    let a = p-args .args in let x = p-writeback-l2 .writeback-l2 in let q = recordIn (p-l2-put .l2-put .last .0) in
+    let y = stateIn (x .last .0) (a .l1d .now) (x .last .1 .1 .1 .1 .1 .1 .0) (x .last .1 .1 .1 .1 .1 .1 .1 .0) in
+    act-else (a .code) (a .t) (a .v) (state q (y .l1d) (y .l2) (y .ext)) y (stateIn (a .tags .now) (a .l1d .now) (a .l2 .now) (a .ext .now)) (p-if1 .if1 .left) (p-if2 .if2 .left) (p-if3 .if3 .left) (p-if4 .if4 .left) (x .ensures)
     (emptied-l2 y q (a .t) (a .v) (p-l2-put .l2-put .ensures ∙ ap (withL2Line (y .rec) (a .t) (a .v)) (p-empty-line .empty-line .ensures)))
 
 pub l2-operate-spec : {M : Type 1} → statement M
@@ -117,11 +125,12 @@ l2-operate-spec =
     same-length-3
     same-length-4
     returns-2
-    writeback-l2-requires
+    clear-l2-requires
     same-length-5
     same-length-6
     same-length-7
     returns-3
+    writeback-l2-requires
     same-length-8
     same-length-9
     same-length-10
