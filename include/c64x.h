@@ -79,10 +79,11 @@ extern "C" {
 /*
  * The version of this interface. MAJOR goes up when a program that was written for the version before would have to
  * be changed or compiled again: another layout of a struct, other arguments, another meaning of a number. MINOR goes
- * up when calls are added and all the others stay as they are. Version 1 passed the record by value.
+ * up when calls are added, or when one does more than it did, and programs stay as they are. Version 1 passed the
+ * record by value; since 2.4 the L2 commands reach all of L1D.
  */
 #define C64X_VERSION_MAJOR 2
-#define C64X_VERSION_MINOR 3
+#define C64X_VERSION_MINOR 4
 
 /* The stack that a call needs at most, in bytes. */
 #define C64X_STACK_BYTES 4096

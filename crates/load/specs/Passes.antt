@@ -11,12 +11,12 @@ use borrow.Author.Tests.{le-leb, lt-leb, eq-eqb, ne-eqb}
 use Rattle.model.specs.Memories.{legalExternal}
 use Rattle.model.specs.Bytes.{stored}
 use Rattle.model.specs.Laws.{bool, length-stored}
-use Rattle.model.specs.Writing.{numberBytes, numbersTaken, firstNumbers, commandBytes}
-use Rattle.model.specs.Writing.{Written, written, writeAll, traceBytes}
-use Rattle.model.specs.Load.{words, word, loadAddress, accessOf, accessesFrom, accesses, loadBytes, loadDue}
-use Rattle.model.specs.Load.{loaded, loadTrace}
-use Rattle.model.proofs.Load.{Legal, access-writable}
-use Rattle.model.proofs.Writing.{write-accepted}
+use Rattle.traces.specs.Writing.{numberBytes, numbersTaken, firstNumbers, commandBytes}
+use Rattle.traces.specs.Writing.{Written, written, writeAll, traceBytes}
+use Rattle.traces.specs.Load.{words, word, loadAddress, accessOf, accessesFrom, accesses, loadBytes, loadDue}
+use Rattle.traces.specs.Load.{loaded, loadTrace}
+use Rattle.traces.proofs.Load.{Legal, access-writable}
+use Rattle.traces.proofs.Writing.{write-accepted}
 use Rattle.trace_writer.specs.Encoding.{Added, added-byte, added-more}
 use Rattle.model.specs.declared.Command.{Command}
 use Rattle.load.specs.Ring.{Ring, Next, placeAfter, ring-on, word-summed}

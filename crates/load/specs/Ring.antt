@@ -12,8 +12,8 @@ use lib.Seq.{getD-set-same, getD-set-other}
 use lib.Dec.{ltb}
 use borrow.Author.Tests.{ltb-true, ltb-false, lt-ltb, ne-eqb}
 use Rattle.model.specs.Laws.{bool}
-use Rattle.model.specs.Load.{sum32, placesBack, nextWord, words, word}
-use Rattle.model.proofs.Load.{words-length, word-later}
+use Rattle.traces.specs.Load.{sum32, placesBack, nextWord, words, word}
+use Rattle.traces.proofs.Load.{words-length, word-later}
 
 -- where the word j places back stands; where the word behind the next one will
 abbrev pub placeBack : ℕ → ℕ → ℕ

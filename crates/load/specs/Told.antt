@@ -1,7 +1,7 @@
 -- What this crate's answer tells, in the model's terms: the answer with the output behind it.
 use Prim.Native.Nat.{ℕ}
 use mathlib.Core.List.{List}
-use Rattle.model.specs.Load.{Loaded}
+use Rattle.traces.specs.Load.{Loaded}
 use Rattle.load.specs.declared.Load.{Load}
 
 abbrev pub toldLoad : Load → List ℕ → Loaded

@@ -1,5 +1,2 @@
 pub mod Worked
-pub mod ShortRuns
 pub mod Offsets
-pub mod Writing
-pub mod Load

@@ -17,6 +17,3 @@ pub mod Stays
 pub mod Traces
 pub mod Laws
 pub mod Opened
-pub mod ShortRuns
-pub mod Writing
-pub mod Load

@@ -13,9 +13,9 @@ use lib.Seq.{drop-cons, drop-drop, drop-set-lt, take-suc-set, append-snoc}
 use lib.Dec.{ltb}
 use borrow.Author.Tests.{ltb-true, ltb-false, lt-ltb, le-ltb, le-leb, lt-leb}
 use Rattle.model.specs.Laws.{bool}
-use Rattle.model.specs.ShortRuns.{shorterRuns, digitsValue, digitsNumber, digitsOfValue, digitsFrom, runOf, allBelow}
-use Rattle.model.specs.ShortRuns.{isRun, ShortRun, shortRun, runNumber, shortRunOf, shortRunNumber}
-use Rattle.model.proofs.ShortRuns.{digits-length, from-here, from-on}
+use Rattle.traces.specs.ShortRuns.{shorterRuns, digitsValue, digitsNumber, digitsOfValue, digitsFrom, runOf, allBelow}
+use Rattle.traces.specs.ShortRuns.{isRun, ShortRun, shortRun, runNumber, shortRunOf, shortRunNumber}
+use Rattle.traces.proofs.ShortRuns.{digits-length, from-here, from-on}
 
 eight : 0 < 8
 eight = omega arith

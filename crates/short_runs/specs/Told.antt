@@ -1,5 +1,5 @@
 -- What the answers of this crate tell, in the model's terms.
-use Rattle.model.specs.ShortRuns.{ShortRun, RunNumber}
+use Rattle.traces.specs.ShortRuns.{ShortRun, RunNumber}
 use Rattle.short_runs.specs.declared.ShortRun.{ShortRun as RunAnswer}
 use Rattle.short_runs.specs.declared.RunNumber.{RunNumber as NumberAnswer}
 

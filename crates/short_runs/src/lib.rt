@@ -4,7 +4,7 @@ ghost use Prim.Native.Nat.{_≤_, _<_, _^_, _-_};
 ghost use mathlib.Core.List.{_++_};
 ghost use lib.ListN.{replicate};
 ghost use Rattle.model.specs.Trace.{command};
-ghost use Rattle.model.specs.ShortRuns.{commandOfDigit, digitsOfValue, shortRunOf, shortRunNumber};
+ghost use Rattle.traces.specs.ShortRuns.{commandOfDigit, digitsOfValue, shortRunOf, shortRunNumber};
 ghost use Rattle.short_runs.specs.Told.{toldRun, toldNumber};
 ghost use Rattle.short_runs.specs.Digits.{PlacedAt};
 use model::Command;

@@ -14,9 +14,9 @@ use borrow.Author.Tests.{ltb-true, ltb-false, lt-ltb, le-ltb, leb-true, leb-fals
 use Rattle.model.specs.Laws.{bool, stored-inside, length-stored}
 use Rattle.model.specs.Bytes.{stored, splice}
 use Rattle.model.specs.Trace.{command}
-use Rattle.model.specs.Writing.{groupsOf, numberBytes, numbersTaken, firstNumbers, commandBytes, narrow, writable}
-use Rattle.model.specs.Writing.{writeDue, written, writeCommand}
-use Rattle.model.proofs.Writing.{shortest-one, stored-join}
+use Rattle.traces.specs.Writing.{groupsOf, numberBytes, numbersTaken, firstNumbers, commandBytes, narrow, writable}
+use Rattle.traces.specs.Writing.{writeDue, written, writeCommand}
+use Rattle.traces.proofs.Writing.{shortest-one, stored-join}
 use Rattle.model.specs.declared.Command.{Command}
 use Rattle.decode.specs.Codes.{numbersBehind, behind-none}
 

@@ -2,7 +2,7 @@
 use Prim.Native.Nat.{ℕ}
 use mathlib.Core.List.{List}
 use denote.Ref.{now, at-last}
-use Rattle.model.specs.Writing.{Written, writeCommand}
+use Rattle.traces.specs.Writing.{Written, writeCommand}
 use Rattle.model.specs.declared.Command.{Command}
 use Rattle.trace_writer.specs.declared.Put.{Put}
 use Rattle.trace_writer.specs.declared.Writer.{Writer}

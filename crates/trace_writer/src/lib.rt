@@ -7,7 +7,7 @@ ghost use mathlib.Core.List.{_++_};
 ghost use lib.ListN.{length, take};
 ghost use Rattle.model.specs.Bytes.{stored};
 ghost use Rattle.model.specs.Trace.{command};
-ghost use Rattle.model.specs.Writing.{numberBytes, numbersTaken, commandBytes, narrow, writeCommand};
+ghost use Rattle.traces.specs.Writing.{numberBytes, numbersTaken, commandBytes, narrow, writeCommand};
 ghost use Rattle.trace_writer.specs.Encoding.{Added, Holds};
 ghost use Rattle.trace_writer.specs.Told.{told, wrote, reached};
 

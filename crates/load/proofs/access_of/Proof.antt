@@ -1,6 +1,6 @@
 -- `load::access_of` meets its contract: the address fits, and the test of the word is that of its bit 31.
 use native.Mathlib.Omega.{arith}
-use Rattle.model.proofs.Load.{address-small, read-access, write-access}
+use Rattle.traces.proofs.Load.{address-small, read-access, write-access}
 use borrow.Author.Needs.{needs}
 use Rattle.load.proofs.access_of.Statement.{statement}
 use Rattle.load.proofs.access_of.Tie as tie

@@ -1,6 +1,6 @@
 -- `load::bytes_of` meets its contract: an address has five groups, and so has a word whose bit 31 is set.
 use mathlib.Core.Path.{sym}
-use Rattle.model.proofs.Load.{read-length, write-length}
+use Rattle.traces.proofs.Load.{read-length, write-length}
 use borrow.Author.Needs.{needs}
 use Rattle.load.proofs.bytes_of.Statement.{statement}
 use Rattle.load.proofs.bytes_of.Tie as tie

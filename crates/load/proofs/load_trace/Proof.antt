@@ -3,7 +3,7 @@ use mathlib.Core.Bool.{true}
 use mathlib.Core.Path.{_≡_, sym, _∙_}
 use borrow.Author.Tests.{leb-true}
 use Rattle.model.specs.Memories.{legalExternal}
-use Rattle.model.proofs.Load.{legal}
+use Rattle.traces.proofs.Load.{legal}
 use Rattle.load.specs.Passes.{load-illegal, load-short, load-made}
 use borrow.Author.Needs.{needs}
 use Rattle.load.proofs.load_trace.Statement.{statement}

@@ -1,6 +1,6 @@
 -- `short_runs::command_of` meets its contract: one digit, one command.
 use borrow.Author.Tests.{ne-eqb}
-use Rattle.model.specs.ShortRuns.{commandOfDigit}
+use Rattle.traces.specs.ShortRuns.{commandOfDigit}
 use borrow.Author.Needs.{needs}
 use Rattle.short_runs.proofs.command_of.Statement.{statement}
 use Rattle.short_runs.proofs.command_of.Tie as tie

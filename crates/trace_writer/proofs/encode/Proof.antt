@@ -2,7 +2,7 @@
 use mathlib.Core.List.{_∷_, _++_}
 use mathlib.Core.Path.{_∙_, sym}
 use native.Mathlib.Omega.{arith}
-use Rattle.model.specs.Writing.{numberBytes}
+use Rattle.traces.specs.Writing.{numberBytes}
 use Rattle.trace_writer.specs.Encoding.{Holds, holds-code, number-room, holds-more}
 use Rattle.trace_writer.specs.Encoding.{bytes-none, bytes-one, bytes-two, bytes-three}
 use borrow.Author.Needs.{needs}

@@ -51,7 +51,7 @@ use denote.Exit.{yes}
 use denote.Signature.{Slot, plain, namedLft}
 use denote.Signature.Struct.{makes}
 use Rattle.model.specs.Trace.{command}
-use Rattle.model.specs.Writing.{Written, writeCommand}
+use Rattle.traces.specs.Writing.{Written, writeCommand}
 use Rattle.model.specs.declared.Command.{Command}
 use Rattle.trace_writer.specs.declared.Put.{Put}
 use Rattle.trace_writer.specs.declared.Writer.{Writer}

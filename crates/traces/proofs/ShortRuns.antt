@@ -13,9 +13,9 @@ use native.Mathlib.Nat.{mul-add-div-right, mul-add-mod-self-right}
 use lib.ListN.{length}
 use lib.Dec.{ltb, leb, eqb}
 use borrow.Author.Tests.{ltb-true, ltb-false, lt-ltb, le-ltb, leb-true, le-leb, eqb-true, eqb-false}
-use Rattle.model.specs.ShortRuns.{shorterRuns, digitsValue, digitsNumber, digitsOfValue, digitsFrom}
-use Rattle.model.specs.ShortRuns.{runOf, numberOf, lastRun, earlierDigits, EarlierRun, allBelow, isRun}
+use Rattle.traces.specs.ShortRuns.{shorterRuns, digitsValue, digitsNumber, digitsOfValue, digitsFrom}
+use Rattle.traces.specs.ShortRuns.{runOf, numberOf, lastRun, earlierDigits, EarlierRun, allBelow, isRun}
 use Rattle.model.specs.Laws.{bool, both-true}
 
 -- a run of up to k + more digits, the n-th from the first of k digits on
 pub record Counted (b k more n : ℕ) (ds : List ℕ) : Type 0 where

@@ -4,10 +4,10 @@ use mathlib.Core.Bool.{cond}
 use mathlib.Core.List.{List, [], _∷_}
 use lib.ListN.{length, getD}
 use lib.Dec.{ltb, leb, eqb}
 use Rattle.model.specs.Memories.{legalExternal, externalBase}
 use Rattle.model.specs.Trace.{command}
-use Rattle.model.specs.Writing.{writeAll, traceBytes}
+use Rattle.traces.specs.Writing.{writeAll, traceBytes}
 use Rattle.model.specs.declared.Command.{Command}
 
 -- ---- the words: a list of them has the last one first
 -- "All sums drop the carry out of 32 bits."

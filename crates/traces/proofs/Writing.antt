@@ -12,17 +12,17 @@ use lib.Seq.{drop-append-seam, drop-at, take-at, take-add, getD-drop, drop-drop,
 use lib.Seq.{length-take-le}
 use lib.Dec.{ltb, leb, eqb}
 use borrow.Author.Tests.{ltb-true, ltb-false, lt-ltb, le-ltb, leb-true, le-leb, ne-eqb, eqb-true, eqb-false}
 use Rattle.model.specs.Trace.{Number, number, groups, moreGroups, numberBelow, number32, number64}
 use Rattle.model.specs.Trace.{Decoded, decoded, command, oneNumber, secondNumber, twoNumbers, valueNumber}
 use Rattle.model.specs.Trace.{threeNumbers, decodeAfter, decode}
-use Rattle.model.specs.Writing.{groupsOf, numberBytes, numbersTaken, firstNumbers, commandBytes, onlyFirst}
-use Rattle.model.specs.Writing.{withoutSpare, narrow, writable, writeDue, written, writeCommand, writeAll}
-use Rattle.model.specs.Writing.{traceBytes}
+use Rattle.traces.specs.Writing.{groupsOf, numberBytes, numbersTaken, firstNumbers, commandBytes, onlyFirst}
+use Rattle.traces.specs.Writing.{withoutSpare, narrow, writable, writeDue, written, writeCommand, writeAll}
+use Rattle.traces.specs.Writing.{traceBytes}
 use Rattle.model.specs.Bytes.{part, stored, splice}
 use Rattle.model.specs.Laws.{bool, both-true, false-true, part-inside, stored-inside, stored-none}
 use Rattle.model.specs.Laws.{length-stored}
 use Rattle.model.specs.declared.Command.{Command}
 use Rattle.model.specs.Trace.{Whole, none, one}
 
 -- ---- a number that was written is read, whatever stands behind it
 small-rest : (more v : ℕ) → v < 128 ^ suc (suc more) → v / 128 < 128 ^ suc more

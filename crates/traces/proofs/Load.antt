@@ -11,17 +11,17 @@ use native.Mathlib.Nat.{mod-lt}
 use lib.ListN.{length, getD, replicate, length-append}
 use lib.Dec.{ltb, leb, eqb}
 use borrow.Author.Tests.{lt-ltb, le-ltb, leb-true, le-leb, eqb-true, eqb-false, eq-eqb, ne-eqb}
 use Rattle.model.specs.Bytes.{part, stored, splice}
 use Rattle.model.specs.Laws.{bool, both-true, stored-after}
 use Rattle.model.specs.Memories.{legalExternal}
 use Rattle.model.specs.Refusals.{sizeOk, placeOk, valueOk, accessDue}
 use Rattle.model.specs.Trace.{Whole, command}
-use Rattle.model.specs.Writing.{groupsOf, numberBytes, numbersTaken, firstNumbers, commandBytes, onlyFirst}
-use Rattle.model.specs.Writing.{withoutSpare, narrow, writable, writeDue, Written, written, writeCommand}
-use Rattle.model.specs.Writing.{writeAll, traceBytes}
-use Rattle.model.specs.Load.{sum32, placesBack, nextWord, words, word, loadAddress, accessOf, accessesFrom}
-use Rattle.model.specs.Load.{accesses, loadBytes, loadDue, Loaded, loaded, loadTrace}
-use Rattle.model.proofs.Writing.{allWritable, given-room, writing-traces}
+use Rattle.traces.specs.Writing.{groupsOf, numberBytes, numbersTaken, firstNumbers, commandBytes, onlyFirst}
+use Rattle.traces.specs.Writing.{withoutSpare, narrow, writable, writeDue, Written, written, writeCommand}
+use Rattle.traces.specs.Writing.{writeAll, traceBytes}
+use Rattle.traces.specs.Load.{sum32, placesBack, nextWord, words, word, loadAddress, accessOf, accessesFrom}
+use Rattle.traces.specs.Load.{accesses, loadBytes, loadDue, Loaded, loaded, loadTrace}
+use Rattle.traces.proofs.Writing.{allWritable, given-room, writing-traces}
 
 -- ---- words worked out, and the first accesses of seed 0 with E = 128: two reads and a write. The numbers are those
 -- that the sentences of 02 give (oracle/ has the same ones in its tests).
