@@ -8,10 +8,10 @@ use lib.ListN.{set}
 use lib.Seq.{set-getD}
 use mathlib.Core.Logic.{_≢_}
 use lib.Dec.{eqb}
-use borrow.Author.Tests.{eq-eqb, ne-eqb}
+use borrow.Author.Tests.{eqb-true, eqb-false, eq-eqb, ne-eqb}
 use Rattle.model.specs.Basics.{each}
 use Rattle.model.specs.Lines.{upperHalf, emptyLine, l2Put}
-use Rattle.model.specs.Records.{State, state, l2SetsOf, l2SetAt, l2LineAt, withL2Set, withL2Line, noL2Set}
+use Rattle.model.specs.Records.{State, state, l2SetsOf, l2SetAt, l2LineAt, withL2Sets, withL2Set, withL2Line, noL2Set}
 use Rattle.model.specs.Ways.{emptyL1d, emptyL2}
 use Rattle.model.specs.Homes.{writeOutL2, writebackL2, evictL2}
 use Rattle.model.specs.Commands.{atL1d, dropL2, eachL2, unlessMode0}
@@ -21,6 +21,7 @@ use Rattle.model.specs.declared.L2Set.{L2Set}
 use Rattle.tags.specs.Sizes.{same-trans, same-empty-l2, same-write-out-l2, same-writeback-l2, same-evict-l2}
 use Rattle.sweeps.specs.Fixed.{Fixed, drop-l2}
 use Rattle.sweeps.specs.Emptied.{clearL2}
+use Rattle.sweeps.specs.Rests.{Rests}
 
 -- ---- the definition that a code asks for at a way of L2: 6 block invalidate, 4 block writeback, 10 and 11 writeback
 -- and writeback-invalidate where L1D holds nothing, else writeback-invalidate
@@ -70,7 +71,8 @@ pub act-else : (code t v : ℕ) (x y z : State) → code ≢ 6 → code ≢ 10 �
 unfolding l2Operation evictL2
 act-else code t v x y z a b c d h e = rw (ne-eqb code 6 a, ne-eqb code 10 b, ne-eqb code 11 c, ne-eqb code 4 d, e, h) refl
 
--- ---- an empty way stays as it is, but for block invalidate, which looks for halves
+-- ---- an empty way stays as it is, but for block invalidate, which looks for halves; and so does a clean line that
+-- would be written out only
 module _ (z : State) (t v : ℕ) (empty : l2LineAt (z .rec) t v ≡ emptyLine) where
   invalid : l2LineAt (z .rec) t v .valid ≡ false
   invalid = ap (λ (x : Line). x .valid) empty
@@ -89,16 +91,28 @@ module _ (z : State) (t v : ℕ) (empty : l2LineAt (z .rec) t v ≡ emptyLine) w
       let s = l2SetAt (z .rec) t in
       let line : set (s .lines) v emptyLine ≡ s .lines = ap (set (s .lines) v) (sym empty) ∙ set-getD (s .lines) v emptyLine in
       ap (λ (l : List Line). state (withL2Set (z .rec) t (record { lines = l; order = s .order })) (z .l1d) (z .l2) (z .ext)) line
-      ∙ ap (λ (l : List L2Set). state (record { l2len = z .rec .l2len; extlen = z .rec .extlen; mode = z .rec .mode; mar128 = z .rec .mar128; mar129 = z .rec .mar129; l1d = z .rec .l1d; l2 = l }) (z .l1d) (z .l2) (z .ext))
-      (set-getD (z .rec .l2) t noL2Set)
+      ∙ ap (λ (l : List L2Set). state (withL2Sets (z .rec) l) (z .l1d) (z .l2) (z .ext)) (set-getD (z .rec .l2) t noL2Set)
 
-  pub act-empty : (code : ℕ) → code ≢ 6 → z ≡ l2Operation code t v z
+  act-empty : (code : ℕ) → code ≢ 6 → z ≡ l2Operation code t v z
   unfolding l2Operation evictL2 clearL2
   act-empty code h =
       bool (eqb code 10) (λ f. rw (ne-eqb code 6 h, f) (sym empty-out))
       (λ f. bool (eqb code 11) (λ g. rw (ne-eqb code 6 h, f, g) (sym (ap (emptyL2 t v) empty-out ∙ empty-empty)))
       (λ g. bool (eqb code 4) (λ i. rw (ne-eqb code 6 h, f, g, i) (sym empty-back))
       (λ i. rw (ne-eqb code 6 h, f, g, i) (sym (ap (emptyL2 t v) empty-back ∙ empty-empty)))))
+
+-- a clean line is not written out
+clean-out : (z : State) (t v : ℕ) → l2LineAt (z .rec) t v .dirty ≡ false → writeOutL2 t v z ≡ z
+unfolding writeOutL2
+clean-out z t v d = bool (l2LineAt (z .rec) t v .valid) (λ e. rw (e, d) refl) (λ e. rw e refl)
+
+pub act-rests : (z : State) (t v code : ℕ) (x : Line) → x ≡ l2LineAt (z .rec) t v → code ≢ 6 → Rests code x → z ≡ l2Operation code t v z
+unfolding l2Operation
+act-rests z t v code x ex h r =
+    bool (eqb code 10)
+    (λ e. let c = eqb-true code 10 e in
+    rw (ne-eqb code 6 h, e) (sym (clean-out z t v (sym (ap (λ (y : Line). y .dirty) ex) ∙ r .0 c))))
+    (λ e. act-empty z t v (sym ex ∙ r .1 (eqb-false code 10 e)) code h)
 
 -- ---- a block: none in mode 0, else its lines one by one
 pub block-none : (g : State → State) (z : State) (sets : ℕ) → sets ≡ l2SetsOf (z .rec) → sets ≡ 0 → z ≡ unlessMode0 g z

@@ -2,13 +2,11 @@
 // trace's for a block; 10 and 11 are writeback and writeback-invalidate where L1D holds nothing, as behind a mode change
 // or a command over all lines, which empty L1D first. Each contract is the definition that the code asks for
 // (`l2Operation`), at one way, at the line of an address, at each line.
-ghost use mathlib.Core.Bool.{true};
 ghost use mathlib.Core.Path.{_≡_};
 ghost use mathlib.Core.Logic.{_≢_};
 ghost use mathlib.Core.List.{List};
 ghost use Prim.Native.Nat.{ℕ, _<_};
 ghost use lib.ListN.{length};
-ghost use Rattle.model.specs.Lines.{emptyLine};
 ghost use Rattle.model.specs.Ways.{emptyL1d};
 ghost use Rattle.model.specs.Commands.{atL1d, atL2, dropL2, eachTouched, eachL2, unlessMode0};
 ghost use Rattle.tags.specs.Words.{recordWords, stateIn};
@@ -17,7 +15,6 @@ ghost use Rattle.sweeps.specs.Emptied.{clearL2};
 ghost use Rattle.l2_commands.specs.Steps.{l2Operation};
 use geometry::L1d;
 use geometry::L2;
-use model::Line;
 
 // The half at b, if L1D holds it, leaves L1D unwritten.
 pub fn drop_half(tags: &mut [u32], b: u32)
@@ -150,21 +147,8 @@ pub fn l2_block(
     }
 }
 
-// An invalid way is clean with address 0.
-pub fn is_empty(x: Line) -> bool
-    ensures { λ r. ⌜ (r ≡ true → x ≡ emptyLine) ⌝ }
-{
-    if x.valid {
-        return false;
-    }
-    if x.dirty {
-        return false;
-    }
-    x.address == 0
-}
-
-// Each way in use, set by set and way by way; there is none in mode 0. An empty way is passed over: only block
-// invalidate, which is no command over all lines, would look for halves there.
+// Each way in use, set by set and way by way; there is none in mode 0. A line at which there is nothing to do is passed
+// over: only block invalidate, which is no command over all lines, would look for halves at an empty way.
 pub fn l2_all(
     tags: &mut [u32],
     sram: usize,
@@ -183,7 +167,7 @@ pub fn l2_all(
     for k in 0..n {
         let t = k / L2::WAYS;
         let v = k % L2::WAYS;
-        if is_empty(tags::l2_line(tags, t, v)) {
+        if sweeps::rests(code, tags::l2_line(tags, t, v)) {
             continue;
         }
         l2_operate(tags, sram, sets, code, t, v, l1d, l2, ext);

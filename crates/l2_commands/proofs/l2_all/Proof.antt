@@ -1,13 +1,13 @@
--- `l2_sweeps::l2_all` meets its contract: after k turns the state is that of the first k ways (`Swept` of
--- sweeping/specs/Loop).
+-- `l2_commands::l2_all` meets its contract: after k turns the state is that of the first k ways (`Swept` of
+-- sweeps/specs/Loop).
 use Prim.Native.Nat.{_-_, _/_, _%_}
-use mathlib.Core.Path.{refl, sym, _∙_}
+use mathlib.Core.Path.{refl}
 use native.Mathlib.Omega.{arith}
 use borrow.Author.Needs.{needs}
 use Rattle.model.specs.Records.{state}
 use Rattle.tags.specs.Words.{recordIn}
 use Rattle.sweeps.specs.Loop.{Swept, begun, turned, whole}
-use Rattle.l2_commands.specs.Steps.{act-empty, l2Operation, act-fixed, all-ways}
+use Rattle.l2_commands.specs.Steps.{act-rests, l2Operation, act-fixed, all-ways}
 use Rattle.l2_commands.proofs.l2_all.Statement.{statement}
 use Rattle.l2_commands.proofs.l2_all.Tie as tie
 
@@ -30,8 +30,8 @@ l2-line-requires c κs =
     let p-pre = p-loop .before .before .before .before .before in
     let t = p-loop-test .loop-test .taken in let b = p-pre .pre .1 .1 .0 .1 in ((omega arith, omega arith), p-loop .loop .inv .lent .0)
 
-is-empty-requires : tie.Need-is-empty-requires Inv-loop μ-loop
-is-empty-requires c κs = search needs
+rests-requires : tie.Need-rests-requires Inv-loop μ-loop
+rests-requires c κs = search needs
 
 add-k : tie.Need-add-k Inv-loop μ-loop
 add-k c = search needs
@@ -41,14 +41,14 @@ loop-less c = search needs
 
 loop-again : tie.Need-loop-again Inv-loop μ-loop
 loop-again c =
-    let p-is-empty = c .before in
-    let p-l2-line = p-is-empty .before in
+    let p-rests = c .before in
+    let p-l2-line = p-rests .before in
     let p-loop-test = p-l2-line .before .before in
     let p-loop = p-loop-test .before in
     let p-args = p-loop .before .before .before .before .before in
     let a = p-args .args in let l = p-loop .loop in
     turned (l .inv) (λ i. act-fixed (a .code) (i / 4) (i % 4)) (p-loop-test .loop-test .taken) (l .tags) (l .l2) (l .ext) refl refl refl
-    (act-empty (state (recordIn (l .tags)) (a .l1d .now) (l .l2) (l .ext)) (l .k / 4) (l .k % 4) (sym (p-l2-line .l2-line .ensures) ∙ p-is-empty .is-empty .ensures (c .if1 .taken)) (a .code) (p-args .pre .0))
+    (act-rests (state (recordIn (l .tags)) (a .l1d .now) (l .l2) (l .ext)) (l .k / 4) (l .k % 4) (a .code) (p-l2-line .l2-line .result) (p-l2-line .l2-line .ensures) (p-args .pre .0) (p-rests .rests .ensures (c .if1 .taken)))
 
 l2-operate-requires : tie.Need-l2-operate-requires Inv-loop μ-loop
 l2-operate-requires c κs =
@@ -98,7 +98,7 @@ l2-all-spec =
     mul-n
     loop-holds
     l2-line-requires
-    is-empty-requires
+    rests-requires
     add-k
     loop-less
     loop-again
