@@ -3,7 +3,7 @@
 -- Why: an accepted read reads right bytes, so the same; a write changes flat memory as it changes what is right; a
 -- mode change likewise; the other commands are not seen. After a global writeback no line is dirty, so that every
 -- place of external memory and of SRAM is right: the lists are equal.
-use Prim.Native.Nat.{ℕ, _+_, _*_, _-_, _≤_, _<_}
+use Prim.Native.Nat.{ℕ, _+_, _-_, _≤_, _<_}
 use mathlib.Core.Bool.{true, false, _&&_}
 use mathlib.Core.Path.{_≡_, refl, sym, ap, _∙_, subst}
 use mathlib.Core.List.{List, [], _∷_, _++_}

@@ -4,16 +4,13 @@
 -- Why: each is a loop of steps that keep the state good. L1D is emptied first, way by way, and nothing fills it again;
 -- so no line of L1D can make an L2 line dirty that has gone out. Slots are counted k = set * ways + way, so that
 -- "before k" is one linear test.
-use Prim.Native.Nat.{ℕ, zero, suc, _+_, _*_, _-_, _/_, _%_, _≤_, _<_}
+use Prim.Native.Nat.{ℕ, zero, suc, _+_, _*_, _-_, _/_, _%_, _<_}
 use mathlib.Core.Bool.{false}
 use mathlib.Core.Path.{_≡_, refl, sym, ap, _∙_}
-use mathlib.Core.Logic.{_≢_}
 use native.Mathlib.Omega.{arith}
-use lib.ListN.{getD}
 use lib.Dec.{eqb}
 use borrow.Author.Tests.{eqb-true, eqb-false}
 use Rattle.model.specs.Basics.{each}
-use Rattle.model.specs.Memories.{externalBase}
 use Rattle.model.specs.Lines.{l1dSetOf, emptyLine, l2Sets}
 use Rattle.model.specs.Records.{State, l2SetsOf, mode0, l2SetOf, l1dLineAt, l2LineAt}
 use Rattle.model.specs.Ways.{l1dWay, l2Way, inL1d, inL2}
@@ -25,11 +22,10 @@ use Rattle.model.specs.Laws.{bool, false-true, cond-elim, no-ways}
 use Rattle.model.specs.declared.Line.{Line}
 use Rattle.model.specs.declared.Record.{Record}
 use Rattle.agreement.proofs.Level.{Valid, Other, same-slot}
-use Rattle.agreement.proofs.Invariant.{Allowed, carry}
-use Rattle.agreement.proofs.Memory.{memory-high}
+use Rattle.agreement.proofs.Invariant.{Allowed}
 use Rattle.agreement.proofs.Good.{l1dLevel, l2Level, Good, kept-refl, kept-trans, l1d-hit, l2-hit, l1d-bounds, l2-bounds}
 use Rattle.agreement.proofs.Evict.{evictL1d-good}
-use Rattle.agreement.proofs.Writeback.{WrittenOut, writeOutL2-good, Done, Swept, writebackL2-good, evictL2-good}
+use Rattle.agreement.proofs.Writeback.{writeOutL2-good, Swept, writebackL2-good, evictL2-good}
 use Rattle.agreement.proofs.ReadWrite.{Step}
 use Rattle.agreement.proofs.Flushes.{sweptL1d}
 

@@ -10,9 +10,9 @@ use Rattle.model.specs.Refusals.{viewDue}
 use Rattle.model.specs.Calls.{Reply, reply, freshCall, viewCall, viewDone, Call, oneCommand, freshStart, look, called}
 use Rattle.model.specs.declared.Command.{Command}
 use Rattle.tags.specs.Words.{recordIn}
-use Rattle.model.specs.Demand.{Settled, Agree, end, next}
+use Rattle.model.specs.Demand.{Settled, Agree, next}
 use Rattle.agreement.proofs.Agreement.{demand3}
-use Rattle.c_calls.specs.FromC.{Held, stateOf, Answered, replyOf, Chain, done, made, FromC, AgreeFromC, whole, also, Demand3FromC}
+use Rattle.c_calls.specs.FromC.{Held, stateOf, Answered, Chain, done, made, FromC, AgreeFromC, whole, also, Demand3FromC}
 
 along : (cs : List Call) (h : Held) (r : Chain cs h) (f : Flat) → Agree cs (stateOf h) f → AgreeFromC cs h r f
 along [] h done f a = whole

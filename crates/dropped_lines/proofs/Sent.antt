@@ -5,7 +5,7 @@
 -- again: an L2 line becomes dirty through a half in
 -- L1D, and L1D holds none of this one; a line that is fetched comes clean; and a write miss that put a line out
 -- writes into another line.
-use Prim.Native.Nat.{ℕ, zero, suc, _+_, _*_, _-_, _/_, _%_, _≤_, _<_}
+use Prim.Native.Nat.{ℕ, zero, suc, _+_, _-_, _/_, _%_, _≤_, _<_}
 use mathlib.Core.Bool.{Bool, true, false, not, cond, _&&_, _||_}
 use mathlib.Core.Path.{_≡_, refl, sym, ap, _∙_, subst}
 use mathlib.Core.Logic.{_≢_}
@@ -21,7 +21,7 @@ use Rattle.model.specs.Records.{State, mode0, sramOf, l2SetsOf, l2SetOf, marBit
 use Rattle.model.specs.Ways.{l1dWay, l2Way, inL1d, inL2, useL1d, useL2}
 use Rattle.model.specs.Homes.{homeIsL2, putL2, l2WayFor, takeHalves, writebackL2, evictL2, fillL2, fetchL2}
 use Rattle.model.specs.Access.{cacheable, evictL1d, fillL1d, readFilled, readEmptied, readMiss, readAccess, writeHome, writeMiss, writeAccess}
-use Rattle.model.specs.Commands.{linesTouched, eachTouched, eachL2, atL1d, atL2, unlessMode0, l2WritebackAll, l2WritebackInvalidateAll, l2WritebackBlock, l2WritebackInvalidateBlock, l1dWritebackInvalidateBlock}
+use Rattle.model.specs.Commands.{linesTouched, eachTouched, atL1d, atL2, unlessMode0, l2WritebackAll, l2WritebackInvalidateAll, l2WritebackBlock, l2WritebackInvalidateBlock, l1dWritebackInvalidateBlock}
 use Rattle.model.specs.Refusals.{accessDue, blockDue}
 use Rattle.model.specs.Trace.{command}
 use Rattle.model.specs.Calls.{Reply, refused, carriedOut, commandDue, readDone, writeDone, commandState, accepted, step}

@@ -15,7 +15,8 @@ use Rattle.model.specs.declared.L1dSet.{L1dSet}
 use Rattle.model.specs.declared.L2Set.{L2Set}
 use Rattle.model.specs.declared.Record.{Record}
 use Rattle.tags.specs.Few.{any-two, any-four}
-use Rattle.tags.specs.Words.{word, listed, lineIn, l1dIn, l2In, recordIn}
+use Rattle.tags.specs.Words.{word, lineIn, l1dIn, l2In, recordIn}
+use Rattle.lists.specs.Listed.{listed}
 
 -- ---- a MAR bit
 -- 9 goes by the operands alone, 10 by the lines that are held

@@ -1,27 +1,26 @@
 -- The record by value and the words that stand for it: an array that is filled with what the words give, and words
 -- that are stored set by set.
-use Prim.Native.Nat.{ℕ, zero, suc, _+_, _*_, _/_, _%_, _≤_, _<_}
+use Prim.Native.Nat.{ℕ, suc, _+_, _*_, _/_, _%_, _≤_, _<_}
 use mathlib.Core.Bool.{Bool, true, false, cond}
 use mathlib.Core.List.{List, [], _∷_, _++_, append-nil}
 use mathlib.Core.Logic.{_≢_}
 use mathlib.Core.Path.{_≡_, refl, sym, ap, _∙_}
 use native.Mathlib.Omega.{arith}
 use native.Mathlib.Numerals.{add-one}
-use lib.ListN.{length, getD, set, take, drop, replicate, length-set, length-replicate, drop-of-length-le}
-use lib.Seq.{getD-set-same, getD-set-other, set-set, ext-getD, drop-cons, take-suc, set-at, append-snoc, take-all, length-take-le}
+use lib.ListN.{length, getD, set, take, drop, replicate, length-set, drop-of-length-le}
+use lib.Seq.{getD-set-same, getD-set-other, set-set, drop-cons, take-suc, set-at, append-snoc, take-all, length-take-le}
 use lib.Dec.{eqb}
-use borrow.Author.Tests.{eqb-true, eqb-false}
 use Rattle.model.specs.Lines.{l1dPut, l2Put, l1dGet, l2Get, emptyLine}
 use Rattle.model.specs.Records.{noL1dSet, noL2Set, l1dSetAt, l2SetAt, withL1dSet, withL2Set, withL1dLine, withL2Line, freshRecord, freshL1dSet, freshL2Set}
-use Rattle.model.specs.Laws.{bool}
 use Rattle.model.specs.declared.Line.{Line}
 use Rattle.model.specs.declared.Order2.{Order2}
 use Rattle.model.specs.declared.Order4.{Order4}
 use Rattle.model.specs.declared.L1dSet.{L1dSet}
 use Rattle.model.specs.declared.L2Set.{L2Set}
 use Rattle.model.specs.declared.Record.{Record}
-use Rattle.tags.specs.Few.{two, four}
-use Rattle.tags.specs.Words.{recordWords, word, listed, listed-get, listed-same, lineIn, order2In, order4In, l1dIn, l2In, modeIn, recordIn, l1d-at, l2-at, one-l1d, one-l2, same-l1d, same-l2}
+use Rattle.lists.specs.Few.{two, four}
+use Rattle.tags.specs.Words.{recordWords, word, lineIn, order2In, order4In, l1dIn, l2In, modeIn, recordIn, l1d-at, l2-at, one-l1d, one-l2, same-l1d, same-l2}
+use Rattle.lists.specs.Listed.{listed, listed-same, length-listed}
 
 -- ---- out of the words: a set as the code reads it
 pub l1d-read : (ws : List ℕ) (i : ℕ) (x y : Line) (o : Order2) → x ≡ lineIn (word ws (i * 5 + 3)) (word ws (i * 5 + 3 + 1)) →
@@ -44,36 +43,6 @@ l2-read ws j w x y z o ew ex ey ez eo =
     let p5 : j * 9 + 643 + 5 ≡ j * 9 + 648 = omega arith in let p6 : j * 9 + 643 + 6 ≡ j * 9 + 649 = omega arith in
     let p7 : j * 9 + 643 + 7 ≡ j * 9 + 650 = omega arith in let p8 : j * 9 + 643 + 8 ≡ j * 9 + 651 = omega arith in
     rw (ew, ex, ey, ez, eo, p1, p2, p3, p4, p5, p6, p7, p8) refl
-
-pub length-listed {ℓ} : {A : Type ℓ} (f : ℕ → A) (k n : ℕ) → length (listed f k n) ≡ n
-unfolding listed
-length-listed f k zero = refl
-length-listed f k (suc n) = ap suc (length-listed f (suc k) n)
-
--- ---- an array of n elements that is filled with f from the front: what a loop keeps after i of them
-module _ {ℓ} {A : Type ℓ} (f : ℕ → A) (d : A) (n : ℕ) where
-  abbrev pub Filling : List A → ℕ → Type ℓ
-  Filling xs i = (i ≤ n) × ((length xs ≡ n) × ((k : ℕ) → k < i → getD xs k d ≡ f k))
-
-  pub filling-first : (x : A) → Filling (replicate n x) 0
-  filling-first x = (omega arith, (length-replicate n x, λ k h. absurd (omega arith)))
-
-  pub filling-next : (xs : List A) (i : ℕ) (v : A) → Filling xs i → i < n → v ≡ f i → Filling (set xs i v) (i + 1)
-  filling-next xs i v h l e = (
-    omega arith,
-    (
-      simp length-set (h .1 .0),
-      λ k m. bool (eqb k i)
-          (λ t. let z = eqb-true k i t in ap (λ (j : ℕ). getD (set xs i v) j d) z ∙ getD-set-same xs i v d (omega (arith, h .1 .0)) ∙ e ∙ ap f (sym z))
-          (λ t. let z = eqb-false k i t in let y : k < i = omega arith in getD-set-other xs i k v d z ∙ h .1 .1 k y),
-    ),
-  )
-
-  pub filling-last : (xs : List A) (i : ℕ) → Filling xs i → n ≤ i → xs ≡ listed f 0 n
-  filling-last xs i h l =
-      ext-getD d xs (listed f 0 n) (h .1 .0 ∙ sym (length-listed f 0 n))
-      (λ k m. let y : k < i = omega (arith, h .1 .0) in let z : k < n = omega (arith, h .1 .0) in let u : k ≡ 0 + k = omega arith in
-      h .1 .1 k y ∙ ap f u ∙ sym (listed-get f 0 n k d z))
 
 pub unpacked : (ws : List ℕ) (m : ℕ) (xs : List L1dSet) (ys : List L2Set) → m ≡ recordIn ws .mode → xs ≡ listed (l1dIn ws) 0 128 → ys ≡ listed (l2In ws) 0 512 →
     record {

@@ -13,7 +13,8 @@ use Rattle.model.specs.Records.{state, legalSizes, wellFormed, l1dSetOk, l2SetO
 use Rattle.model.specs.Refusals.{lowestDue, unless, lentL1d, lentL2, lentExternal, lentDue}
 use Rattle.model.specs.Laws.{bool, both-true}
 use Rattle.record_check.specs.Idle.{sizes-legal}
-use Rattle.tags.specs.Words.{word, listed, l1dIn, l2In, recordIn, marBitsIn, l2len-in, extlen-in, mode-good, mode-bad}
+use Rattle.tags.specs.Words.{word, l1dIn, l2In, recordIn, marBitsIn, l2len-in, extlen-in, mode-good, mode-bad}
+use Rattle.lists.specs.Listed.{listed}
 use Rattle.record_check.specs.Lent.{allFrom, l1dOkIn, l2OkIn}
 
 -- ---- a loop that goes up to n

@@ -17,7 +17,8 @@ use Rattle.model.specs.declared.Line.{Line}
 use Rattle.model.specs.declared.Order4.{Order4}
 use Rattle.model.specs.declared.L2Set.{L2Set}
 use Rattle.model.specs.declared.Record.{Record}
-use Rattle.tags.specs.Few.{four, twice-four}
+use Rattle.tags.specs.Few.{twice-four}
+use Rattle.lists.specs.Few.{four}
 
 -- what a set not in use has to be: order 3,2,1,0, nothing valid
 unfoldable pub freshLine : Line → Bool

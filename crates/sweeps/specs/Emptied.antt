@@ -4,18 +4,16 @@
 -- line into L1D. Nothing is asked of the record: a way that its arrays do not have is an invalid one.
 use Prim.Native.Nat.{ℕ, zero, suc, _+_, _*_, _/_, _%_, _<_}
 use mathlib.Core.Bool.{false}
-use mathlib.Core.List.{List, [], _∷_}
 use mathlib.Core.Path.{_≡_, refl, sym, ap, _∙_}
 use native.Mathlib.Omega.{arith}
-use lib.ListN.{getD, set}
 use lib.Seq.{getD-set-other}
 use lib.Dec.{ltb, eqb}
 use borrow.Author.Tests.{eqb-true, eqb-false}
+use Rattle.lists.specs.Replaced.{set-either}
 use Rattle.model.specs.Basics.{each}
-use Rattle.model.specs.Bytes.{part}
 use Rattle.model.specs.Memories.{externalBase}
-use Rattle.model.specs.Lines.{l1dSetOf, l1dData, upperHalf, emptyLine, holds, l1dGet, l1dPut}
-use Rattle.model.specs.Records.{State, mode0, l2SetsOf, noL1dSet, l1dSetAt, l1dLineAt, l2LineAt, withL1dLine, withL2Line}
+use Rattle.model.specs.Lines.{l1dSetOf, upperHalf, emptyLine, holds, l1dGet, l1dPut}
+use Rattle.model.specs.Records.{State, l2SetsOf, noL1dSet, l1dSetAt, l1dLineAt, l2LineAt, withL1dLine, withL2Line}
 use Rattle.model.specs.Ways.{wayHolding, l1dFind, l1dWay, inL1d, inL2, emptyL1d, emptyL2}
 use Rattle.model.specs.Homes.{homeIsL2, putMemory, putL2, putHome, takeHalf, takeHalves, writeOutL2, writebackL2, evictL2}
 use Rattle.model.specs.Access.{writebackL1d, evictL1d}
@@ -24,12 +22,6 @@ use Rattle.model.specs.Laws.{bool}
 use Rattle.model.specs.declared.Line.{Line}
 use Rattle.model.specs.declared.L1dSet.{L1dSet}
 use Rattle.model.specs.declared.Record.{Record}
-
--- ---- an element that is replaced, where there is one
-set-either {ℓ m} : {A : Type ℓ} (P : A → Type m) (xs : List A) (i : ℕ) (v d : A) → P v → P d → P (getD (set xs i v) i d)
-set-either P [] i v d p q = q
-set-either P (x ∷ xs) zero v d p q = p
-set-either P (x ∷ xs) (suc i) v d p q = set-either P xs i v d p q
 
 -- ---- a way is emptied: it is invalid, and so is every way that was
 abbrev Invalid : Line → Type 0

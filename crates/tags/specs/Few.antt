@@ -1,29 +1,14 @@
--- The two or four ways of a set one by one: a list of two or four lines written out, and what the definitions' tests
--- over such a list are. By cases on the list and the laws of "and" and "or".
+-- The two or four ways of a set one by one: what the definitions' tests over a list of two or four lines are. By the
+-- laws of "and" and "or".
 use mathlib.Core.Bool.{Bool, not, _&&_, _||_, and-true, and-false, or-false}
 use mathlib.Core.List.{List, [], _∷_}
 use mathlib.Core.Path.{_≡_, refl, ap, _∙_}
-use native.Mathlib.Omega.{arith}
 use lib.ListN.{length, getD}
 use Rattle.model.specs.Basics.{anyOf}
 use Rattle.model.specs.Lines.{holds, emptyLine}
 use Rattle.model.specs.Records.{noneTwice}
 use Rattle.model.specs.declared.Line.{Line}
-
--- ---- a list of two and of four
-pub two {ℓ} : {A : Type ℓ} (d : A) (xs : List A) → length xs ≡ 2 → xs ≡ getD xs 0 d ∷ getD xs 1 d ∷ []
-two d [] e = absurd (omega arith)
-two d (x ∷ []) e = absurd (omega arith)
-two d (x ∷ y ∷ []) e = refl
-two d (x ∷ y ∷ z ∷ zs) e = absurd (omega arith)
-
-pub four {ℓ} : {A : Type ℓ} (d : A) (xs : List A) → length xs ≡ 4 → xs ≡ getD xs 0 d ∷ getD xs 1 d ∷ getD xs 2 d ∷ getD xs 3 d ∷ []
-four d [] e = absurd (omega arith)
-four d (w ∷ []) e = absurd (omega arith)
-four d (w ∷ x ∷ []) e = absurd (omega arith)
-four d (w ∷ x ∷ y ∷ []) e = absurd (omega arith)
-four d (w ∷ x ∷ y ∷ z ∷ []) e = refl
-four d (w ∷ x ∷ y ∷ z ∷ u ∷ us) e = absurd (omega arith)
+use Rattle.lists.specs.Few.{four}
 
 pub any-two : (p : Line → Bool) (x y : Line) → anyOf p (x ∷ y ∷ []) ≡ (p x || p y)
 unfolding anyOf

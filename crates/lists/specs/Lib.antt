@@ -1,0 +1,4 @@
+pub mod Few
+pub mod Listed
+pub mod Filled
+pub mod Replaced

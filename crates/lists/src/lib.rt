@@ -1,0 +1,1 @@
+// Lemmas about lists, of which no other crate says anything: theorems only, in specs/.
