@@ -18,6 +18,7 @@ use Rattle.model.specs.Ways.{inL2, l2Way, emptyL1d}
 use Rattle.model.specs.Access.{writebackL1d, evictL1d}
 use Rattle.model.specs.Homes.{homeIsL2, putMemory, putL2, putHome, writeOutL2}
 use Rattle.model.specs.Modes.{flushL1d, flushL2, newMode, changeMode}
+use Rattle.model.specs.Emptied.{back-lines}
 use Rattle.model.specs.Laws.{bool}
 use Rattle.model.specs.declared.Line.{Line}
 use Rattle.model.specs.declared.L1dSet.{L1dSet}
@@ -70,10 +71,6 @@ module _ (xs : List L1dSet) where
       writebackL1d s w (relined xs z) ≡ relined xs (writebackL1d s w z)
   unfolding writebackL1d
   back-relined s w z e = ap (λ (x : Line). written x s w (relined xs z)) e ∙ written-relined (l1dLineAt (z .rec) s w) s w z
-
--- a write-back leaves the lines of L1D as they are
-back-lines : (s w : ℕ) (z : State) → writebackL1d s w z .rec .l1d ≡ z .rec .l1d
-back-lines s w z = ap (λ (x : State). x .rec .l1d) (back-relined (z .rec .l1d) s w z refl)
 
 -- ---- the lines of L1D with the first k ways emptied: the others are as they were
 abbrev emptied : ℕ → List L1dSet → List L1dSet

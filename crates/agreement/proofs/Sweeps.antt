@@ -4,20 +4,21 @@
 -- Why: each is a loop of steps that keep the state good. L1D is emptied first, way by way, and nothing fills it again;
 -- so no line of L1D can make an L2 line dirty that has gone out. Slots are counted k = set * ways + way, so that
 -- "before k" is one linear test.
-use Prim.Native.Nat.{ℕ, zero, suc, _+_, _*_, _-_, _/_, _%_, _<_}
+use Prim.Native.Nat.{ℕ, zero, suc, _+_, _*_, _/_, _%_, _<_}
 use mathlib.Core.Bool.{false}
 use mathlib.Core.Path.{_≡_, refl, sym, ap, _∙_}
 use native.Mathlib.Omega.{arith}
 use lib.Dec.{eqb}
 use borrow.Author.Tests.{eqb-true, eqb-false}
 use Rattle.model.specs.Basics.{each}
-use Rattle.model.specs.Lines.{l1dSetOf, emptyLine, l2Sets}
+use Rattle.model.specs.Lines.{l1dSetOf, l2Sets}
 use Rattle.model.specs.Records.{State, l2SetsOf, mode0, l2SetOf, l1dLineAt, l2LineAt}
 use Rattle.model.specs.Ways.{l1dWay, l2Way, inL1d, inL2}
 use Rattle.model.specs.Access.{evictL1d}
 use Rattle.model.specs.Homes.{writeOutL2, writebackL2, evictL2}
 use Rattle.model.specs.Modes.{flushL2}
 use Rattle.model.specs.Commands.{linesTouched, eachTouched, eachL2, atL2, atL1d, unlessMode0, evictAllL1d, l2WritebackAll, l2WritebackInvalidateAll, l2WritebackBlock, l2WritebackInvalidateBlock, l1dWritebackInvalidateBlock}
+use Rattle.model.specs.Emptied.{evicted-all}
 use Rattle.model.specs.Laws.{bool, false-true, cond-elim, no-ways}
 use Rattle.model.specs.declared.Line.{Line}
 use Rattle.model.specs.declared.Record.{Record}
@@ -81,40 +82,22 @@ pub swept-step : (z : State) (F : Allowed) (t v : ℕ) (z′ : State) → Swept 
 swept-step z F t v z′ s = record { good = s .good; kept = s .kept }
 
 -- ---- everything goes out: nothing is left in L1D, nothing dirty in L2
-record L1dEmptyTo (z : State) (F : Allowed) (k : ℕ) (x : State) : Type 0 where
-  step : Step z F x
-  none : (s w : ℕ) → w < 2 → s * 2 + w < k → Valid (l1dLevel x) s w → ⊥
-
-l1d-empty-next : (z : State) (F : Allowed) (k : ℕ) → k < 256 → (x : State) → L1dEmptyTo z F k x → L1dEmptyTo z F (suc k) (evictL1d (k / 2) (k % 2) x)
-l1d-empty-next z F k hk x u =
-    let n = k / 2 in let m = k % 2 in
-    let g = evictL1d-good x F (u .step .good) n m (omega arith) (omega arith) in
-    let l = g .left in
-    record {
-      step = record { good = l .good; kept = kept-trans z x (evictL1d n m x) (u .step .kept) (l .kept) };
-      none = λ s w hw h i. same-slot n m s w
-          (λ e. let y : l1dLineAt (evictL1d n m x .rec) s w ≡ emptyLine = rw (e .0, e .1) (g .gone) in false-true
-          (sym (ap (λ (r : Line). r .valid) y) ∙ i))
-          (λ e. let y = l .fewer s w i in
-          bool (eqb (s * 2 + w) k)
-          (λ t. let t′ = eqb-true (s * 2 + w) k t in e (omega arith, omega arith))
-          (λ t. let t′ = eqb-false (s * 2 + w) k t in u .none s w hw (omega arith) (rw y at i)));
-    }
-
 pub record L1dEmptied (z : State) (F : Allowed) (x : State) : Type 0 where
   pub step : Step z F x
   pub l1dNone : (s w : ℕ) → Valid (l1dLevel x) s w → ⊥
 
 pub sweptL1d-good : (z : State) (F : Allowed) → Good z F → L1dEmptied z F (sweptL1d z)
+unfolding evictAllL1d
 sweptL1d-good z F q =
-    let x = each (λ k. evictL1d (k / 2) (k % 2)) 256 z in
-    let u : L1dEmptyTo z F 256 x =
-    each-by (λ k y. L1dEmptyTo z F k y) (λ k. evictL1d (k / 2) (k % 2)) 256 z
-    (record { step = step-refl z F q; none = λ s w hw h. absurd (omega arith) })
-    (λ k hk y u. l1d-empty-next z F k hk y u) in
+    let x = sweptL1d z in
+    let u : Step z F x =
+    each-by (λ _ y. Step z F y) (λ k. evictL1d (k / 2) (k % 2)) 256 z (step-refl z F q)
+    (λ k hk y w. let m = evictL1d-step y F (w .good) (k / 2) (k % 2) (omega arith) (omega arith) in
+    step-trans z y (evictL1d (k / 2) (k % 2) y) F w m) in
     record {
-      step = u .step;
-      l1dNone = λ s w i. let b = l1d-bounds x F (u .step .good) s w i in let b₀ = b .0 in let b₁ = b .1 in u .none s w b₁ (omega arith) i;
+      step = u;
+      l1dNone = λ s w i. let b = l1d-bounds x F (u .good) s w i in
+          false-true (sym (evicted-all z s w (b .0) (b .1)) ∙ i);
     }
 
 -- ---- one L2 slot cleaned, L1D holding nothing: L1D still holds nothing, and no other slot gets dirty

@@ -17,7 +17,8 @@ use Rattle.model.specs.Commands.{atL2, atL1d, eachTouched, eachL2, unlessMode0,
 use Rattle.model.specs.Calls.{reply, commandDue, commandState, accepted, step}
 use Rattle.model.specs.Laws.{bool, both-true, no-ways}
 use Rattle.model.specs.declared.Command.{Command}
-use Rattle.sweeps.specs.Emptied.{Bare, clearL2, evicted-all, bare-writebacks, bare-evicts}
+use Rattle.model.specs.Emptied.{Bare, evicted-all}
+use Rattle.sweeps.specs.Emptied.{clearL2, bare-writebacks, bare-evicts}
 use Rattle.l1d_commands.specs.Steps.{l1dOperation}
 use Rattle.l2_commands.specs.Steps.{l2Operation}
 

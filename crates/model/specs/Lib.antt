@@ -17,3 +17,4 @@ pub mod Stays
 pub mod Traces
 pub mod Laws
 pub mod Opened
+pub mod Emptied

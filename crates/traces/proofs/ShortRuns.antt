@@ -2,7 +2,7 @@
 -- The digits of a run of length k are worth less than b ^ k, so that runs of one length have the numbers from
 -- `shorterRuns b k` up to the first run that is longer, and the first digit in which two of them differ decides.
 use Prim.Native.Nat.{ℕ, zero, suc, _+_, _*_, _-_, _^_, _/_, _%_, _<_, _≤_}
-use mathlib.Core.Bool.{true}
+use mathlib.Core.Bool.{true, false}
 use mathlib.Core.List.{List, [], _∷_}
 use mathlib.Core.Logic.{inl, inr}
 use mathlib.Core.Path.{_≡_, refl, sym, ap, _∙_}
@@ -247,6 +247,11 @@ module _ (b : ℕ) (some : 0 < b) where
 pub runs-counted : shorterRuns 8 5 ≡ lastRun + 1
 unfolding shorterRuns
 runs-counted = refl
+
+-- five digits are no run
+five-refused : isRun (0 ∷ 0 ∷ 0 ∷ 0 ∷ 0 ∷ []) ≡ false
+unfolding isRun
+five-refused = refl
 
 -- a run is what passes the check; each has a number up to the last, and the numbers up to the last are those of runs
 pub record EachRunOneNumber : Type 0 where

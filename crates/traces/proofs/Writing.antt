@@ -24,6 +24,11 @@ use Rattle.model.specs.Laws.{length-stored}
 use Rattle.model.specs.declared.Command.{Command}
 use Rattle.model.specs.Trace.{Whole, none, one}
 
+-- ---- the shortest form, at the border and behind it
+shortest-worked : (numberBytes 300 ≡ 0xAC ∷ 0x02 ∷ []) × (numberBytes 127 ≡ 0x7F ∷ [])
+unfolding groupsOf
+shortest-worked = (refl, refl)
+
 -- ---- a number that was written is read, whatever stands behind it
 small-rest : (more v : ℕ) → v < 128 ^ suc (suc more) → v / 128 < 128 ^ suc more
 small-rest more v h =
