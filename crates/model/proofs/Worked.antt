@@ -1,8 +1,8 @@
 -- Short lists of calls from a fresh start, and what they are answered: the chip's number, server and value, flat
 -- memory's number and value, and the bytes that lie behind L1D. Rows of one table, and one theorem, `worked`, which
 -- holds by computing: a definition that is not the paper's fails at a value here. Each of the mistakes that paper 01
--- names has a row (the second is the rule since 02, U10), and so have the servers, writebacks, mode and MAR changes
--- and drops; the view, and checks 1 and 2, have a list of their own.
+-- names has a row (the second is the rule since 02, U10), and so have the servers, writebacks, mode and MAR changes,
+-- drops and the freeze; the view, and checks 1 and 2, have a list of their own.
 -- In the rows a call is carried out behind checks 1 and 2, and L1D and L2 are cut behind the last byte that the row
 -- comes to: to go through all lent bytes and lines at each call is most of the time that a check takes, and what a row
 -- does not come to it does not change. A record that is well formed stays so (`Stays`).
@@ -45,7 +45,7 @@ abbrev lies : ℕ → ℕ → Place
 lies a b = shows a 0 b
 
 -- ---- the calls: one byte read at a, served by s, of value v; v written at a, served by s; a command over all lines,
--- or over a block of one word; mode m, and bit b of MAR 128, answered with n
+-- or over a block of one word; mode m, bit b of MAR 128, and the freeze b, answered with n
 abbrev reads : ℕ → ℕ → ℕ → Place
 reads a s v = same (oneCommand (command 0 1 a 0)) 0 s v
 
@@ -63,6 +63,9 @@ mode m n = same (oneCommand (command 10 m 0 0)) n 0 0
 
 abbrev mar128 : ℕ → ℕ → Place
 mar128 b n = unseen (oneCommand (command 11 128 b 0)) n
+
+abbrev freeze : ℕ → ℕ → Place
+freeze b n = unseen (oneCommand (command 12 b 0 0)) n
 
 -- ---- a row: how many bytes of L1D and of L2 are there, and of external memory behind its first L2 line; a list of
 -- calls with their answers
@@ -183,6 +186,23 @@ throughL2 =
     ∷ all 9 ∷ mar128 0 10 ∷ all 2 ∷ lies 0x80000040 7 ∷ all 3 ∷ mar128 0 0 ∷ reads 0x80000040 4 7
     ∷ reads 0x80000040 4 7 ∷ [])
 
+-- 02, U11. Frozen, a read miss fills nothing and empties no way, a hit changes no order, a write hit is still dirty:
+-- of two lines of one set, the one that was hit since leaves first, and goes home. 17 "for a number above 1".
+pub frozen : Row
+frozen =
+    row 8256 16448 0
+    (freeze 1 0 ∷ reads 0 2 0 ∷ reads 0 2 0 ∷ freeze 0 0 ∷ reads 0 2 0 ∷ reads 0x2000 2 0 ∷ freeze 1 0 ∷ reads 0x4000 2 0
+    ∷ reads 0 1 0 ∷ writes 0 5 1 ∷ freeze 2 17 ∷ reads 0x4000 2 0 ∷ freeze 0 0 ∷ reads 0x4000 2 0 ∷ reads 0x2000 1 0
+    ∷ reads 0 2 5 ∷ [])
+
+-- "L2 isn't frozen", and "a mode change keeps the freeze": L2 fetches a line and finds it afterwards, L1D does not.
+pub frozenL2 : Row
+frozenL2 =
+    row 128 128 0
+    (freeze 1 0 ∷ mode 1 0 ∷ mar128 1 0 ∷ reads 0x80000000 4 1 ∷ reads 0x80000040 3 2 ∷ reads 0x80000040 3 2
+    ∷ writes 0x80000040 7 3 ∷ reads 0x80000040 3 7 ∷ freeze 0 0 ∷ reads 0x80000040 3 7 ∷ freeze 1 0
+    ∷ writes 0x80000040 8 1 ∷ reads 0x80000040 1 8 ∷ reads 0x80000000 3 1 ∷ [])
+
 -- ---- with more external memory: a global writeback reaches the last set of L2
 pub lastSet : Row
 lastSet =
@@ -271,6 +291,14 @@ throughL2-holds : given throughL2 ≡ stated (throughL2 .places)
 unfolding opened both stepped along cut started given stated throughL2
 throughL2-holds = refl
 
+frozen-holds : given frozen ≡ stated (frozen .places)
+unfolding opened both stepped along cut started given stated frozen
+frozen-holds = refl
+
+frozenL2-holds : given frozenL2 ≡ stated (frozenL2 .places)
+unfolding opened both stepped along cut started given stated frozenL2
+frozenL2-holds = refl
+
 lastSet-holds : given lastSet ≡ stated (lastSet .places)
 unfolding opened both stepped along cut started given stated lastSet
 lastSet-holds = refl
@@ -280,13 +308,14 @@ unfolding opened both stepped along cut started given stated evicted
 evicted-holds = refl
 
 pub table : List Row
-table = sram ∷ external ∷ modeZero ∷ sramReached ∷ replaced ∷ modes ∷ drops ∷ throughL2 ∷ lastSet ∷ evicted ∷ []
+table =
+    sram ∷ external ∷ modeZero ∷ sramReached ∷ replaced ∷ modes ∷ drops ∷ throughL2 ∷ frozen ∷ frozenL2 ∷ lastSet ∷ evicted ∷ []
 
 pub worked : map given table ≡ map (λ (r : Row). stated (r .places)) table
 unfolding table
 worked i =
     sram-holds i ∷ external-holds i ∷ modeZero-holds i ∷ sramReached-holds i ∷ replaced-holds i ∷ modes-holds i
-    ∷ drops-holds i ∷ throughL2-holds i ∷ lastSet-holds i ∷ evicted-holds i ∷ []
+    ∷ drops-holds i ∷ throughL2-holds i ∷ frozen-holds i ∷ frozenL2-holds i ∷ lastSet-holds i ∷ evicted-holds i ∷ []
 
 -- ---- "Invalidation changes no order.": two lines of one L1D set are read, then one of them, or both, are made invalid
 unfoldable pub orderOf : Order2 → List ℕ

@@ -11,9 +11,9 @@ use Rattle.model.specs.Memories.{l1dLength, legalL2, legalExternal}
 use Rattle.model.specs.Records.{State, state, sramOf, freshRecord, freshState}
 use Rattle.model.specs.Access.{readAccess, writeAccess}
 use Rattle.model.specs.Homes.{memoryPart}
-use Rattle.model.specs.Modes.{changeMode, changeMar}
+use Rattle.model.specs.Modes.{changeMode, changeMar, changeFreeze}
 use Rattle.model.specs.Commands.{l2WritebackAll, l2WritebackInvalidateAll, l2WritebackBlock, l2WritebackInvalidateBlock, l2InvalidateBlock, l1dWritebackInvalidateBlock, l1dInvalidateBlock, l1dInvalidateAll}
-use Rattle.model.specs.Refusals.{lentDue, viewDue, accessDue, blockDue, modeDue, marDue, unless}
+use Rattle.model.specs.Refusals.{lentDue, viewDue, accessDue, blockDue, modeDue, marDue, freezeDue, unless}
 use Rattle.model.specs.Trace.{Decoded, decode}
 use Rattle.model.specs.declared.Command.{Command}
 use Rattle.model.specs.declared.Record.{Record}
@@ -46,7 +46,8 @@ commandDue c z =
     (cond (eqb (c .code) 1) (accessDue (sramOf (z .rec)) (z .rec .extlen) (c .first) (c .second) (c .value))
     (cond (leb 4 (c .code) && leb (c .code) 8) (blockDue (c .first) (c .second))
     (cond (eqb (c .code) 10) (modeDue (z .rec .l2len) (c .first))
-    (cond (eqb (c .code) 11) (marDue (z .rec) (c .first) (c .second)) (unless (leb (c .code) 11) 11)))))
+    (cond (eqb (c .code) 11) (marDue (z .rec) (c .first) (c .second))
+    (cond (eqb (c .code) 12) (freezeDue (c .first)) (unless (leb (c .code) 12) 11))))))
 
 -- "little-endian": bytes are read as a value, and a value is written as bytes
 unfoldable pub readDone : ℕ → ℕ → State → Reply
@@ -67,7 +68,8 @@ commandState c z =
     (cond (eqb (c .code) 8) (l1dInvalidateBlock (c .first) (c .second) z)
     (cond (eqb (c .code) 9) (l1dInvalidateAll z)
     (cond (eqb (c .code) 10) (changeMode (c .first) z)
-    (cond (eqb (c .code) 11) (changeMar (c .first) (c .second) z) z)))))))))
+    (cond (eqb (c .code) 11) (changeMar (c .first) (c .second) z)
+    (cond (eqb (c .code) 12) (changeFreeze (c .first) z) z))))))))))
 
 -- what an accepted command gives
 unfoldable pub accepted : Command → State → Reply
@@ -107,7 +109,7 @@ unfoldable pub putAnswer : List ℕ → ℕ → ℕ → ℕ → ℕ → List ℕ
 putAnswer o k n s v = stored o (k * 10) (n ∷ s ∷ littleBytes v 8)
 
 -- "Then it carries out commands. .. Refusals 3 to 10 are answered and the run goes on. 11, then 12, stop it before
--- that command".
+-- that command". 02, U11: 17 is "answered in a trace as 3 to 10 are".
 -- "in a trace 11, then 12, come before 3 to 10". t: the trace, i: the byte it has come to, k: the answers so far, o:
 -- their bytes.
 -- The number of turns is no limit: each command takes a byte at least, so that as many turns as bytes are left are

@@ -14,11 +14,11 @@ use Rattle.model.specs.Flat.{Flat, freshFlat, flatCalled}
 use Rattle.model.specs.Calls.{freshCall, Call, oneCommand, freshStart, look, called, commands}
 use Rattle.model.specs.declared.Command.{Command}
 
--- ---- which calls a list may hold: reads (0), writes (1), the writeback commands (2 to 5 and 7), mode changes (10)
--- and MAR changes (11), each with any numbers, refused ones too; and views. No fresh start: flat memory begins with
--- the external memory as lent.
+-- ---- which calls a list may hold: reads (0), writes (1), the writeback commands (2 to 5 and 7), mode changes (10),
+-- MAR changes (11) and freezes (12; 02, U11: "Read values in lists with freezes are still flat memory's."), each with
+-- any numbers, refused ones too; and views. No fresh start: flat memory begins with the external memory as lent.
 abbrev pub listedCode : ℕ → Bool
-listedCode k = leb k 5 || (eqb k 7 || (eqb k 10 || eqb k 11))
+listedCode k = leb k 5 || (eqb k 7 || (eqb k 10 || (eqb k 11 || eqb k 12)))
 
 abbrev pub listedCall : Call → Bool
 listedCall (oneCommand c) = listedCode (c .code)

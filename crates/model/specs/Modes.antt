@@ -1,4 +1,4 @@
--- Paper 01, "Modes and MAR".
+-- Paper 01, "Modes and MAR", and the freeze of 02, U11.
 use Prim.Native.Nat.{ℕ}
 use mathlib.Core.Bool.{cond}
 use lib.ListN.{length}
@@ -6,7 +6,7 @@ use lib.Dec.{leb, eqb}
 use Rattle.model.specs.Bytes.{zeroFrom}
 use Rattle.model.specs.Memories.{sramLength}
 use Rattle.model.specs.Lines.{eachWay, l1dKind}
-use Rattle.model.specs.Records.{State, withRecord, withL2, withL1dSets, withL2Sets, withMode, withMars, sramOf, l2KindBy, freshL1dSets, freshL2Sets}
+use Rattle.model.specs.Records.{State, withRecord, withL2, withL1dSets, withL2Sets, withMode, withMars, withFrozen, sramOf, l2KindBy, freshL1dSets, freshL2Sets}
 use Rattle.model.specs.Access.{writebackL1d}
 use Rattle.model.specs.Homes.{writeOutL2}
 
@@ -28,7 +28,7 @@ newMode m z =
     withL2 (withRecord z (withMode (withL2Sets (withL1dSets (z .rec) freshL1dSets) freshL2Sets) m))
     (zeroFrom (smaller (sramOf (z .rec)) (sramLength (z .rec .l2len) m)) (z .l2) (length (z .l2)))
 
--- the whole change
+-- the whole change. 02, U11: "a mode change keeps the freeze."
 unfoldable pub changeMode : ℕ → State → State
 changeMode m z = newMode m (flushL2 (flushL1d z))
 
@@ -36,3 +36,7 @@ changeMode m z = newMode m (flushL2 (flushL1d z))
 unfoldable pub changeMar : ℕ → ℕ → State → State
 changeMar n b z =
     withRecord z (withMars (z .rec) (cond (eqb n 128) (eqb b 1) (z .rec .mar128)) (cond (eqb n 129) (eqb b 1) (z .rec .mar129)))
+
+-- 02, U11: "A call, in the trace code 12, takes one number: 1 freezes, 0 thaws; the record keeps it."
+unfoldable pub changeFreeze : ℕ → State → State
+changeFreeze b z = withRecord z (withFrozen (z .rec) (eqb b 1))

@@ -13,16 +13,16 @@ use Rattle.model.specs.Ways.{wayHolding, l1dFind, l2Find, lowestInvalid,
 use Rattle.model.specs.Ways.{inL1d, inL2, useL1d, useL2, emptyL1d, emptyL2}
 use Rattle.model.specs.Homes.{homeIsL2, memoryPart, putMemory, putL2, putHome, l2WayFor, takeHalf, takeHalves}
 use Rattle.model.specs.Homes.{writeOutL2, writebackL2, evictL2, fillL2, fetchL2, homeServer}
-use Rattle.model.specs.Access.{cacheable, readHit, writebackL1d, evictL1d, homeLine, fillL1d, readFilled}
-use Rattle.model.specs.Access.{readEmptied, readMiss, readAccess, putL1d, writeHit, writeHome, writeMiss}
-use Rattle.model.specs.Access.{writeAccess}
-use Rattle.model.specs.Modes.{smaller, flushL1d, flushL2, newMode, changeMode, changeMar}
+use Rattle.model.specs.Access.{cacheable, useHit, readHit, writebackL1d, evictL1d, homePart, fillL1d, readFilled}
+use Rattle.model.specs.Access.{readEmptied, readThawed, readFrozen, readMiss, readAccess, putL1d, writeHit}
+use Rattle.model.specs.Access.{writeHome, writeMiss, writeAccess}
+use Rattle.model.specs.Modes.{smaller, flushL1d, flushL2, newMode, changeMode, changeMar, changeFreeze}
 use Rattle.model.specs.Commands.{blockEnd, linesTouched, eachTouched, eachL2, atL2, atL1d, unlessMode0, evictAllL1d}
 use Rattle.model.specs.Commands.{l2WritebackAll, l2WritebackInvalidateAll, l2WritebackBlock}
 use Rattle.model.specs.Commands.{l2WritebackInvalidateBlock, dropL2, l2InvalidateBlock}
 use Rattle.model.specs.Commands.{l1dWritebackInvalidateBlock, l1dInvalidateBlock, l1dInvalidateAll}
 use Rattle.model.specs.Refusals.{lentL1d, lentL2, lentExternal, sizeOk, placeOk, valueOk, inRange, holdsRange}
-use Rattle.model.specs.Refusals.{lentDue, viewLentDue, accessDue, blockDue, modeDue, marDue, viewDue}
+use Rattle.model.specs.Refusals.{lentDue, viewLentDue, accessDue, blockDue, modeDue, marDue, freezeDue, viewDue}
 use Rattle.model.specs.Trace.{moreGroups, groups, numberBelow, oneNumber, secondNumber, twoNumbers, valueNumber}
 use Rattle.model.specs.Trace.{threeNumbers, decodeAfter, decode}
 use Rattle.model.specs.Calls.{commandDue, readDone, writeDone, commandState, accepted, step, call, freshOk}
@@ -43,14 +43,14 @@ unfolding
     emptyL2
     homeIsL2 memoryPart putMemory putL2 putHome l2WayFor takeHalf takeHalves writeOutL2 writebackL2 evictL2 fillL2
     fetchL2 homeServer
-    cacheable readHit writebackL1d evictL1d homeLine fillL1d readFilled readEmptied readMiss readAccess putL1d
-    writeHit writeHome writeMiss writeAccess
-    smaller flushL1d flushL2 newMode changeMode changeMar
+    cacheable useHit readHit writebackL1d evictL1d homePart fillL1d readFilled readEmptied readThawed readFrozen
+    readMiss readAccess putL1d writeHit writeHome writeMiss writeAccess
+    smaller flushL1d flushL2 newMode changeMode changeMar changeFreeze
     blockEnd linesTouched eachTouched eachL2 atL2 atL1d unlessMode0 evictAllL1d l2WritebackAll l2WritebackInvalidateAll
     l2WritebackBlock l2WritebackInvalidateBlock dropL2 l2InvalidateBlock l1dWritebackInvalidateBlock
     l1dInvalidateBlock l1dInvalidateAll
     lentL1d lentL2 lentExternal sizeOk placeOk valueOk inRange holdsRange lentDue viewLentDue accessDue blockDue
-    modeDue marDue viewDue
+    modeDue marDue freezeDue viewDue
     moreGroups groups numberBelow oneNumber secondNumber twoNumbers valueNumber threeNumbers decodeAfter decode
     commandDue readDone writeDone commandState accepted step call freshOk freshCall putAnswer runFrom runCall
     viewCall viewDone after

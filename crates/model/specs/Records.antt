@@ -40,23 +40,27 @@ withL2 z m = state (z .rec) (z .l1d) m (z .ext)
 abbrev pub withExternal : State → List ℕ → State
 withExternal z e = state (z .rec) (z .l1d) (z .l2) e
 
--- ---- the record with other sets, with another mode, with other MAR bits: every change of a record goes through
--- these
+-- ---- the record with other sets, with another mode, with other MAR bits, frozen or not: every change of a record
+-- goes through these
 abbrev pub withL1dSets : Record → List L1dSet → Record
 withL1dSets r vs =
-    record { l2len = r .l2len; extlen = r .extlen; mode = r .mode; mar128 = r .mar128; mar129 = r .mar129; l1d = vs; l2 = r .l2 }
+    record { l2len = r .l2len; extlen = r .extlen; mode = r .mode; mar128 = r .mar128; mar129 = r .mar129; frozen = r .frozen; l1d = vs; l2 = r .l2 }
 
 abbrev pub withL2Sets : Record → List L2Set → Record
 withL2Sets r vs =
-    record { l2len = r .l2len; extlen = r .extlen; mode = r .mode; mar128 = r .mar128; mar129 = r .mar129; l1d = r .l1d; l2 = vs }
+    record { l2len = r .l2len; extlen = r .extlen; mode = r .mode; mar128 = r .mar128; mar129 = r .mar129; frozen = r .frozen; l1d = r .l1d; l2 = vs }
 
 abbrev pub withMode : Record → ℕ → Record
 withMode r m =
-    record { l2len = r .l2len; extlen = r .extlen; mode = m; mar128 = r .mar128; mar129 = r .mar129; l1d = r .l1d; l2 = r .l2 }
+    record { l2len = r .l2len; extlen = r .extlen; mode = m; mar128 = r .mar128; mar129 = r .mar129; frozen = r .frozen; l1d = r .l1d; l2 = r .l2 }
 
 abbrev pub withMars : Record → Bool → Bool → Record
 withMars r a b =
-    record { l2len = r .l2len; extlen = r .extlen; mode = r .mode; mar128 = a; mar129 = b; l1d = r .l1d; l2 = r .l2 }
+    record { l2len = r .l2len; extlen = r .extlen; mode = r .mode; mar128 = a; mar129 = b; frozen = r .frozen; l1d = r .l1d; l2 = r .l2 }
+
+abbrev pub withFrozen : Record → Bool → Record
+withFrozen r b =
+    record { l2len = r .l2len; extlen = r .extlen; mode = r .mode; mar128 = r .mar128; mar129 = r .mar129; frozen = b; l1d = r .l1d; l2 = r .l2 }
 
 -- ---- S, the kind that L2 is of, its number of sets, an address's L2 set and a way's data, by the record's mode
 abbrev pub sramOf : Record → ℕ
@@ -211,7 +215,7 @@ l2SetOk r t v =
 unfoldable pub wellFormed : Record → Bool
 wellFormed r = legalSizes r && (allIndexed (l1dSetOk r) 0 (r .l1d) && allIndexed (l2SetOk r) 0 (r .l2))
 
--- ---- "Fresh: mode 0, MAR bits 0, nothing valid, orders 1,0 and 3,2,1,0."
+-- ---- "Fresh: mode 0, MAR bits 0, nothing valid, orders 1,0 and 3,2,1,0." 02, U11: "A fresh start is thawed."
 abbrev pub freshL1dSet : L1dSet
 freshL1dSet = record { lines = emptyLine ∷ emptyLine ∷ []; order = record { first = 1; second = 0 } }
 
@@ -229,7 +233,7 @@ abbrev pub freshL2Sets : List L2Set
 freshL2Sets = replicate 512 freshL2Set
 
 unfoldable pub freshRecord : ℕ → ℕ → Record
-freshRecord l e = record { l2len = l; extlen = e; mode = 0; mar128 = false; mar129 = false; l1d = freshL1dSets; l2 = freshL2Sets }
+freshRecord l e = record { l2len = l; extlen = e; mode = 0; mar128 = false; mar129 = false; frozen = false; l1d = freshL1dSets; l2 = freshL2Sets }
 
 -- "L1D and L2 bytes become zero; external memory is kept."
 unfoldable pub freshState : ℕ → List ℕ → State

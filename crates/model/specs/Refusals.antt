@@ -69,6 +69,10 @@ inRange n x = x .valid && covers n (x .address)
 unfoldable pub holdsRange : ℕ → Record → Bool
 holdsRange n r = anyOf (λ (v : L1dSet). anyOf (inRange n) (v .lines)) (r .l1d) || anyOf (λ (v : L2Set). anyOf (inRange n) (v .lines)) (r .l2)
 
+-- ---- 02, U11: "17 for a number above 1,"
+abbrev pub freezeOk : ℕ → Bool
+freezeOk b = leb b 1
+
 -- "11: trace damaged": `damaged` (Trace). "12: fewer than 10 answer bytes left": `runFrom` (Calls).
 -- ---- the lowest number due, call by call. 1 and 2 stand in front of every call; the view is lent L2 and external
 -- memory only.
@@ -96,6 +100,10 @@ modeDue l m = unless (modeOk l m) 8
 -- MAR n gets bit b
 unfoldable pub marDue : Record → ℕ → ℕ → ℕ
 marDue r n b = lowestDue (unless (marOk n b) 9) (unless (not (eqb b 0 && holdsRange n r)) 10)
+
+-- L1D is frozen (1) or thawed (0). 02, U11: "checked after 10", which no freeze meets
+unfoldable pub freezeDue : ℕ → ℕ
+freezeDue b = unless (freezeOk b) 17
 
 -- the technician's view of the line at a
 unfoldable pub viewDue : Record → List ℕ → List ℕ → ℕ → ℕ

@@ -81,12 +81,12 @@ threeNumbers c bs = cond (twoNumbers c bs .ok) (valueNumber (twoNumbers c bs) (d
 
 -- "Codes: 0 read (size, address); 1 write (size, address, value); 2 L2 writeback all; 3 L2 writeback-invalidate all;
 -- 4, 5, 6 L2 block writeback, writeback-invalidate, invalidate (base, count); 7, 8 L1D block writeback-invalidate,
--- invalidate (base, count); 9 L1D invalidate all; 10 mode; 11 MAR (number, bit)."
+-- invalidate (base, count); 9 L1D invalidate all; 10 mode; 11 MAR (number, bit)." 02, U11: "code 12, takes one number"
 unfoldable pub decodeAfter : ℕ → List ℕ → Decoded
 decodeAfter c bs =
     cond (eqb c 1) (threeNumbers c bs)
     (cond (eqb c 0 || ((leb 4 c && leb c 8) || eqb c 11)) (twoNumbers c bs)
-    (cond (eqb c 10) (oneNumber c bs)
+    (cond (eqb c 10 || eqb c 12) (oneNumber c bs)
     (cond (eqb c 2 || (eqb c 3 || eqb c 9)) (decoded (command c 0 0 0) 1) damaged)))
 
 unfoldable pub decode : List ℕ → Decoded

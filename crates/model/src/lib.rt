@@ -36,13 +36,14 @@ pub struct L2Set {
     pub order: Order4,
 }
 
-// L, E, the mode, the MAR bits 128 and 129, and the sets of both caches.
+// L, E, the mode, the MAR bits 128 and 129, whether L1D is frozen (02, U11), and the sets of both caches.
 pub struct Record {
     pub l2len: u32,
     pub extlen: u32,
     pub mode: u8,
     pub mar128: bool,
     pub mar129: bool,
+    pub frozen: bool,
     pub l1d: [L1dSet; 128],
     pub l2: [L2Set; 512],
 }
@@ -137,6 +138,7 @@ pub fn fresh_record(l2len: u32, extlen: u32) -> Record
         mode: 0,
         mar128: false,
         mar129: false,
+        frozen: false,
         l1d: [l1d; 128],
         l2: [l2; 512],
     }

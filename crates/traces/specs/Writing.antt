@@ -19,12 +19,12 @@ groupsOf (suc more) v = cond (ltb v 128) (v ∷ []) ((v % 128 + 128) ∷ groupsO
 abbrev pub numberBytes : ℕ → List ℕ
 numberBytes v = groupsOf 9 v
 
--- how many numbers a code takes, by the table of codes (01); 4: "a code the trace lacks"
+-- how many numbers a code takes, by the table of codes (01; 02, U11 has 12); 4: "a code the trace lacks"
 unfoldable pub numbersTaken : ℕ → ℕ
 numbersTaken c =
     cond (eqb c 1) 3
     (cond (eqb c 0 || ((leb 4 c && leb c 8) || eqb c 11)) 2
-    (cond (eqb c 10) 1 (cond (eqb c 2 || (eqb c 3 || eqb c 9)) 0 4)))
+    (cond (eqb c 10 || eqb c 12) 1 (cond (eqb c 2 || (eqb c 3 || eqb c 9)) 0 4)))
 
 -- "Numbers a code doesn't take are no part of its command.": the bytes of the first n numbers of a command
 unfoldable pub firstNumbers : ℕ → Command → List ℕ
