@@ -9,7 +9,8 @@ use native.Mathlib.Omega.{arith}
 use native.Mathlib.Numerals.{add-one}
 use lib.ListN.{length, getD, set, take, drop, replicate, length-set, drop-of-length-le}
 use lib.Seq.{getD-set-same, getD-set-other, set-set, drop-cons, take-suc, set-at, append-snoc, take-all, length-take-le}
-use lib.Dec.{eqb}
+use lib.Dec.{ltb, eqb}
+use borrow.Author.Tests.{lt-ltb}
 use Rattle.model.specs.Lines.{l1dPut, l2Put, l1dGet, l2Get, emptyLine}
 use Rattle.model.specs.Records.{noL1dSet, noL2Set, l1dSetAt, l2SetAt, withL1dSet, withL2Set, withL1dLine, withL2Line, freshRecord, freshL1dSet, freshL2Set}
 use Rattle.model.specs.declared.Line.{Line}
@@ -51,6 +52,7 @@ pub unpacked : (ws : List ℕ) (m : ℕ) (xs : List L1dSet) (ys : List L2Set) �
       mode = m;
       mar128 = eqb (word ws 2 / 256 % 2) 1;
       mar129 = eqb (word ws 2 / 65536 % 2) 1;
+      frozen = eqb (word ws 2 / 16777216 % 2) 1;
       l1d = xs;
       l2 = ys;
     } ≡ recordIn ws
@@ -62,16 +64,16 @@ abbrev pub bitOf : Bool → ℕ
 bitOf b = cond b 1 0
 
 unfoldable pub withSizes : Record → ℕ → ℕ → Record
-withSizes r l e = record { l2len = l; extlen = e; mode = r .mode; mar128 = r .mar128; mar129 = r .mar129; l1d = r .l1d; l2 = r .l2 }
+withSizes r l e = record { l2len = l; extlen = e; mode = r .mode; mar128 = r .mar128; mar129 = r .mar129; frozen = r .frozen; l1d = r .l1d; l2 = r .l2 }
 
-unfoldable pub withModes : Record → ℕ → Bool → Bool → Record
-withModes r m a b = record { l2len = r .l2len; extlen = r .extlen; mode = m; mar128 = a; mar129 = b; l1d = r .l1d; l2 = r .l2 }
+unfoldable pub withModes : Record → ℕ → Bool → Bool → Bool → Record
+withModes r m a b f = record { l2len = r .l2len; extlen = r .extlen; mode = m; mar128 = a; mar129 = b; frozen = f; l1d = r .l1d; l2 = r .l2 }
 
 unfoldable pub withL1d : Record → List L1dSet → Record
-withL1d r vs = record { l2len = r .l2len; extlen = r .extlen; mode = r .mode; mar128 = r .mar128; mar129 = r .mar129; l1d = vs; l2 = r .l2 }
+withL1d r vs = record { l2len = r .l2len; extlen = r .extlen; mode = r .mode; mar128 = r .mar128; mar129 = r .mar129; frozen = r .frozen; l1d = vs; l2 = r .l2 }
 
 unfoldable pub withL2 : Record → List L2Set → Record
-withL2 r vs = record { l2len = r .l2len; extlen = r .extlen; mode = r .mode; mar128 = r .mar128; mar129 = r .mar129; l1d = r .l1d; l2 = vs }
+withL2 r vs = record { l2len = r .l2len; extlen = r .extlen; mode = r .mode; mar128 = r .mar128; mar129 = r .mar129; frozen = r .frozen; l1d = r .l1d; l2 = vs }
 
 -- and with another order of a set
 unfoldable pub l1dOrdered : Record → ℕ → Order2 → Record
@@ -81,22 +83,36 @@ unfoldable pub l2Ordered : Record → ℕ → Order4 → Record
 l2Ordered r j o = withL2Set r j (record { lines = l2SetAt r j .lines; order = o })
 
 -- ---- the head
-head-is : (m : ℕ) (a b : Bool) → m < 256 → (
-    (modeIn (m + bitOf a * 256 + bitOf b * 65536) ≡ m) ×
-    ((eqb ((m + bitOf a * 256 + bitOf b * 65536) / 256 % 2) 1 ≡ a) × (eqb ((m + bitOf a * 256 + bitOf b * 65536) / 65536 % 2) 1 ≡ b)))
+bit-is : (a : Bool) → eqb (bitOf a % 2) 1 ≡ a
+bit-is true = refl
+bit-is false = refl
+
+bit-less : (a : Bool) → bitOf a < 2
+bit-less true = omega arith
+bit-less false = omega arith
+
+-- the third word from its four bytes, and each of them out of it again
+abbrev headOf : ℕ → Bool → Bool → Bool → ℕ
+headOf m a b f = m + bitOf a * 256 + bitOf b * 65536 + bitOf f * 16777216
+
+head-is : (m : ℕ) (a b f : Bool) → m < 256 → (
+    (modeIn (headOf m a b f) ≡ m) × ((eqb (headOf m a b f / 256 % 2) 1 ≡ a) × (
+    (eqb (headOf m a b f / 65536 % 2) 1 ≡ b) × (eqb (headOf m a b f / 16777216 % 2) 1 ≡ f))))
 unfolding modeIn
-head-is m true true h =
-    let p : (m + 1 * 256 + 1 * 65536) % 256 ≡ m = omega arith in let q : (m + 1 * 256 + 1 * 65536) / 256 ≡ 257 = omega arith in
-    let r : (m + 1 * 256 + 1 * 65536) / 65536 ≡ 1 = omega arith in (rw (q, r) p, (rw q refl, rw r refl))
-head-is m true false h =
-    let p : (m + 1 * 256 + 0 * 65536) % 256 ≡ m = omega arith in let q : (m + 1 * 256 + 0 * 65536) / 256 ≡ 1 = omega arith in
-    let r : (m + 1 * 256 + 0 * 65536) / 65536 ≡ 0 = omega arith in (rw (q, r) p, (rw q refl, rw r refl))
-head-is m false true h =
-    let p : (m + 0 * 256 + 1 * 65536) % 256 ≡ m = omega arith in let q : (m + 0 * 256 + 1 * 65536) / 256 ≡ 256 = omega arith in
-    let r : (m + 0 * 256 + 1 * 65536) / 65536 ≡ 1 = omega arith in (rw (q, r) p, (rw q refl, rw r refl))
-head-is m false false h =
-    let p : (m + 0 * 256 + 0 * 65536) % 256 ≡ m = omega arith in let q : (m + 0 * 256 + 0 * 65536) / 256 ≡ 0 = omega arith in
-    let r : (m + 0 * 256 + 0 * 65536) / 65536 ≡ 0 = omega arith in (rw (q, r) p, (rw q refl, rw r refl))
+head-is m a b f h =
+    let x = bit-less a in let y = bit-less b in let z = bit-less f in
+    let p : headOf m a b f % 256 ≡ m = omega arith in
+    let q : headOf m a b f / 256 ≡ bitOf a + bitOf b * 256 + bitOf f * 65536 = omega arith in
+    let r : headOf m a b f / 65536 ≡ bitOf b + bitOf f * 256 = omega arith in
+    let s : headOf m a b f / 16777216 ≡ bitOf f = omega arith in
+    let q₁ : (bitOf a + bitOf b * 256 + bitOf f * 65536) % 256 ≡ bitOf a = omega arith in
+    let r₁ : (bitOf b + bitOf f * 256) % 256 ≡ bitOf b = omega arith in
+    let s₁ : bitOf f % 256 ≡ bitOf f = omega arith in
+    let q₂ : (bitOf a + bitOf b * 256 + bitOf f * 65536) % 2 ≡ bitOf a % 2 = omega arith in
+    let r₂ : (bitOf b + bitOf f * 256) % 2 ≡ bitOf b % 2 = omega arith in (
+      rw (q, r, s, q₁, r₁, s₁, lt-ltb (bitOf a) 2 x, lt-ltb (bitOf b) 2 y, lt-ltb (bitOf f) 2 z) p,
+      (rw (q, q₂) (bit-is a), (rw (r, r₂) (bit-is b), rw s (bit-is f))),
+    )
 
 pub sizes-put : (ws : List ℕ) (l e : ℕ) → length ws ≡ recordWords → recordIn (set (set ws 0 l) 1 e) ≡ withSizes (recordIn ws) l e
 unfolding withSizes recordIn
@@ -107,6 +123,7 @@ sizes-put ws l e n =
       mode = ap modeIn (other 2 (omega arith)) t;
       mar128 = ap (λ (q : ℕ). eqb (q / 256 % 2) 1) (other 2 (omega arith)) t;
       mar129 = ap (λ (q : ℕ). eqb (q / 65536 % 2) 1) (other 2 (omega arith)) t;
+      frozen = ap (λ (q : ℕ). eqb (q / 16777216 % 2) 1) (other 2 (omega arith)) t;
       l1d = listed-same (l1dIn vs) (l1dIn ws) 0 128 (λ j _. same-l1d ws vs j (λ q k _. other q (omega arith))) t;
       l2 = listed-same (l2In vs) (l2In ws) 0 512 (λ j _. same-l2 ws vs j (λ q k _. other q (omega arith))) t;
     }
@@ -123,28 +140,29 @@ sizes-put ws l e n =
     other : (q : ℕ) → 2 ≤ q → word vs q ≡ word ws q
     other q k = getD-set-other (set ws 0 l) 1 q e 0 (omega arith) ∙ getD-set-other ws 0 q l 0 (omega arith)
 
-pub modes-put : (ws : List ℕ) (m : ℕ) (a b : Bool) (x y : ℕ) → length ws ≡ recordWords → m < 256 → x ≡ bitOf a → y ≡ bitOf b →
-    recordIn (set ws 2 (m + x * 256 + y * 65536)) ≡ withModes (recordIn ws) m a b
+pub modes-put : (ws : List ℕ) (m : ℕ) (a b f : Bool) (x y k : ℕ) → length ws ≡ recordWords → m < 256 → x ≡ bitOf a → y ≡ bitOf b → k ≡ bitOf f →
+    recordIn (set ws 2 (m + x * 256 + y * 65536 + k * 16777216)) ≡ withModes (recordIn ws) m a b f
 unfolding withModes recordIn
-modes-put ws m a b x y n h ex ey =
-    rw (ex, ey) (λ t. record {
+modes-put ws m a b f x y k n h ex ey ek =
+    rw (ex, ey, ek) (λ t. record {
       l2len = other 0 (omega arith) t;
       extlen = other 1 (omega arith) t;
       mode = (ap modeIn p2 ∙ z .0) t;
       mar128 = (ap (λ (q : ℕ). eqb (q / 256 % 2) 1) p2 ∙ z .1 .0) t;
-      mar129 = (ap (λ (q : ℕ). eqb (q / 65536 % 2) 1) p2 ∙ z .1 .1) t;
+      mar129 = (ap (λ (q : ℕ). eqb (q / 65536 % 2) 1) p2 ∙ z .1 .1 .0) t;
+      frozen = (ap (λ (q : ℕ). eqb (q / 16777216 % 2) 1) p2 ∙ z .1 .1 .1) t;
       l1d = listed-same (l1dIn vs) (l1dIn ws) 0 128 (λ j _. same-l1d ws vs j (λ q k _. other q (omega arith))) t;
       l2 = listed-same (l2In vs) (l2In ws) 0 512 (λ j _. same-l2 ws vs j (λ q k _. other q (omega arith))) t;
     })
   where
     c : ℕ
-    c = m + bitOf a * 256 + bitOf b * 65536
+    c = m + bitOf a * 256 + bitOf b * 65536 + bitOf f * 16777216
 
     vs : List ℕ
     vs = set ws 2 c
 
     z : (modeIn c ≡ m) × ((eqb (c / 256 % 2) 1 ≡ a) × (eqb (c / 65536 % 2) 1 ≡ b))
-    z = head-is m a b h
+    z = head-is m a b f h
 
     p2 : word vs 2 ≡ c
     p2 = getD-set-same ws 2 c 0 (omega arith)
@@ -208,7 +226,7 @@ again-l1d r q i u f h e =
     ∙ ap (withL1d₀ r) (set-set (r .l1d) i u (f u))
   where
     withL1d₀ : Record → List L1dSet → Record
-    withL1d₀ r vs = record { l2len = r .l2len; extlen = r .extlen; mode = r .mode; mar128 = r .mar128; mar129 = r .mar129; l1d = vs; l2 = r .l2 }
+    withL1d₀ r vs = record { l2len = r .l2len; extlen = r .extlen; mode = r .mode; mar128 = r .mar128; mar129 = r .mar129; frozen = r .frozen; l1d = vs; l2 = r .l2 }
 
 again-l2 : (r q : Record) (j : ℕ) (u : L2Set) (f : L2Set → L2Set) → j < length (r .l2) → q ≡ withL2Set r j u →
     withL2Set q j (f (l2SetAt q j)) ≡ withL2Set r j (f u)
@@ -218,7 +236,7 @@ again-l2 r q j u f h e =
     ∙ ap (withL2₀ r) (set-set (r .l2) j u (f u))
   where
     withL2₀ : Record → List L2Set → Record
-    withL2₀ r vs = record { l2len = r .l2len; extlen = r .extlen; mode = r .mode; mar128 = r .mar128; mar129 = r .mar129; l1d = r .l1d; l2 = vs }
+    withL2₀ r vs = record { l2len = r .l2len; extlen = r .extlen; mode = r .mode; mar128 = r .mar128; mar129 = r .mar129; frozen = r .frozen; l1d = r .l1d; l2 = vs }
 
 set-two {ℓ} : {A : Type ℓ} (x y : A) (l : List A) → length l ≡ 2 → set (set l 0 x) 1 y ≡ x ∷ y ∷ []
 set-two x y [] e = absurd (omega arith)
@@ -308,28 +326,29 @@ module _ (r : Record) (xs : List L2Set) where
   l2-last j q e h g = e ∙ ap (withL2 r) (front-all xs (r .l2) j h g)
 
 -- ---- the record; everything fresh but L and E; the fresh one
-pub packed : (r0 r r1 r2 r3 r4 : Record) → r1 ≡ withSizes r0 (r .l2len) (r .extlen) → r2 ≡ withModes r1 (r .mode) (r .mar128) (r .mar129) →
+pub packed : (r0 r r1 r2 r3 r4 : Record) → r1 ≡ withSizes r0 (r .l2len) (r .extlen) → r2 ≡ withModes r1 (r .mode) (r .mar128) (r .mar129) (r .frozen) →
     r3 ≡ withL1d r2 (r .l1d) → r4 ≡ withL2 r3 (r .l2) → r4 ≡ r
 unfolding withSizes withModes withL1d withL2
 packed r0 r r1 r2 r3 r4 e1 e2 e3 e4 = rw (e4, e3, e2, e1) refl
 
-unfoldable pub renewed : Record → ℕ → Bool → Bool → Record
-renewed r m a b =
+unfoldable pub renewed : Record → ℕ → Bool → Bool → Bool → Record
+renewed r m a b f =
     record {
       l2len = r .l2len;
       extlen = r .extlen;
       mode = m;
       mar128 = a;
       mar129 = b;
+      frozen = f;
       l1d = replicate 128 freshL1dSet;
       l2 = replicate 512 freshL2Set;
     }
 
-pub made-new : (r0 r1 r2 r3 : Record) (m : ℕ) (a b : Bool) → r1 ≡ withModes r0 m a b → r2 ≡ withL1d r1 (replicate 128 freshL1dSet) →
-    r3 ≡ withL2 r2 (replicate 512 freshL2Set) → r3 ≡ renewed r0 m a b
+pub made-new : (r0 r1 r2 r3 : Record) (m : ℕ) (a b f : Bool) → r1 ≡ withModes r0 m a b f → r2 ≡ withL1d r1 (replicate 128 freshL1dSet) →
+    r3 ≡ withL2 r2 (replicate 512 freshL2Set) → r3 ≡ renewed r0 m a b f
 unfolding withModes withL1d withL2 renewed
-made-new r0 r1 r2 r3 m a b e1 e2 e3 = rw (e3, e2, e1) refl
+made-new r0 r1 r2 r3 m a b f e1 e2 e3 = rw (e3, e2, e1) refl
 
-pub fresh-packed : (r0 r1 r2 : Record) (l e : ℕ) → r1 ≡ withSizes r0 l e → r2 ≡ renewed r1 0 false false → r2 ≡ freshRecord l e
+pub fresh-packed : (r0 r1 r2 : Record) (l e : ℕ) → r1 ≡ withSizes r0 l e → r2 ≡ renewed r1 0 false false false → r2 ≡ freshRecord l e
 unfolding withSizes renewed freshRecord
 fresh-packed r0 r1 r2 l e e1 e2 = rw (e2, e1) refl

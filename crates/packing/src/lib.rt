@@ -88,6 +88,7 @@ pub fn unpack(tags: &[u32]) -> Record
         mode: mode,
         mar128: m / 256 % 2 == 1,
         mar129: m / 65536 % 2 == 1,
+        frozen: m / 16777216 % 2 == 1,
         l1d: l1d,
         l2: l2,
     }
@@ -109,12 +110,12 @@ fn put_sizes(tags: &mut [u32], l2len: u32, extlen: u32)
     tags[1] = extlen;
 }
 
-// The mode and the MAR bits, a byte each.
-pub fn put_modes(tags: &mut [u32], mode: u8, mar128: bool, mar129: bool)
+// The mode, the MAR bits and the freeze, a byte each.
+pub fn put_modes(tags: &mut [u32], mode: u8, mar128: bool, mar129: bool, frozen: bool)
     requires { ⌜ length (now tags) ≡ recordWords ⌝ }
-    ensures { λ _. ⌜ recordIn (now (tags .exit)) ≡ withModes (recordIn (now (tags .entry))) mode mar128 mar129 ⌝ }
+    ensures { λ _. ⌜ recordIn (now (tags .exit)) ≡ withModes (recordIn (now (tags .entry))) mode mar128 mar129 frozen ⌝ }
 {
-    tags[2] = mode as u32 + bit(mar128) * 256 + bit(mar129) * 65536;
+    tags[2] = mode as u32 + bit(mar128) * 256 + bit(mar129) * 65536 + bit(frozen) * 16777216;
 }
 
 fn put_l1d_order(tags: &mut [u32], i: usize, o: Order2)
@@ -176,7 +177,7 @@ pub fn pack(r: Record, tags: &mut [u32])
     let l1d = r.l1d;
     let l2 = r.l2;
     put_sizes(tags, r.l2len, r.extlen);
-    put_modes(tags, r.mode, r.mar128, r.mar129);
+    put_modes(tags, r.mode, r.mar128, r.mar129, r.frozen);
     put_l1d(tags, l1d);
     put_l2(tags, l2);
 }
@@ -228,12 +229,12 @@ fn fresh_l2(tags: &mut [u32])
     }
 }
 
-// Everything fresh but L and E, with another mode and other MAR bits.
-pub fn renew(tags: &mut [u32], mode: u8, mar128: bool, mar129: bool)
+// Everything fresh but L and E, with another mode, other MAR bits and another freeze.
+pub fn renew(tags: &mut [u32], mode: u8, mar128: bool, mar129: bool, frozen: bool)
     requires { ⌜ length (now tags) ≡ recordWords ⌝ }
-    ensures { λ _. ⌜ recordIn (now (tags .exit)) ≡ renewed (recordIn (now (tags .entry))) mode mar128 mar129 ⌝ }
+    ensures { λ _. ⌜ recordIn (now (tags .exit)) ≡ renewed (recordIn (now (tags .entry))) mode mar128 mar129 frozen ⌝ }
 {
-    put_modes(tags, mode, mar128, mar129);
+    put_modes(tags, mode, mar128, mar129, frozen);
     fresh_l1d(tags);
     fresh_l2(tags);
 }
@@ -244,5 +245,5 @@ pub fn write_fresh(tags: &mut [u32], l2len: u32, extlen: u32)
     ensures { λ _. ⌜ recordIn (now (tags .exit)) ≡ freshRecord l2len extlen ⌝ }
 {
     put_sizes(tags, l2len, extlen);
-    renew(tags, 0, false, false);
+    renew(tags, 0, false, false, false);
 }

@@ -13,7 +13,7 @@ use Rattle.model.specs.Records.{state, legalSizes, wellFormed, l1dSetOk, l2SetO
 use Rattle.model.specs.Refusals.{lowestDue, unless, lentL1d, lentL2, lentExternal, lentDue}
 use Rattle.model.specs.Laws.{bool, both-true}
 use Rattle.record_check.specs.Idle.{sizes-legal}
-use Rattle.tags.specs.Words.{word, l1dIn, l2In, recordIn, marBitsIn, l2len-in, extlen-in, mode-good, mode-bad}
+use Rattle.tags.specs.Words.{word, l1dIn, l2In, recordIn, bitsIn, l2len-in, extlen-in, mode-good, mode-bad}
 use Rattle.lists.specs.Listed.{listed}
 use Rattle.record_check.specs.Lent.{allFrom, l1dOkIn, l2OkIn}
 
@@ -67,9 +67,9 @@ module _ (ws : List ℕ) where
   well-in = λ t. legalSizes (recordIn ws) && (l1d-listed t && l2-listed t)
 
   -- S and the number of L2 sets, from the words; b: the rest of the head's test
-  module _ (b : Bool) (t : (marBitsIn (word ws 2) && b) ≡ true) where
+  module _ (b : Bool) (t : (bitsIn (word ws 2) && b) ≡ true) where
     mode-is : word ws 2 % 256 ≡ recordIn ws .mode
-    mode-is = mode-good ws (both-true (marBitsIn (word ws 2)) b t .0)
+    mode-is = mode-good ws (both-true (bitsIn (word ws 2)) b t .0)
 
     pub sram-is : (s k : ℕ) → s ≡ k → k ≡ sramLength (word ws 0) (word ws 2 % 256) → s ≡ sramOf (recordIn ws)
     sram-is s k es ek = es ∙ ek ∙ (λ i. sramLength (l2len-in ws i) (mode-is i))
@@ -89,13 +89,13 @@ module _ (ws : List ℕ) where
     head-joined : head ≡ legalSizes (recordIn ws)
     unfolding legalSizes isMode
     head-joined =
-        bool (marBitsIn (word ws 2))
+        bool (bitsIn (word ws 2))
         (λ t. ap (λ (b : Bool). b && ((l && e) && (m && leb c (word ws 0)))) t
         ∙ ap (λ (n : ℕ). (l && e) && (m && leb c n)) (l2len-in ws)
         ∙ sizes-legal (recordIn ws) l e m c (el ∙ ap legalL2 (l2len-in ws)) (ee ∙ ap legalExternal (extlen-in ws)) (em ∙ ap isMode (mode-good ws t)) (ec ∙ ap cacheSize (mode-good ws t)))
         (λ t. ap (λ (b : Bool). b && ((l && e) && (m && leb c (word ws 0)))) t ∙ sym (no-mode t))
       where
-        no-mode : marBitsIn (word ws 2) ≡ false → legalSizes (recordIn ws) ≡ false
+        no-mode : bitsIn (word ws 2) ≡ false → legalSizes (recordIn ws) ≡ false
         no-mode t = rw (sym (mode-bad ws t), and-false, and-false) refl
 
     pub well-head : head ≡ false → false ≡ wellFormed (recordIn ws)

@@ -15,7 +15,7 @@ use Rattle.model.specs.Lines.{l1dSetOf, l1dData, upperHalf, l2Line}
 use Rattle.model.specs.Records.{State, sramOf, l2SetsOf, l1dSetAt, l1dLineAt, l2LineAt, withL1dLine, withL2Line}
 use Rattle.model.specs.Ways.{l1dVictim, l1dWay, inL1d, inL2, useL1d, useL2, emptyL1d, emptyL2}
 use Rattle.model.specs.Homes.{homeIsL2, putMemory, putL2, putHome, l2WayFor, takeHalf, takeHalves, writeOutL2, writebackL2, evictL2, fillL2, bringL2, fetchL2}
-use Rattle.model.specs.Access.{Access, cacheable, writebackL1d, evictL1d, fillL1d, putL1d, writeHome, readHit, readFilled, readEmptied, readMiss, readAccess, writeHit, writeMiss, writeAccess}
+use Rattle.model.specs.Access.{Access, cacheable, writebackL1d, evictL1d, fillL1d, putL1d, writeHome, useHit, readHit, readFilled, readEmptied, readThawed, readFrozen, readMiss, readAccess, writeHit, writeMiss, writeAccess}
 use Rattle.model.specs.Calls.{Reply, commandDue, readDone, writeDone, accepted, step}
 use Rattle.model.specs.declared.Command.{Command}
 use Rattle.model.specs.declared.Record.{Record}
@@ -73,6 +73,10 @@ same-empty-l2 t v z = (refl, refl)
 pub same-use-l1d : (s w : ℕ) (z : State) → Same (useL1d s w z) z
 unfolding useL1d
 same-use-l1d s w z = (refl, refl)
+
+pub same-use-hit : (s w : ℕ) (z : State) → Same (useHit s w z) z
+unfolding useHit
+same-use-hit s w z = cond-elim (λ (y : State). Same y z) (z .rec .frozen) _ _ (λ _. (refl, refl)) (λ _. same-use-l1d s w z)
 
 pub same-use-l2 : (t v : ℕ) (z : State) → Same (useL2 t v z) z
 unfolding useL2
@@ -169,18 +173,23 @@ same-write-home v a bs z =
     cond-elim (λ (y : State). Same y z) (homeIsL2 (z .rec) a) _ _ (λ _. same-put-l2 _ v a bs z) (λ _. same-put-memory a bs z)
 
 -- ---- an access, whole
-pub same-read-miss : (n a : ℕ) (z : State) → Same (readMiss n a z .next) z
-unfolding readMiss readEmptied readFilled
-same-read-miss n a z =
+pub same-read-thawed : (n a : ℕ) (z : State) → Same (readThawed n a z .next) z
+unfolding readThawed readEmptied readFilled
+same-read-thawed n a z =
     let s = l1dSetOf a in let w = l1dVictim (l1dSetAt (z .rec) s) in let y = evictL1d s w z in let v = l2WayFor y a in let x = fetchL2 a y in let u = fillL1d w v a x in
     same-trans (useL1d s w u) u z (same-use-l1d s w u)
     (same-trans u x z (same-fill-l1d w v a x) (same-trans x y z (same-fetch-l2 a y) (same-evict-l1d s w z)))
+
+pub same-read-miss : (n a : ℕ) (z : State) → Same (readMiss n a z .next) z
+unfolding readMiss readFrozen
+same-read-miss n a z =
+    cond-elim (λ (x : Access). Same (x .next) z) (z .rec .frozen) _ _ (λ _. same-fetch-l2 a z) (λ _. same-read-thawed n a z)
 
 pub same-read : (n a : ℕ) (z : State) → Same (readAccess n a z .next) z
 unfolding readAccess readHit
 same-read n a z =
     cond-elim (λ (x : Access). Same (x .next) z) (cacheable (z .rec) a) _ _
-    (λ _. cond-elim (λ (x : Access). Same (x .next) z) (inL1d z a) _ _ (λ _. same-use-l1d (l1dSetOf a) (l1dWay z a) z) (λ _. same-read-miss n a z))
+    (λ _. cond-elim (λ (x : Access). Same (x .next) z) (inL1d z a) _ _ (λ _. same-use-hit (l1dSetOf a) (l1dWay z a) z) (λ _. same-read-miss n a z))
     (λ _. (refl, refl))
 
 pub same-write : (a : ℕ) (bs : List ℕ) (z : State) → Same (writeAccess a bs z .next) z
@@ -189,7 +198,7 @@ same-write a bs z =
     cond-elim (λ (x : Access). Same (x .next) z) (cacheable (z .rec) a) _ _
     (λ _. cond-elim (λ (x : Access). Same (x .next) z) (inL1d z a) _ _
     (λ _. let y = putL1d (l1dWay z a) a bs z in
-    same-trans (useL1d (l1dSetOf a) (l1dWay z a) y) y z (same-use-l1d (l1dSetOf a) (l1dWay z a) y) (same-put-l1d (l1dWay z a) a bs z))
+    same-trans (useHit (l1dSetOf a) (l1dWay z a) y) y z (same-use-hit (l1dSetOf a) (l1dWay z a) y) (same-put-l1d (l1dWay z a) a bs z))
     (λ _. same-trans (writeHome (l2WayFor z a) a bs (fetchL2 a z)) (fetchL2 a z) z (same-write-home (l2WayFor z a) a bs (fetchL2 a z)) (same-fetch-l2 a z)))
     (λ _. same-put-memory a bs z)
 

@@ -1,4 +1,4 @@
--- The record that lent words stand for: L, E, then mode and MAR bits in one word; five words for a set of L1D, nine
+-- The record that lent words stand for: L, E, then mode, MAR bits and freeze in one word; five words for a set of L1D, nine
 -- for a set of L2. Every law about single words ends here: what stands above speaks of `recordIn` and the definitions
 -- of crate model alone.
 use Prim.Native.Nat.{ℕ, zero, suc, _+_, _*_, _/_, _%_, _≤_, _<_}
@@ -56,13 +56,13 @@ l2In ws j =
       order = order4In (word ws (j * 9 + 651));
     }
 
--- The mode, in the word that has the MAR bits too. Where a byte of a MAR bit is no bool it is read as 4, which is no
--- mode: no well-formed record has it.
-abbrev pub marBitsIn : ℕ → Bool
-marBitsIn m = ltb (m / 256 % 256) 2 && ltb (m / 65536 % 256) 2
+-- The mode, in the word that has the MAR bits and the freeze too. Where a byte of these is no bool it is read as 4,
+-- which is no mode: no well-formed record has it.
+abbrev pub bitsIn : ℕ → Bool
+bitsIn m = ltb (m / 256 % 256) 2 && (ltb (m / 65536 % 256) 2 && ltb (m / 16777216 % 256) 2)
 
 unfoldable pub modeIn : ℕ → ℕ
-modeIn m = cond (marBitsIn m) (m % 256) 4
+modeIn m = cond (bitsIn m) (m % 256) 4
 
 unfoldable pub recordIn : List ℕ → Record
 recordIn ws =
@@ -72,6 +72,7 @@ recordIn ws =
       mode = modeIn (word ws 2);
       mar128 = eqb (word ws 2 / 256 % 2) 1;
       mar129 = eqb (word ws 2 / 65536 % 2) 1;
+      frozen = eqb (word ws 2 / 16777216 % 2) 1;
       l1d = listed (l1dIn ws) 0 128;
       l2 = listed (l2In ws) 0 512;
     }
@@ -130,6 +131,7 @@ one-l1d ws vs i h o =
       mode = modeIn (c t);
       mar128 = eqb (c t / 256 % 2) 1;
       mar129 = eqb (c t / 65536 % 2) 1;
+      frozen = eqb (c t / 16777216 % 2) 1;
       l1d = d t;
       l2 = e t;
     }
@@ -153,6 +155,7 @@ one-l2 ws vs i h o =
       mode = modeIn (c t);
       mar128 = eqb (c t / 256 % 2) 1;
       mar129 = eqb (c t / 65536 % 2) 1;
+      frozen = eqb (c t / 16777216 % 2) 1;
       l1d = e t;
       l2 = d t;
     }
@@ -390,11 +393,11 @@ pub extlen-in : (ws : List ℕ) → word ws 1 ≡ recordIn ws .extlen
 unfolding recordIn
 extlen-in ws = refl
 
-pub mode-good : (ws : List ℕ) → marBitsIn (word ws 2) ≡ true → word ws 2 % 256 ≡ recordIn ws .mode
+pub mode-good : (ws : List ℕ) → bitsIn (word ws 2) ≡ true → word ws 2 % 256 ≡ recordIn ws .mode
 unfolding recordIn modeIn
 mode-good ws e = rw e refl
 
-pub mode-bad : (ws : List ℕ) → marBitsIn (word ws 2) ≡ false → 4 ≡ recordIn ws .mode
+pub mode-bad : (ws : List ℕ) → bitsIn (word ws 2) ≡ false → 4 ≡ recordIn ws .mode
 unfolding recordIn modeIn
 mode-bad ws e = rw e refl
 
@@ -409,3 +412,7 @@ mar128-in ws = refl
 pub mar129-in : (ws : List ℕ) → eqb (word ws 2 / 65536 % 2) 1 ≡ recordIn ws .mar129
 unfolding recordIn
 mar129-in ws = refl
+
+pub frozen-in : (ws : List ℕ) → eqb (word ws 2 / 16777216 % 2) 1 ≡ recordIn ws .frozen
+unfolding recordIn
+frozen-in ws = refl

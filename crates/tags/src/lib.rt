@@ -1,4 +1,4 @@
-// The record in words that can be lent, as C lays it out: L, E, mode and MAR bits; five words for a set of L1D (mark
+// The record in words that can be lent, as C lays it out: L, E, mode, MAR bits and freeze; five words for a set of L1D (mark
 // and address of two lines, the order), nine for a set of L2. A mark is 0, or 1 for a clean and 257 for a dirty line:
 // the bytes valid and dirty. Each function says what it does to the record that the words stand for.
 ghost use mathlib.Core.Path.{_≡_};
@@ -15,7 +15,7 @@ use model::Order2;
 use model::Order4;
 
 // ---- where the words of a line and of an order stand
-// L; E; the mode and the two MAR bits, a byte each.
+// L; E; the mode, the two MAR bits and the freeze, a byte each.
 pub const HEAD: usize = 3;
 
 // A line has two words, its mark and its address; a set has its lines and a word for the order.
@@ -222,7 +222,7 @@ pub fn l2_use(tags: &mut [u32], j: usize, v: usize)
     tags[p] = order4_word(n);
 }
 
-// ---- L, E, the mode and the MAR bits
+// ---- L, E, the mode, the MAR bits and the freeze
 pub fn l2len_of(tags: &[u32]) -> u32
     requires { ⌜ length (now tags) ≡ recordWords ⌝ }
     ensures { λ r. ⌜ r ≡ recordIn (now (tags .entry)) .l2len ⌝ }
@@ -242,7 +242,7 @@ pub fn mode_of(tags: &[u32]) -> u8
     ensures { λ r. ⌜ r ≡ recordIn (now (tags .entry)) .mode ⌝ }
 {
     let m = tags[2];
-    if (m / 256 % 256 < 2) & (m / 65536 % 256 < 2) {
+    if (m / 256 % 256 < 2) & ((m / 65536 % 256 < 2) & (m / 16777216 % 256 < 2)) {
         return (m % 256) as u8;
     }
     4
@@ -260,4 +260,11 @@ pub fn mar129_of(tags: &[u32]) -> bool
     ensures { λ r. ⌜ r ≡ recordIn (now (tags .entry)) .mar129 ⌝ }
 {
     tags[2] / 65536 % 2 == 1
+}
+
+pub fn frozen_of(tags: &[u32]) -> bool
+    requires { ⌜ length (now tags) ≡ recordWords ⌝ }
+    ensures { λ r. ⌜ r ≡ recordIn (now (tags .entry)) .frozen ⌝ }
+{
+    tags[2] / 16777216 % 2 == 1
 }

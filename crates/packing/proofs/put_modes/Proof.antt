@@ -23,6 +23,15 @@ mul-tags-2 c = search needs
 add-tags-2 : tie.Need-add-tags-2
 add-tags-2 c = search needs
 
+bit-requires-3 : tie.Need-bit-requires-3
+bit-requires-3 c κs = search needs
+
+mul-tags-3 : tie.Need-mul-tags-3
+mul-tags-3 c = search needs
+
+add-tags-3 : tie.Need-add-tags-3
+add-tags-3 c = search needs
+
 slice-write-tags : tie.Need-slice-write-tags
 slice-write-tags c = search needs
 
@@ -31,9 +40,10 @@ same-length c = search needs
 
 returns : tie.Need-returns
 returns c =
-    let p-start = c .before .before .before in
+    let p-start = c .before .before .before .before in
     let a = p-start .args in
-    modes-put (a .tags .now) (a .mode) (a .mar128) (a .mar129) (c .before .bit .result) (c .bit2 .result) (p-start .pre) (omega arith) (c .before .bit .ensures .0) (c .bit2 .ensures .0)
+    modes-put (a .tags .now) (a .mode) (a .mar128) (a .mar129) (a .frozen) (c .before .before .bit .result) (c .before .bit2 .result) (c .bit3 .result)
+    (p-start .pre) (omega arith) (c .before .before .bit .ensures .0) (c .before .bit2 .ensures .0) (c .bit3 .ensures .0)
 
 pub put-modes-spec : {M : Type 1} → statement M
 put-modes-spec =
@@ -45,6 +55,9 @@ put-modes-spec =
     bit-requires-2
     mul-tags-2
     add-tags-2
+    bit-requires-3
+    mul-tags-3
+    add-tags-3
     slice-write-tags
     same-length
     returns)

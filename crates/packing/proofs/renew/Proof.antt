@@ -24,7 +24,7 @@ returns c =
     let p-start = p-put-modes .before .before .before in
     let a = p-start .args in
     made-new (recordIn (a .tags .now)) (recordIn ((p-put-modes .put-modes) .last .0)) (recordIn ((p-fresh-l1d .fresh-l1d) .last .0)) (recordIn ((c .before .before .fresh-l2) .last .0))
-    (a .mode) (a .mar128) (a .mar129) ((p-put-modes .put-modes) .ensures) ((p-fresh-l1d .fresh-l1d) .ensures) ((c .before .before .fresh-l2) .ensures)
+    (a .mode) (a .mar128) (a .mar129) (a .frozen) ((p-put-modes .put-modes) .ensures) ((p-fresh-l1d .fresh-l1d) .ensures) ((c .before .before .fresh-l2) .ensures)
 
 pub renew-spec : {M : Type 1} → statement M
 renew-spec =
