@@ -1,9 +1,9 @@
-// Mode and MAR changes on lent words.
+// Mode and MAR changes and the freeze on lent words.
 ghost use mathlib.Core.Path.{_≡_};
 ghost use mathlib.Core.List.{List};
 ghost use Prim.Native.Nat.{ℕ, _≤_};
 ghost use lib.ListN.{length};
-ghost use Rattle.model.specs.Modes.{smaller, changeMode, changeMar};
+ghost use Rattle.model.specs.Modes.{smaller, changeMode, changeMar, changeFreeze};
 ghost use Rattle.tags.specs.Words.{recordWords, stateIn};
 ghost use Rattle.tags.specs.Sizes.{Lent};
 use geometry::L2;
@@ -41,7 +41,8 @@ pub fn change_mode(
     memory::clear_from(l2, keep);
     let x = tags::mar128_of(tags);
     let y = tags::mar129_of(tags);
-    packing::renew(tags, mode, x, y);
+    let frozen = tags::frozen_of(tags);
+    packing::renew(tags, mode, x, y, frozen);
 }
 
 // n: 128 or 129 (else nothing changes), bit: 0 or 1. No byte is touched, whatever the memories are.
@@ -53,12 +54,25 @@ pub fn change_mar(tags: &mut [u32], n: u32, bit: u32)
     let mode = tags::mode_of(tags);
     let x = tags::mar128_of(tags);
     let y = tags::mar129_of(tags);
+    let frozen = tags::frozen_of(tags);
     if n == MAR_128 {
-        packing::put_modes(tags, mode, bit == 1, y);
+        packing::put_modes(tags, mode, bit == 1, y, frozen);
         return;
     }
     if n == MAR_129 {
-        packing::put_modes(tags, mode, x, bit == 1);
+        packing::put_modes(tags, mode, x, bit == 1, frozen);
         return;
     }
+}
+
+// 1 freezes L1D, 0 thaws it; mode and MAR bits stay. No byte is touched.
+pub fn change_freeze(tags: &mut [u32], bit: u32)
+    requires { ⌜ length (now tags) ≡ recordWords ⌝ }
+    ensures { λ _. ⌜ ((d m e : List ℕ) → stateIn (now (tags .exit)) d m e
+        ≡ changeFreeze bit (stateIn (now (tags .entry)) d m e)) ⌝ }
+{
+    let mode = tags::mode_of(tags);
+    let x = tags::mar128_of(tags);
+    let y = tags::mar129_of(tags);
+    packing::put_modes(tags, mode, x, y, bit == 1);
 }

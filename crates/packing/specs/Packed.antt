@@ -156,12 +156,12 @@ modes-put ws m a b f x y k n h ex ey ek =
     })
   where
     c : ℕ
-    c = m + bitOf a * 256 + bitOf b * 65536 + bitOf f * 16777216
+    c = headOf m a b f
 
     vs : List ℕ
     vs = set ws 2 c
 
-    z : (modeIn c ≡ m) × ((eqb (c / 256 % 2) 1 ≡ a) × (eqb (c / 65536 % 2) 1 ≡ b))
+    z : (modeIn c ≡ m) × ((eqb (c / 256 % 2) 1 ≡ a) × ((eqb (c / 65536 % 2) 1 ≡ b) × (eqb (c / 16777216 % 2) 1 ≡ f)))
     z = head-is m a b f h
 
     p2 : word vs 2 ≡ c

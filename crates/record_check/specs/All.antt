@@ -84,7 +84,7 @@ module _ (ws : List ℕ) where
   module _ (l e m : Bool) (c : ℕ) (el : l ≡ legalL2 (word ws 0)) (ee : e ≡ legalExternal (word ws 1)) (em : m ≡ isMode (word ws 2 % 256))
       (ec : c ≡ cacheSize (word ws 2 % 256)) where
     abbrev head : Bool
-    head = (ltb (word ws 2 / 256 % 256) 2 && ltb (word ws 2 / 65536 % 256) 2) && ((l && e) && (m && leb c (word ws 0)))
+    head = bitsIn (word ws 2) && ((l && e) && (m && leb c (word ws 0)))
 
     head-joined : head ≡ legalSizes (recordIn ws)
     unfolding legalSizes isMode

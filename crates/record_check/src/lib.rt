@@ -139,7 +139,7 @@ pub fn well_formed(tags: &[u32]) -> bool
     let m = tags[2];
     let mode = m % 256;
     let cache = geometry::cache_size(mode);
-    let bits = (m / 256 % 256 < 2) & (m / 65536 % 256 < 2);
+    let bits = (m / 256 % 256 < 2) & ((m / 65536 % 256 < 2) & (m / 16777216 % 256 < 2));
     let legal = geometry::legal_l2(way_check::wide(l2len))
         & geometry::legal_external(way_check::wide(tags[1]));
     let fits = geometry::is_mode(mode) & (cache <= l2len);
