@@ -33,7 +33,7 @@ use Rattle.agreement.proofs.ReadWrite.{Step}
 use Rattle.agreement.proofs.Sweeps.{AllOut, l2WritebackAll-good, l2WritebackInvalidateAll-good, flush-good}
 use Rattle.agreement.proofs.Changes.{zero-length, zero-below, zero-above, smaller-bound, fresh-good, newMode-good}
 use Rattle.agreement.proofs.Due.{access-tells, accepted-read, accepted-write, mode-tells}
-use Rattle.agreement.proofs.Steps.{codes, Quiet, quiet-step, quiet-2, quiet-3, quiet-4, quiet-5, quiet-7, quiet-11}
+use Rattle.agreement.proofs.Steps.{codes, Quiet, quiet-step, quiet-2, quiet-3, quiet-4, quiet-5, quiet-7, quiet-11, quiet-12}
 use Rattle.agreement.proofs.Tested.{legalL2-tells, legalExternal-tells, call-step}
 use Rattle.agreement.proofs.Flushes.{sweptL1d, change-swept}
 
@@ -186,8 +186,8 @@ module _ (z : State) (f : Flat) (m : Matches z f) (a b v : ℕ) where
         matches = matches-quiet z f m (step (command k a b v) z .next) q;
       })
 
-listed-below : (k : ℕ) → 12 ≤ k → listedCode k ≡ false
-listed-below k h = rw (lt-leb k 5 (omega arith), ne-eqb k 7 (omega arith), ne-eqb k 10 (omega arith), ne-eqb k 11 (omega arith)) refl
+listed-below : (k : ℕ) → 13 ≤ k → listedCode k ≡ false
+listed-below k h = rw (lt-leb k 5 (omega arith), ne-eqb k 7 (omega arith), ne-eqb k 10 (omega arith), ne-eqb k 11 (omega arith), ne-eqb k 12 (omega arith)) refl
 
 pub step-answered : (c : Command) (z : State) (f : Flat) → Matches z f → listedCode (c .code) ≡ true →
     Answered c (step c z) (flatStep c f)
@@ -207,6 +207,7 @@ step-answered c z f m =
     (λ y. false-true y)
     (λ _. mode-answered z f m a b v)
     (λ _. quiet-answered z f m a b v 11 refl refl (quiet-11 z (Is f) (m .good) a b v))
+    (λ _. quiet-answered z f m a b v 12 refl refl (quiet-12 z (Is f) (m .good) a b v))
     (λ k h y. false-true (sym (listed-below k h) ∙ y))
     (c .code)
 
@@ -256,7 +257,7 @@ global-settles c z f m =
     (λ _. settles z (l2WritebackAll z) f m (l2WritebackAll-good z (Is f) (m .good)))
     (λ _. settles z (l2WritebackInvalidateAll z) f m (l2WritebackInvalidateAll-good z (Is f) (m .good)))
     (not-global 4 refl) (not-global 5 refl) (not-global 6 refl) (not-global 7 refl) (not-global 8 refl) (not-global 9 refl) (not-global 10 refl)
-    (not-global 11 refl)
+    (not-global 11 refl) (not-global 12 refl)
     (λ k h. not-global k (rw (ne-eqb k 2 (omega arith), ne-eqb k 3 (omega arith)) refl))
     (c .code)
 

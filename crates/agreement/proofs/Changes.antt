@@ -1,4 +1,5 @@
--- A change of the mode, a change of a MAR bit, and the fresh start. Shown: each leaves (or makes) a good state.
+-- A change of the mode, a change of a MAR bit, the freeze, and the fresh start. Shown: each leaves (or makes) a good
+-- state.
 -- Why: with every set fresh no line holds anything, so only the memories count (`fresh-good`). Before a mode change
 -- nothing is valid in L1D and nothing dirty in L2, so the memories are right; SRAM keeps its bytes below the smaller
 -- of old and new S and is zero from there on, as flat memory's. A MAR bit becomes 0 only where no line of its 16 MiB
@@ -19,7 +20,7 @@ use Rattle.model.specs.Bytes.{zeroFrom}
 use Rattle.model.specs.Memories.{externalBase, cacheSize, isMode, sramLength}
 use Rattle.model.specs.Lines.{emptyLine, Permutation2, Permutation4}
 use Rattle.model.specs.Records.{State, sramOf, covers, marBit, noL2Set, l1dLineAt, l2LineAt, freshL1dSet, freshL2Set}
-use Rattle.model.specs.Modes.{smaller, newMode, changeMar}
+use Rattle.model.specs.Modes.{smaller, newMode, changeMar, changeFreeze}
 use Rattle.model.specs.Refusals.{inRange, holdsRange}
 use Rattle.model.specs.Laws.{bool, false-true}
 use Rattle.model.specs.declared.Line.{Line}
@@ -247,3 +248,10 @@ module _ (z : State) (F : Allowed) (q : Good z F) (n b : ℕ) (allowed : (b ≡ 
           };
         };
       }
+
+-- ---- the freeze: lines, sizes and MAR bits are what they were
+pub changeFreeze-good : (z : State) (F : Allowed) → Good z F → (b : ℕ) → Good (changeFreeze b z) F
+unfolding changeFreeze marBit
+changeFreeze-good z F q b =
+    let h = q .tidy in
+    record { tidy = record { sizes = h .sizes; l1d = h .l1d; l2 = h .l2; idle = h .idle }; inv = q .inv }

@@ -18,7 +18,7 @@ use Rattle.model.specs.Memories.{externalBase}
 use Rattle.model.specs.Lines.{l1dSetOf, l1dData, l1dLine, l2Line, lineOf}
 use Rattle.model.specs.Records.{State, l2SetsOf, l2SetOf, l2Data, covers, marBit, l2SetAt, l1dLineAt, l2LineAt, withL1dLine}
 use Rattle.model.specs.Ways.{l2Victim, l2Way, inL2, useL2}
-use Rattle.model.specs.Access.{cacheable, homeLine, fillL1d}
+use Rattle.model.specs.Access.{cacheable, homePart, homeLine, fillL1d}
 use Rattle.model.specs.Homes.{homeIsL2, memoryPart, evictL2, fillL2, l2WayFor, fetchL2}
 use Rattle.model.specs.Laws.{bool, false-true, cond-elim, length-stored, length-part, part-at}
 use Rattle.model.specs.declared.Line.{Line}
@@ -168,40 +168,40 @@ module _ (z : State) (F : Allowed) (q : Good z F) (a n : ℕ) (f : AccessFits (l
       fetched-hit (λ y. fetched-miss d (l2-miss z F q a y)))
       (λ d. record { good = q; kept = kept-refl z; fewer = λ _ _ _. refl; has = λ d′. false-true (sym d ∙ d′) })
 
--- ---- the 64 bytes of the home of a's line
-pub record HomeRead (F : Allowed) (b : ℕ) (bs : List ℕ) : Type 0 where
-  pub long : length bs ≡ 64
-  pub right : (i : ℕ) → i < 64 → F .right (b + i) (getD bs i 0)
+-- ---- n bytes of the home at b, which lie in a's L1D line
+pub record HomeRead (F : Allowed) (b n : ℕ) (bs : List ℕ) : Type 0 where
+  pub long : length bs ≡ n
+  pub right : (i : ℕ) → i < n → F .right (b + i) (getD bs i 0)
 
-pub homeLine-good : (z : State) (F : Allowed) → Good z F → (v a : ℕ) → AccessFits (layoutOf (z .rec)) (l1dLine a) 64 → Free 64 (l1dLevel z) a →
-    (homeIsL2 (z .rec) a ≡ true → Hit (l2Level z) 4 (l2SetOf (z .rec) a) v (l2Line a)) → HomeRead F (l1dLine a) (homeLine v a z)
-unfolding homeLine memoryPart
-homeLine-good z F q v a f fr has =
-    let n = q .tidy .sizes .l2Length in let n′ = q .tidy .sizes .extLength in let mx = q .tidy .sizes .l2Most in
-    let b = l1dLine a in let t = l2SetOf (z .rec) a in
-    let calm : (i : ℕ) → i < 64 → NoDirty 64 (l1dLevel z) (b + i) = λ i h s w k _ e. fr s w k (e ∙ omega arith) in
-    let leg : (i : ℕ) → i < 64 → Inside (layoutOf (z .rec)) (b + i) =
+pub homePart-good : (z : State) (F : Allowed) → Good z F → (v a b n : ℕ) → b / 64 ≡ a / 64 → b % 64 + n ≤ 64 → AccessFits (layoutOf (z .rec)) b n →
+    Free 64 (l1dLevel z) a → (homeIsL2 (z .rec) a ≡ true → Hit (l2Level z) 4 (l2SetOf (z .rec) a) v (l2Line a)) → HomeRead F b n (homePart v a b n z)
+unfolding homePart memoryPart
+homePart-good z F q v a b n same row f fr has =
+    let n₂ = q .tidy .sizes .l2Length in let n′ = q .tidy .sizes .extLength in let mx = q .tidy .sizes .l2Most in
+    let t = l2SetOf (z .rec) a in
+    let calm : (i : ℕ) → i < n → NoDirty 64 (l1dLevel z) (b + i) = λ i h s w k _ e. fr s w k (e ∙ omega arith) in
+    let leg : (i : ℕ) → i < n → Inside (layoutOf (z .rec)) (b + i) =
     λ i h. record {
       low = λ k. let g = f .low (omega arith) in omega arith;
       high = λ k. let g = f .high (omega arith) in omega arith;
     } in
-    let fits : Fits (z .l2) (z .ext) b 64 = record { low = λ h. let g = f .low h in omega arith; high = λ h. let g = f .high h in omega arith } in
-    cond-elim (HomeRead F b) (homeIsL2 (z .rec) a) (part (z .l2) (l2Data (z .rec) t v + b % 128) 64)
-    (cond (ltb b externalBase) (part (z .l2) b 64) (part (z .ext) (b - externalBase) 64))
+    let fits : Fits (z .l2) (z .ext) b n = record { low = λ h. let g = f .low h in omega arith; high = λ h. let g = f .high h in omega arith } in
+    cond-elim (HomeRead F b n) (homeIsL2 (z .rec) a) (part (z .l2) (l2Data (z .rec) t v + b % 128) n)
+    (cond (ltb b externalBase) (part (z .l2) b n) (part (z .ext) (b - externalBase) n))
     (λ d. let h = has d in let e = h .address in
     let f₂ = l2-fits z (q .tidy) t v (l2-bounds z F q t v (h .valid) .0) (h .way) in
     record {
-      long = length-part (z .l2) (l2Data (z .rec) t v + b % 128) 64 (omega arith);
+      long = length-part (z .l2) (l2Data (z .rec) t v + b % 128) n (omega arith);
       right = λ i hi.
           let j : l2LineAt (z .rec) t v .address + (b % 128 + i) ≡ b + i = omega arith in
           let j′ : l2Data (z .rec) t v + b % 128 + i ≡ l2Data (z .rec) t v + (b % 128 + i) = omega arith in
-          carry F (part-at (z .l2) (l2Data (z .rec) t v + b % 128) 64 i (omega arith) hi)
+          carry F (part-at (z .l2) (l2Data (z .rec) t v + b % 128) n i (omega arith) hi)
           (rw j′ (rw j at (q .inv .l2Right t v (h .valid) (b % 128 + i) (omega arith) (rw j (calm i hi)))));
     })
     (λ d. record {
-      long = read-length (z .l2) (z .ext) b 64 fits;
+      long = read-length (z .l2) (z .ext) b n fits;
       right = λ i h.
-          carry F (read-at (z .l2) (z .ext) b 64 fits (omega arith) i h)
+          carry F (read-at (z .l2) (z .ext) b n fits (omega arith) i h)
           (q .inv .memoryRight (b + i) (leg i h) (calm i h) (λ t′ v′ k _ e. memory-free z F q a d t′ v′ k (e ∙ omega arith)));
     })
 
@@ -212,7 +212,7 @@ pub record L1dFilled (z : State) (F : Allowed) (s w b : ℕ) (z′ : State) : Ty
   pub here : l1dLineAt (z′ .rec) s w ≡ lineOf b false
 
 pub fillL1d-good : (z : State) (F : Allowed) → Good z F → (w v a : ℕ) → (Valid (l1dLevel z) (l1dSetOf a) w → ⊥) →
-    L1dPlaced (layoutOf (z .rec)) (l1dSetOf a) w (l1dLine a) → Free 64 (l1dLevel z) a → HomeRead F (l1dLine a) (homeLine v a z) →
+    L1dPlaced (layoutOf (z .rec)) (l1dSetOf a) w (l1dLine a) → Free 64 (l1dLevel z) a → HomeRead F (l1dLine a) 64 (homeLine v a z) →
     (externalBase ≤ l1dLine a → l2SetsOf (z .rec) ≢ 0 → InL2Line (l2Level z) (l1dLine a)) → L1dFilled z F (l1dSetOf a) w (l1dLine a) (fillL1d w v a z)
 unfolding fillL1d withL1dLine marBit
 fillL1d-good z F q w v a room p none ld held =

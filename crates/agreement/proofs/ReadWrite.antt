@@ -17,7 +17,7 @@ use Rattle.model.specs.Memories.{externalBase}
 use Rattle.model.specs.Lines.{l1dSetOf, l1dData, l1dLine, l2Line, lineOf, l2Sets, l2SetIn}
 use Rattle.model.specs.Records.{State, withL2, withExternal, mode0, l2SetsOf, l2SetOf, l2Data, marBit, l1dSetAt, l1dLineAt, l2LineAt, withL1dLine, withL2Line}
 use Rattle.model.specs.Ways.{l1dVictim, l1dWay, inL1d, useL1d}
-use Rattle.model.specs.Access.{cacheable, putL1d, evictL1d, fillL1d, Access, access, l1dBytes, readHit, readFilled, readEmptied, readMiss, readAccess, writeHit, writeHome, writeMiss, writeAccess}
+use Rattle.model.specs.Access.{cacheable, putL1d, evictL1d, fillL1d, Access, access, l1dBytes, useHit, readHit, readFilled, readEmptied, readThawed, readFrozen, readMiss, readAccess, writeHit, writeHome, writeMiss, writeAccess}
 use Rattle.model.specs.Homes.{homeIsL2, memoryPart, putMemory, putL2, l2WayFor, fetchL2, homeServer}
 use Rattle.model.specs.Laws.{false-true, cond-elim, mode0-sets, length-stored, length-part, part-at}
 use Rattle.model.specs.declared.Line.{Line}
@@ -27,7 +27,7 @@ use Rattle.agreement.proofs.Invariant.{Allowed, carry, Layout, InL2Line
 use Rattle.agreement.proofs.Memory.{lowStored, highStored, Fits, low-length, high-length, read-length, read-at, Wrote, wrote-memory, Written, written-held, wrote-old, written-old, written-both, written-slot}
 use Rattle.agreement.proofs.Good.{layoutOf, l1dLevel, l2Level, memoryOf, Good, Kept, kept-refl, kept-trans, Hit, l1d-hit, l1d-miss, l1d-bounds, l2-bounds, l1d-victim-bound, l1d-fits, l2-fits, l1d-rest, l2-rest, lists-tidy, l1d-replaced, l1d-tidy, l2-replaced, l2-tidy, useL1d-good, useL1d-kept}
 use Rattle.agreement.proofs.Evict.{putMemory-state, memory-free, memory-keeps-l2, l2-keeps-memory, evictL1d-good}
-use Rattle.agreement.proofs.Fetch.{AccessFits, cacheable-yes, cacheable-no, l1d-may-hold, l1d-uncacheable, l2-uncacheable, fetchL2-good, homeLine-good, fillL1d-good}
+use Rattle.agreement.proofs.Fetch.{AccessFits, cacheable-yes, cacheable-no, l1d-may-hold, l1d-uncacheable, l2-uncacheable, fetchL2-good, homePart-good, fillL1d-good}
 
 home-l2-yes : (r : Record) (a : ℕ) → externalBase ≤ a → l2SetsOf r ≢ 0 → homeIsL2 r a ≡ true
 unfolding homeIsL2
@@ -66,6 +66,15 @@ held-read z F q w k a n h p =
           (rw i′ (rw i at (q .inv .l1dRight s w (p .valid) (a % 64 + j) (omega arith))));
     }
 
+-- a hit: the same bytes where L1D is frozen, and no order changes
+hit-read : (z : State) (F : Allowed) → Good z F → (a n : ℕ) → a % 64 + n ≤ 64 → inL1d z a ≡ true → ReadGood z F a n (readHit n a z)
+unfolding readHit useHit
+hit-read z F q a n h y =
+    let s = l1dSetOf a in let w = l1dWay z a in let bs = l1dBytes w a n z in
+    let r = held-read z F q w 1 a n h (l1d-hit z a y) in
+    cond-elim (λ (x : State). ReadGood z F a n (access 1 bs x)) (z .rec .frozen) z (useL1d s w z)
+    (λ _. record { good = q; kept = kept-refl z; long = r .long; right = r .right }) (λ _. r)
+
 module _ (z : State) (F : Allowed) (q : Good z F) (a n : ℕ) (f : AccessFits (layoutOf (z .rec)) a (suc n)) (c : externalBase ≤ a → marBit (z .rec) a ≡ true)
     (row : a % 64 + suc n ≤ 64) where
   line-fits : AccessFits (layoutOf (z .rec)) (l1dLine a) 64
@@ -91,7 +100,7 @@ module _ (z : State) (F : Allowed) (q : Good z F) (a n : ℕ) (f : AccessFits (l
       λ d. hit-same z₁ z₂ a v (h .kept .mode) (h .has (sym (home-same z₁ z₂ a (h .kept .mode)) ∙ d)) in
       let held : externalBase ≤ b → l2SetsOf (z₂ .rec) ≢ 0 → InL2Line (l2Level z₂) b =
       λ k m. let i = has (home-l2-yes (z₂ .rec) a (omega arith) m) in (l2SetOf (z₂ .rec) a, v, i .valid, i .address ∙ omega arith) in
-      let ld = homeLine-good z₂ F (h .good) v a (rw (kept₂ .layout) line-fits) none has in
+      let ld = homePart-good z₂ F (h .good) v a b 64 (omega arith) (omega arith) (rw (kept₂ .layout) line-fits) none has in
       let k = fillL1d-good z₂ F (h .good) w v a room (rw (kept₂ .layout) (l1d-may-hold z F q a n f c w hw)) none ld held in
       let z₃ = fillL1d w v a z₂ in
       let r = held-read z₃ F (k .good) w (homeServer a z₁) a (suc n) row (record { way = hw; valid = rw (k .here) refl; address = rw (k .here) refl })
@@ -103,12 +112,25 @@ module _ (z : State) (F : Allowed) (q : Good z F) (a n : ℕ) (f : AccessFits (l
         right = r .right;
       }
 
+  -- frozen: L2 acts as for a fill, the bytes come from the home, and L1D has what it had or less
+  read-frozen : Free 64 (l1dLevel z) a → ReadGood z F a (suc n) (readFrozen (suc n) a z)
+  unfolding readFrozen
+  read-frozen fr =
+      let z₁ = fetchL2 a z in let v = l2WayFor z a in let h = fetchL2-good z F q a n f c in
+      let none : Free 64 (l1dLevel z₁) a = λ s w k e. let x = h .fewer s w k in fr s w (rw x at k) (rw x at e) in
+      let has : homeIsL2 (z₁ .rec) a ≡ true → Hit (l2Level z₁) 4 (l2SetOf (z₁ .rec) a) v (l2Line a) =
+      λ d. hit-same z z₁ a v (h .kept .mode) (h .has (sym (home-same z z₁ a (h .kept .mode)) ∙ d)) in
+      let r = homePart-good z₁ F (h .good) v a a (suc n) refl row (rw (h .kept .layout) f) none has in
+      record { good = h .good; kept = h .kept; long = r .long; right = r .right }
+
   cacheable-read : ReadGood z F a (suc n) (cond (inL1d z a) (readHit (suc n) a z) (readMiss (suc n) a z))
-  unfolding readHit readMiss
+  unfolding readMiss readThawed
   cacheable-read =
       cond-elim (ReadGood z F a (suc n)) (inL1d z a) (readHit (suc n) a z) (readMiss (suc n) a z)
-      (λ y. held-read z F q (l1dWay z a) 1 a (suc n) row (l1d-hit z a y))
-      (λ y. read-miss (l1d-miss z F q a y) (l1dVictim (l1dSetAt (z .rec) (l1dSetOf a))) (l1d-victim-bound (l1dSetAt (z .rec) (l1dSetOf a))))
+      (hit-read z F q a (suc n) row)
+      (λ y. let fr = l1d-miss z F q a y in let set = l1dSetAt (z .rec) (l1dSetOf a) in
+      cond-elim (ReadGood z F a (suc n)) (z .rec .frozen) (readFrozen (suc n) a z) (readThawed (suc n) a z)
+      (λ _. read-frozen fr) (λ _. read-miss fr (l1dVictim set) (l1d-victim-bound set)))
 
 pub read-good : (z : State) (F : Allowed) → Good z F → (a n : ℕ) → AccessFits (layoutOf (z .rec)) a (suc n) → a % 64 + suc n ≤ 64 →
     ReadGood z F a (suc n) (readAccess (suc n) a z)
@@ -230,12 +252,13 @@ module _ (z : State) (F F′ : Allowed) (q : Good z F) (a n : ℕ) (bs : List �
   bytes-fit = rw ln f
 
   write-hit : inL1d z a ≡ true → After (writeHit a bs z)
-  unfolding writeHit
+  unfolding writeHit useHit
   write-hit y =
       let s = l1dSetOf a in let w = l1dWay z a in let z₁ = putL1d w a bs z in
       let h = l1d-hit z a y in
       let p = putL1d-good z F F′ q a bs wr row-bytes w (h .valid) (h .address) in
-      record { good = useL1d-good z₁ s w F′ (p .good) (h .way); kept = kept-trans z z₁ (useL1d s w z₁) (p .kept) (useL1d-kept z₁ s w) }
+      cond-elim (Step z F′) (z₁ .rec .frozen) z₁ (useL1d s w z₁) (λ _. p)
+      (λ _. record { good = useL1d-good z₁ s w F′ (p .good) (h .way); kept = kept-trans z z₁ (useL1d s w z₁) (p .kept) (useL1d-kept z₁ s w) })
 
   write-miss : cacheable (z .rec) a ≡ true → inL1d z a ≡ false → After (writeMiss a bs z)
   unfolding writeMiss writeHome

@@ -113,7 +113,7 @@ after-stable c xs ys h =
       least = rw (t, u) (r .least);
       most = rw (t, u) (r .most);
     })
-    (λ u. bool (eqb c 10)
+    (λ u. bool (eqb c 10 || eqb c 12)
     (λ v. let r = one-stable c xs ys (rw (t, u, v) at h) in
     record { same = rw (t, u, v) (r .same); least = rw (t, u, v) (r .least); most = rw (t, u, v) (r .most) })
     (λ v. bool (eqb c 2 || (eqb c 3 || eqb c 9))

@@ -1,5 +1,5 @@
 -- One command by its code: what `step` does to a good state. Shown: the commands that flat memory does not see (2 to
--- 5, 7, 11), carried out or refused, leave the state good by the same F with L, E and the mode as they were; and
+-- 5, 7, 11, 12), carried out or refused, leave the state good by the same F with L, E and the mode as they were; and
 -- every command, of any code, leaves a well-formed state (`step-well`).
 -- Why: the lemmas of the single commands, and a refused command changes nothing. At a written-out code the
 -- definitions of `step` compute.
@@ -10,9 +10,9 @@ use native.Mathlib.Omega.{arith}
 use lib.Dec.{leb, eqb}
 use borrow.Author.Tests.{eqb-true, ne-eqb, lt-leb}
 use Rattle.model.specs.Records.{State, sramOf}
-use Rattle.model.specs.Modes.{flushL2, newMode, changeMode, changeMar}
+use Rattle.model.specs.Modes.{flushL2, newMode, changeMode, changeMar, changeFreeze}
 use Rattle.model.specs.Commands.{l2WritebackAll, l2WritebackInvalidateAll, l2WritebackBlock, l2WritebackInvalidateBlock, l2InvalidateBlock, l1dWritebackInvalidateBlock, l1dInvalidateBlock}
-use Rattle.model.specs.Refusals.{accessDue, blockDue, modeDue, marDue}
+use Rattle.model.specs.Refusals.{accessDue, blockDue, modeDue, marDue, freezeDue}
 use Rattle.model.specs.Trace.{command}
 use Rattle.model.specs.Calls.{Reply, refused, carriedOut, commandDue, readDone, writeDone, commandState, accepted, step}
 use Rattle.model.specs.Laws.{cond-elim}
@@ -21,27 +21,28 @@ use Rattle.agreement.proofs.Invariant.{Allowed, grows-refl, Layout}
 use Rattle.agreement.proofs.Good.{Good, Anything, Well}
 use Rattle.agreement.proofs.ReadWrite.{Step}
 use Rattle.agreement.proofs.Sweeps.{l2WritebackAll-good, l2WritebackInvalidateAll-good, l2WritebackBlock-good, l2WritebackInvalidateBlock-good, l1dWritebackInvalidateBlock-good, flush-good}
-use Rattle.agreement.proofs.Changes.{newMode-good, changeMar-good}
+use Rattle.agreement.proofs.Changes.{newMode-good, changeMar-good, changeFreeze-good}
 use Rattle.agreement.proofs.Due.{accepted-read, accepted-write, mode-tells, mar-tells}
 use Rattle.agreement.proofs.Drops.{Dropped, dropped-refl, l1dInvalidateAll-dropped, l1dInvalidateBlock-dropped, l2InvalidateBlock-dropped}
 use Rattle.agreement.proofs.Flushes.{sweptL1d, change-swept}
 
--- ---- a code is one of the twelve, each written out, or a later number
-pub codes {ℓ} : (P : ℕ → Type ℓ) → P 0 → P 1 → P 2 → P 3 → P 4 → P 5 → P 6 → P 7 → P 8 → P 9 → P 10 → P 11 → ((k : ℕ) → 12 ≤ k → P k) → (k : ℕ) → P k
-codes P a b c d e f g h i j k l m zero = a
-codes P a b c d e f g h i j k l m (suc zero) = b
-codes P a b c d e f g h i j k l m (suc (suc zero)) = c
-codes P a b c d e f g h i j k l m (suc (suc (suc zero))) = d
-codes P a b c d e f g h i j k l m (suc (suc (suc (suc zero)))) = e
-codes P a b c d e f g h i j k l m (suc (suc (suc (suc (suc zero))))) = f
-codes P a b c d e f g h i j k l m (suc (suc (suc (suc (suc (suc zero)))))) = g
-codes P a b c d e f g h i j k l m (suc (suc (suc (suc (suc (suc (suc zero))))))) = h
-codes P a b c d e f g h i j k l m (suc (suc (suc (suc (suc (suc (suc (suc zero)))))))) = i
-codes P a b c d e f g h i j k l m (suc (suc (suc (suc (suc (suc (suc (suc (suc zero))))))))) = j
-codes P a b c d e f g h i j k l m (suc (suc (suc (suc (suc (suc (suc (suc (suc (suc zero)))))))))) = k
-codes P a b c d e f g h i j k l m (suc (suc (suc (suc (suc (suc (suc (suc (suc (suc (suc zero))))))))))) = l
-codes P a b c d e f g h i j k l m (suc (suc (suc (suc (suc (suc (suc (suc (suc (suc (suc (suc n)))))))))))) =
-    m (suc (suc (suc (suc (suc (suc (suc (suc (suc (suc (suc (suc n)))))))))))) (omega arith)
+-- ---- a code is one of the thirteen, each written out, or a later number
+pub codes {ℓ} : (P : ℕ → Type ℓ) → P 0 → P 1 → P 2 → P 3 → P 4 → P 5 → P 6 → P 7 → P 8 → P 9 → P 10 → P 11 → P 12 → ((k : ℕ) → 13 ≤ k → P k) → (k : ℕ) → P k
+codes P a b c d e f g h i j k l m n zero = a
+codes P a b c d e f g h i j k l m n (suc zero) = b
+codes P a b c d e f g h i j k l m n (suc (suc zero)) = c
+codes P a b c d e f g h i j k l m n (suc (suc (suc zero))) = d
+codes P a b c d e f g h i j k l m n (suc (suc (suc (suc zero)))) = e
+codes P a b c d e f g h i j k l m n (suc (suc (suc (suc (suc zero))))) = f
+codes P a b c d e f g h i j k l m n (suc (suc (suc (suc (suc (suc zero)))))) = g
+codes P a b c d e f g h i j k l m n (suc (suc (suc (suc (suc (suc (suc zero))))))) = h
+codes P a b c d e f g h i j k l m n (suc (suc (suc (suc (suc (suc (suc (suc zero)))))))) = i
+codes P a b c d e f g h i j k l m n (suc (suc (suc (suc (suc (suc (suc (suc (suc zero))))))))) = j
+codes P a b c d e f g h i j k l m n (suc (suc (suc (suc (suc (suc (suc (suc (suc (suc zero)))))))))) = k
+codes P a b c d e f g h i j k l m n (suc (suc (suc (suc (suc (suc (suc (suc (suc (suc (suc zero))))))))))) = l
+codes P a b c d e f g h i j k l m n (suc (suc (suc (suc (suc (suc (suc (suc (suc (suc (suc (suc zero)))))))))))) = m
+codes P a b c d e f g h i j k l m n (suc (suc (suc (suc (suc (suc (suc (suc (suc (suc (suc (suc (suc o))))))))))))) =
+    n (suc (suc (suc (suc (suc (suc (suc (suc (suc (suc (suc (suc (suc o))))))))))))) (omega arith)
 
 -- ---- commands that flat memory does not see
 pub record Quiet (z : State) (F : Allowed) (z′ : State) : Type 0 where
@@ -94,6 +95,14 @@ module _ (z : State) (F : Allowed) (q : Good z F) (a b v : ℕ) where
   unfolding step commandDue accepted commandState
   quiet-11 = quiet-unless (marDue (z .rec) a b) (changeMar a b z) mar-quiet
 
+  freeze-quiet : freezeDue a ≡ 0 → Quiet z F (changeFreeze a z)
+  unfolding changeFreeze
+  freeze-quiet d = record { good = changeFreeze-good z F q a; mode = refl; l2len = refl; extlen = refl }
+
+  pub quiet-12 : Quiet z F (step (command 12 a b v) z .next)
+  unfolding step commandDue accepted commandState
+  quiet-12 = quiet-unless (freezeDue a) (changeFreeze a z) freeze-quiet
+
 -- ---- the commands that drop lines; one that is refused drops none
 module _ (z : State) (h : Well z) (a b v : ℕ) where
   dropped-unless : (z′ : State) → Dropped z z′ → Dropped z (cond (eqb (blockDue a b) 0) (carriedOut z′) (refused (blockDue a b) z) .next)
@@ -140,7 +149,7 @@ module _ (z : State) (h : Well z) (a b v : ℕ) where
       rw (change-swept a z) g)
 
 -- an unknown code is refused with 11
-pub other-code : (k a b v : ℕ) (z : State) → 12 ≤ k → step (command k a b v) z ≡ refused 11 z
+pub other-code : (k a b v : ℕ) (z : State) → 13 ≤ k → step (command k a b v) z ≡ refused 11 z
 unfolding step commandDue
 other-code k a b v z h =
     rw (
@@ -150,7 +159,8 @@ other-code k a b v z h =
       and-false (leb 4 k),
       ne-eqb k 10 (omega arith),
       ne-eqb k 11 (omega arith),
-      lt-leb k 11 (omega arith),
+      ne-eqb k 12 (omega arith),
+      lt-leb k 12 (omega arith),
     ) refl
 
 pub step-well : (c : Command) (z : State) → Well z → Well (step c z .next)
@@ -160,6 +170,6 @@ step-well c z h =
     (well-0 z h a b v) (well-1 z h a b v) (quiet-2 z Anything h a b v .good) (quiet-3 z Anything h a b v .good) (quiet-4 z Anything h a b v .good)
     (quiet-5 z Anything h a b v .good) (dropped-6 z h a b v .step .good) (quiet-7 z Anything h a b v .good) (dropped-8 z h a b v .step .good)
     (dropped-9 z h a b v .step .good) (well-10 z h a b v)
-    (quiet-11 z Anything h a b v .good)
+    (quiet-11 z Anything h a b v .good) (quiet-12 z Anything h a b v .good)
     (λ k l. let e = other-code k a b v z l in rw e h)
     (c .code)
