@@ -36,7 +36,7 @@ use Rattle.agreement.proofs.Sweeps.{flush-good}
 use Rattle.agreement.proofs.Changes.{zero-length, zero-below, zero-above, smaller-bound, fresh-l1d-none, fresh-l2-none, fresh-good, newMode-good}
 use Rattle.agreement.proofs.Due.{access-tells, accepted-read, accepted-write, mode-tells}
 use Rattle.agreement.proofs.Drops.{Dropped}
-use Rattle.agreement.proofs.Steps.{codes, Quiet, quiet-refl, quiet-step, quiet-2, quiet-3, quiet-4, quiet-5, quiet-7, quiet-11, dropped-6, dropped-8, dropped-9, other-code}
+use Rattle.agreement.proofs.Steps.{codes, Quiet, quiet-refl, quiet-step, quiet-2, quiet-3, quiet-4, quiet-5, quiet-7, quiet-11, quiet-12, dropped-6, dropped-8, dropped-9, other-code}
 use Rattle.agreement.proofs.Tested.{call-step}
 use Rattle.agreement.proofs.Flushes.{sweptL1d, change-swept}
 use Rattle.agreement.proofs.Agreement.{flatByte, flatPut-state, fresh-matches, fresh-accepted}
@@ -410,7 +410,7 @@ module _ (z : State) (f : Flat) (h : ℕ → List ℕ) (lost : ℕ → Bool) (g 
       (λ t. let t′ : eqb (modeDue (f .l2len) a) 0 ≡ false = rw e t in
       unseen 10 refl (rw (flatStep, t′) refl) (rw (step, t) refused-quiet))
 
-  done-other : (k : ℕ) → 12 ≤ k → Done k
+  done-other : (k : ℕ) → 13 ≤ k → Done k
   unfolding flatStep
   done-other k l =
       let e = other-code k a b v z l in
@@ -436,6 +436,7 @@ step-after c z f h lost g m =
     (done-9 z f h lost g m a b v)
     (done-10 z f h lost g m a b v)
     (unseen z f h lost g m a b v 11 refl refl (quiet-11 z F q a b v))
+    (unseen z f h lost g m a b v 12 refl refl (quiet-12 z F q a b v))
     (done-other z f h lost g m a b v)
     (c .code)
 

@@ -20,12 +20,12 @@ use Rattle.model.specs.Lines.{l1dSetOf, l1dLine, l2Line, lineOf}
 use Rattle.model.specs.Records.{State, mode0, sramOf, l2SetsOf, l2SetOf, marBit, l1dSetAt, l1dLineAt, l2LineAt, withL1dLine, withL2Line}
 use Rattle.model.specs.Ways.{l1dWay, l2Way, inL1d, inL2, useL1d, useL2}
 use Rattle.model.specs.Homes.{homeIsL2, putL2, l2WayFor, takeHalves, writebackL2, evictL2, fillL2, fetchL2}
-use Rattle.model.specs.Access.{cacheable, evictL1d, fillL1d, readFilled, readEmptied, readMiss, readAccess, writeHome, writeMiss, writeAccess}
+use Rattle.model.specs.Access.{Access, cacheable, evictL1d, fillL1d, readFilled, readEmptied, readThawed, readFrozen, readMiss, readAccess, writeHome, writeMiss, writeAccess}
 use Rattle.model.specs.Commands.{linesTouched, eachTouched, atL1d, atL2, unlessMode0, l2WritebackAll, l2WritebackInvalidateAll, l2WritebackBlock, l2WritebackInvalidateBlock, l1dWritebackInvalidateBlock}
 use Rattle.model.specs.Refusals.{accessDue, blockDue}
 use Rattle.model.specs.Trace.{command}
 use Rattle.model.specs.Calls.{Reply, refused, carriedOut, commandDue, readDone, writeDone, commandState, accepted, step}
-use Rattle.model.specs.Laws.{bool, false-true, both-true, cond-elim, mode0-sets}
+use Rattle.model.specs.Laws.{bool, false-true, both-true, cond-elim, mode0-sets, cond-both}
 use Rattle.model.specs.declared.Line.{Line}
 use Rattle.model.specs.declared.Record.{Record}
 use Rattle.model.specs.declared.Command.{Command}
@@ -40,7 +40,7 @@ use Rattle.agreement.proofs.ReadWrite.{Step}
 use Rattle.agreement.proofs.Sweeps.{Sweeps, AllOut, each-by, step-refl, step-trans, atL1d-good, atL2-good, evictL1d-step, swept-step, writebackL2-sweeps, evictL2-sweeps, l2-block, l2WritebackAll-good, l2WritebackInvalidateAll-good, l1dWritebackInvalidateBlock-good}
 use Rattle.agreement.proofs.Due.{accepted-fits, accepted-read, accepted-write}
 use Rattle.agreement.proofs.Steps.{codes}
-use Rattle.dropped_lines.specs.Reached.{within, outOfL2, l1dSends, l2Sends, fetchSends, readSends, writeSends, Going, goOn, oneSends, touchedSend, touchedL1dSend, overBlockSend, lineOfBlock, chosen, sends}
+use Rattle.dropped_lines.specs.Reached.{within, outOfL2, l1dSends, l2Sends, fetchSends, thawedSends, missSends, readSends, writeSends, Going, goOn, oneSends, touchedSend, touchedL1dSend, overBlockSend, lineOfBlock, chosen, sends}
 use Rattle.dropped_lines.specs.Stronger.{inDirtyLine}
 use Rattle.dropped_lines.proofs.Held.{no-dirty}
 
@@ -360,6 +360,18 @@ module _ (z : State) (F : Allowed) (q : Good z F) (a b n : ℕ) (f : AccessFits 
       (record { mode = k .mode ∙ sym (e .left .kept .mode); layout = k .layout ∙ sym (e .left .kept .layout); l2len = k .l2len ∙ sym (e .left .kept .l2len) })
       (λ t′ v′ i. (i, refl)))
 
+  -- frozen: only the L2 line that leaves goes out
+  fetched-clean : fetchSends a b z ≡ true → inDirtyLine (fetchL2 b z) a ≡ false
+  fetched-clean y =
+      let h = fetchL2-good z F q b n f c in
+      left-clean z F q a b (fetchL2 b z) (fetchL2 b z) (fetch-sent z F q a b y) (h .good) (h .kept) (λ _ _ i. (i, refl))
+
+  missed-clean : (k : ℕ) → Good (readMiss k b z .next) F → Kept z (readMiss k b z .next) → missSends a b z ≡ true → inDirtyLine (readMiss k b z .next) a ≡ false
+  unfolding readMiss readFrozen readThawed readEmptied readFilled missSends thawedSends
+  missed-clean k =
+      cond-both (λ (x : Access) (y : Bool). Good (x .next) F → Kept z (x .next) → y ≡ true → inDirtyLine (x .next) a ≡ false) (z .rec .frozen)
+      (readFrozen k b z) (readThawed k b z) (fetchSends a b z) (thawedSends a b z) (λ _ _ _ y. fetched-clean y) (λ _. read-missed)
+
 -- a write miss: what is written goes into a line that L2 holds then, and changes no address
 put-lines : (x : State) → Tidy x → (t v b : ℕ) (bs : List ℕ) → t < l2SetsOf (x .rec) → v < 4 → Valid (l2Level x) t v →
     (t′ v′ : ℕ) → Valid (l2Level (putL2 t v b bs x)) t′ v′ → Valid (l2Level x) t′ v′ × (l2LineAt (putL2 t v b bs x .rec) t′ v′ .address ≡ l2LineAt (x .rec) t′ v′ .address)
@@ -396,17 +408,17 @@ module _ (z : State) (q : Well z) (a m b v : ℕ) where
   Clean k = step (command k m b v) z .number ≡ 0 → sends (command k m b v) z a ≡ true → inDirtyLine (step (command k m b v) z .next) a ≡ false
 
   clean-0 : Clean 0
-  unfolding step commandDue accepted readDone sends readSends readAccess readMiss readEmptied readFilled
+  unfolding step commandDue accepted readDone sends readSends readAccess
   clean-0 =
       let d = accessDue (sramOf (z .rec)) (z .rec .extlen) m b 0 in
       cond-elim (λ (y : Reply). y .number ≡ 0 → readSends a b z ≡ true → inDirtyLine (y .next) a ≡ false) (eqb d 0) (readDone m b z) (refused d z)
       (λ t _ y. let d₀ = eqb-true d 0 t in
       let r = accepted-read z Anything q m b d₀ in
-      let p₁ = both-true (cacheable (z .rec) b) (not (inL1d z b) && (l1dSends a (l1dSetOf b) (chosen b z) z || fetchSends a b (evictL1d (l1dSetOf b) (chosen b z) z))) y in
-      let p₂ = both-true (not (inL1d z b)) (l1dSends a (l1dSetOf b) (chosen b z) z || fetchSends a b (evictL1d (l1dSetOf b) (chosen b z) z)) (p₁ .1) in
+      let p₁ = both-true (cacheable (z .rec) b) (not (inL1d z b) && missSends a b z) y in
+      let p₂ = both-true (not (inL1d z b)) (missSends a b z) (p₁ .1) in
       let no = not-no (inL1d z b) (p₂ .0) in
       let g = r .good in let k = r .kept in
-      rw (p₁ .0, no) (read-missed z Anything q a b (m - 1) (accepted-fits z Anything q m b 0 d₀) (cacheable-yes (z .rec) b (p₁ .0))
+      rw (p₁ .0, no) (missed-clean z Anything q a b (m - 1) (accepted-fits z Anything q m b 0 d₀) (cacheable-yes (z .rec) b (p₁ .0)) m
       (rw (p₁ .0, no) at g) (rw (p₁ .0, no) at k) (p₂ .1)))
       (λ t e. absurd (eqb-false d 0 t e))
 
@@ -482,7 +494,7 @@ module _ (z : State) (q : Well z) (a m b v : ℕ) where
   clean-other : (k : ℕ) → sends (command k m b v) z a ≡ false → Clean k
   clean-other k e _ y = false-true (sym e ∙ y)
 
-  sends-none : (k : ℕ) → 12 ≤ k → sends (command k m b v) z a ≡ false
+  sends-none : (k : ℕ) → 13 ≤ k → sends (command k m b v) z a ≡ false
   unfolding sends
   sends-none k h =
       rw (
@@ -503,6 +515,6 @@ sent-clean c z q a =
     inDirtyLine (step (command k m b v) z .next) a ≡ false = clean-other z q a m b v in
     codes (λ (k : ℕ). step (command k m b v) z .number ≡ 0 → sends (command k m b v) z a ≡ true → inDirtyLine (step (command k m b v) z .next) a ≡ false)
     (clean-0 z q a m b v) (clean-1 z q a m b v) (clean-2 z q a m b v) (clean-3 z q a m b v) (clean-4 z q a m b v) (clean-5 z q a m b v)
-    (none 6 refl) (clean-7 z q a m b v) (none 8 refl) (none 9 refl) (none 10 refl) (none 11 refl)
+    (none 6 refl) (clean-7 z q a m b v) (none 8 refl) (none 9 refl) (none 10 refl) (none 11 refl) (none 12 refl)
     (λ k h. none k (sends-none z q a m b v k h))
     (c .code)

@@ -182,6 +182,6 @@ loses-touched (oneCommand c) z q a =
     let s = call-step c z q in
     rw s (codes (λ (k : ℕ). Touched z q a m b v k)
     (none 0 refl) (none 1 refl) (none 2 refl) (none 3 refl) (none 4 refl) (none 5 refl) (touched-6 z q a m b v) (none 7 refl) (touched-8 z q a m b v)
-    (touched-9 z q a m b v) (none 10 refl) (none 11 refl)
+    (touched-9 z q a m b v) (none 10 refl) (none 11 refl) (none 12 refl)
     (λ k h. none k (rw (ne-eqb k 6 (omega arith), ne-eqb k 8 (omega arith), ne-eqb k 9 (omega arith)) refl))
     (c .code))

@@ -13,7 +13,7 @@ use Rattle.model.specs.Trace.{command}
 use Rattle.model.specs.Calls.{Reply, step, oneCommand}
 use Rattle.model.specs.Opened.{opened}
 use Rattle.model.specs.declared.Command.{Command}
-use Rattle.dropped_lines.specs.Reached.{goOn, l1dSends, l2Sends, fetchSends, readSends, writeSends, oneSends, allSend, touchedSend, touchedL1dSend, allL1dSend, overAllSend, overBlockSend, sends}
+use Rattle.dropped_lines.specs.Reached.{goOn, l1dSends, l2Sends, fetchSends, thawedSends, missSends, readSends, writeSends, oneSends, allSend, touchedSend, touchedL1dSend, allL1dSend, overAllSend, overBlockSend, sends}
 use Rattle.dropped_lines.specs.Dropped.{changesMode, reached}
 
 -- ---- a place: the command, and what is told of each address
@@ -69,7 +69,7 @@ pub sram : List Place
 sram = reads 0 none ∷ writes 0 none ∷ reads 0x2000 none ∷ reads 0x4000 first ∷ reads 0 none ∷ []
 
 sram-told : given 128 (0 ∷ 64 ∷ []) sram ≡ stated sram
-unfolding opened goOn l1dSends l2Sends fetchSends readSends writeSends oneSends allSend touchedSend touchedL1dSend allL1dSend overAllSend overBlockSend sends changesMode reached tells along given stated sram
+unfolding opened goOn l1dSends l2Sends fetchSends thawedSends missSends readSends writeSends oneSends allSend touchedSend touchedL1dSend allL1dSend overAllSend overBlockSend sends changesMode reached tells along given stated sram
 sram-told = refl
 
 -- ---- the rest of them: both halves of an L2 line of external memory. In mode 0 L1D's line goes there itself,
@@ -80,7 +80,7 @@ modeZero =
     ∷ reads 0x80000000 none ∷ writes 0x80000000 none ∷ block 4 0x80000000 first ∷ mode 0 both ∷ []
 
 modeZero-told : given 128 (0x80000000 ∷ 0x80000040 ∷ []) modeZero ≡ stated modeZero
-unfolding opened goOn l1dSends l2Sends fetchSends readSends writeSends oneSends allSend touchedSend touchedL1dSend allL1dSend overAllSend overBlockSend sends changesMode reached tells along given stated modeZero
+unfolding opened goOn l1dSends l2Sends fetchSends thawedSends missSends readSends writeSends oneSends allSend touchedSend touchedL1dSend allL1dSend overAllSend overBlockSend sends changesMode reached tells along given stated modeZero
 modeZero-told = refl
 
 -- In mode 1 it goes into L2, and from there all of the line goes out, once, by 4, 5, 2 and 3.
@@ -91,7 +91,7 @@ modeOne =
     ∷ writes 0x80000040 none ∷ all 3 both ∷ []
 
 modeOne-told : given 128 (0x80000000 ∷ 0x80000040 ∷ []) modeOne ≡ stated modeOne
-unfolding opened goOn l1dSends l2Sends fetchSends readSends writeSends oneSends allSend touchedSend touchedL1dSend allL1dSend overAllSend overBlockSend sends changesMode reached tells along given stated modeOne
+unfolding opened goOn l1dSends l2Sends fetchSends thawedSends missSends readSends writeSends oneSends allSend touchedSend touchedL1dSend allL1dSend overAllSend overBlockSend sends changesMode reached tells along given stated modeOne
 modeOne-told = refl
 
 -- Five lines of one L2 set, addresses in two of them: the first is put out by a write miss, the second by a read miss.
@@ -101,5 +101,5 @@ putOut =
     ∷ writes 0x80008000 first ∷ reads 0x80000000 (false ∷ true ∷ []) ∷ []
 
 putOut-told : given 32896 (0x80000000 ∷ 0x80002000 ∷ []) putOut ≡ stated putOut
-unfolding opened goOn l1dSends l2Sends fetchSends readSends writeSends oneSends allSend touchedSend touchedL1dSend allL1dSend overAllSend overBlockSend sends changesMode reached tells along given stated putOut
+unfolding opened goOn l1dSends l2Sends fetchSends thawedSends missSends readSends writeSends oneSends allSend touchedSend touchedL1dSend allL1dSend overAllSend overBlockSend sends changesMode reached tells along given stated putOut
 putOut-told = refl

@@ -41,14 +41,19 @@ l2Sends a t v z =
 unfoldable pub fetchSends : ℕ → ℕ → State → Bool
 fetchSends a b z = homeIsL2 (z .rec) b && (not (inL2 z b) && l2Sends a (l2SetOf (z .rec) b) (l2WayFor z b) z)
 
--- `readMiss`: the line in the L1D way that is chosen goes home and the way is emptied, then L2 fetches
+-- `readThawed`: the line in the L1D way that is chosen goes home and the way is emptied, then L2 fetches
 abbrev pub chosen : ℕ → State → ℕ
 chosen b z = l1dVictim (l1dSetAt (z .rec) (l1dSetOf b))
 
+unfoldable pub thawedSends : ℕ → ℕ → State → Bool
+thawedSends a b z = l1dSends a (l1dSetOf b) (chosen b z) z || fetchSends a b (evictL1d (l1dSetOf b) (chosen b z) z)
+
+-- `readMiss`; 02, U11: frozen, only L2 acts
+unfoldable pub missSends : ℕ → ℕ → State → Bool
+missSends a b z = cond (z .rec .frozen) (fetchSends a b z) (thawedSends a b z)
+
 unfoldable pub readSends : ℕ → ℕ → State → Bool
-readSends a b z =
-    cacheable (z .rec) b && (not (inL1d z b) &&
-    (l1dSends a (l1dSetOf b) (chosen b z) z || fetchSends a b (evictL1d (l1dSetOf b) (chosen b z) z)))
+readSends a b z = cacheable (z .rec) b && (not (inL1d z b) && missSends a b z)
 
 -- `writeMiss`
 unfoldable pub writeSends : ℕ → ℕ → State → Bool

@@ -48,6 +48,12 @@ pub cond-elim {ℓ κ} : {A : Type ℓ} (P : A → Type κ) (b : Bool) (x y : A)
 cond-elim P true x y f g = f refl
 cond-elim P false x y f g = g refl
 
+-- the same of two choices by one test
+pub cond-both {ℓ κ μ} : {A : Type ℓ} {B : Type κ} (R : A → B → Type μ) (b : Bool) (x y : A) (u v : B) → (b ≡ true → R x u) → (b ≡ false → R y v) →
+    R (cond b x y) (cond b u v)
+cond-both R true x y u v f g = f refl
+cond-both R false x y u v f g = g refl
+
 pub cond-true {ℓ} : {A : Type ℓ} (b : Bool) (x y : A) → b ≡ true → x ≡ cond b x y
 cond-true b x y e = rw e refl
 

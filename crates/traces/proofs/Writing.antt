@@ -223,7 +223,7 @@ command-back k rest h =
     let q = both-true (ltb (k .second) w32) true (p .1) in
     rw (t, u) (two-back (k .code) (k .first) (ltb-true (k .first) w32 (p .0)) (k .second)
     (ltb-true (k .second) w32 (q .0)) rest))
-    (λ u. bool (eqb (k .code) 10)
+    (λ u. bool (eqb (k .code) 10 || eqb (k .code) 12)
     (λ x.
     let p = both-true (ltb (k .first) w32) true (rw (t, u, x) at h) in
     rw (t, u, x) (one-back (k .code) (k .first) (ltb-true (k .first) w32 (p .0)) rest))
@@ -336,7 +336,7 @@ after-written c bs y h =
     (λ t. rw t (as-written c 3 bs (threeNumbers c bs) (three-form c bs y (rw t at h)) (rw t refl) refl))
     (λ t. bool (eqb c 0 || ((leb 4 c && leb c 8) || eqb c 11))
     (λ u. rw (t, u) (as-written c 2 bs (twoNumbers c bs) (two-form c bs y (rw (t, u) at h)) (rw (t, u) refl) refl))
-    (λ u. bool (eqb c 10)
+    (λ u. bool (eqb c 10 || eqb c 12)
     (λ x. rw (t, u, x)
     (as-written c 1 bs (oneNumber c bs) (one-form c bs y (rw (t, u, x) at h)) (rw (t, u, x) refl) refl))
     (λ x. bool (eqb c 2 || (eqb c 3 || eqb c 9))

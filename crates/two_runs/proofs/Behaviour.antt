@@ -14,11 +14,11 @@ use Rattle.model.specs.Records.{State, withRecord, freshRecord, freshState}
 use Rattle.model.specs.Refusals.{lentL1d, lentL2, lentExternal, lentDue, viewLentDue, viewDue}
 use Rattle.model.specs.Trace.{command}
 use Rattle.model.specs.Calls.{Reply, refused, carriedOut, step, call, freshOk, freshCall, viewDone, Call, oneCommand, freshStart, look, called}
-use Rattle.model.specs.Laws.{length-littleBytes}
+use Rattle.model.specs.Laws.{length-littleBytes, cond-both}
 use Rattle.two_runs.specs.TwoRuns.{SameButStored, FitAlike, SameButWritten, sameCommand, sameStart, sameLook, ListsSameButWritten, Shared, SharedAlong, SameBehaviour}
 use Rattle.two_runs.specs.TwoRuns as Says
 use Rattle.two_runs.proofs.Areas.{Pairing, Twins, Area}
-use Rattle.two_runs.proofs.Pair.{cond-both, Layout, layoutOf, Pair, one-record}
+use Rattle.two_runs.proofs.Pair.{Layout, layoutOf, Pair, one-record}
 use Rattle.two_runs.proofs.Calling.{Replies, start-pair, step-both}
 
 -- ---- what goes by the record and the lengths alone

@@ -16,13 +16,13 @@ use Rattle.model.specs.Bytes.{little, littleBytes}
 use Rattle.model.specs.Memories.{externalBase, l1dLength, legalL2, legalExternal, cacheSize, isMode}
 use Rattle.model.specs.Lines.{l1dSetOf, l1dData, emptyLine}
 use Rattle.model.specs.Records.{State, sramOf, l2SetsOf, l2SetOf, l2Data, l1dLineAt, l2LineAt, legalSizes, noneTwice, permuted2, permuted4, freshUnlessUsed, inUse, inSram, inCacheable, marBit, ownL1dSet, ownL2Set, l1dRegion, l2Region, coveredByL2, l1dPlace, l2Place, l1dLineOk, l2LineOk, l1dSetOk, l2SetOk, wellFormed}
-use Rattle.model.specs.Refusals.{unless, lentL1d, lentL2, lentExternal, lentDue, sizeOk, valueOk, accessDue, blockDue, modeDue, marDue}
+use Rattle.model.specs.Refusals.{unless, lentL1d, lentL2, lentExternal, lentDue, sizeOk, valueOk, accessDue, blockDue, modeDue, marDue, freezeDue}
 use Rattle.model.specs.Trace.{command}
-use Rattle.model.specs.Modes.{changeMode, changeMar}
+use Rattle.model.specs.Modes.{changeMode, changeMar, changeFreeze}
 use Rattle.model.specs.Commands.{l2WritebackAll, l2WritebackInvalidateAll, l2WritebackBlock, l2WritebackInvalidateBlock, l2InvalidateBlock, l1dWritebackInvalidateBlock, l1dInvalidateBlock, l1dInvalidateAll}
 use Rattle.model.specs.Access.{readAccess}
 use Rattle.model.specs.Calls.{Reply, refused, carriedOut, commandDue, readDone, writeDone, commandState, accepted, step}
-use Rattle.model.specs.Laws.{bool, false-true, both-true, lowestDue-none, unless-none}
+use Rattle.model.specs.Laws.{bool, false-true, both-true, lowestDue-none, unless-none, cond-both}
 use Rattle.model.specs.declared.Line.{Line}
 use Rattle.model.specs.declared.Record.{Record}
 use Rattle.agreement.proofs.Tables.{Store, l1dStore, l2Store, setIn, lineIn}
@@ -31,9 +31,9 @@ use Rattle.agreement.proofs.Due.{access-tells, mode-tells}
 use Rattle.agreement.proofs.Steps.{codes, other-code}
 use Rattle.agreement.proofs.Tested.{legalL2-tells, legalExternal-tells}
 use Rattle.two_runs.proofs.Areas.{Pairing, Twins, no-twins, Area}
-use Rattle.two_runs.proofs.Pair.{cond-both, Layout, layoutOf, L1dOk, L2Ok, Pair, Keeps, twin}
+use Rattle.two_runs.proofs.Pair.{Layout, layoutOf, L1dOk, L2Ok, Pair, Keeps, twin}
 use Rattle.two_runs.proofs.Serving.{Fits, read-both, write-both}
-use Rattle.two_runs.proofs.Sweeping.{inMode, code-2, code-3, code-4, code-5, code-6, code-7, code-8, code-9, code-10, code-11}
+use Rattle.two_runs.proofs.Sweeping.{inMode, code-2, code-3, code-4, code-5, code-6, code-7, code-8, code-9, code-10, code-11, code-12}
 
 -- ---- a test over a list tells of each element, or there is none at that index
 tested {ℓ} : {A : Type ℓ} (f : ℕ → A → Bool) (d : A) (xs : List A) (i : ℕ) → allIndexed f i xs ≡ true → (j : ℕ) →
@@ -287,7 +287,13 @@ module _ {P : Pairing} (none : (a : ℕ) → P a 0 0) {g : Layout} {z : State} {
         unless-refused 11 (marDue (z .rec) a b) (carriedOut (changeMar a b z)) (carriedOut (changeMar a b other))
         (λ _. carried 11 (changeMar a b z) (changeMar a b other) (code-11 a b z other q))
 
-    step-other : (k : ℕ) → 12 ≤ k → At k
+    step-12 : At 12
+    unfolding step commandDue accepted commandState
+    step-12 =
+        unless-refused 12 (freezeDue a) (carriedOut (changeFreeze a z)) (carriedOut (changeFreeze a other))
+        (λ _. carried 12 (changeFreeze a z) (changeFreeze a other) (code-12 a z other q))
+
+    step-other : (k : ℕ) → 13 ≤ k → At k
     step-other k h =
         let e₁ = other-code k a b v z h in let e₂ = other-code k a b v′ other h in
         rw (e₁, e₂) (record { number = refl; server = refl; answer = no-answer P k a b; bytes = refl; next = (g, q) })
@@ -296,4 +302,4 @@ module _ {P : Pairing} (none : (a : ℕ) → P a 0 0) {g : Layout} {z : State} {
     step-both k f =
         codes (λ (j : ℕ). (j ≡ 1 → (sizeOk a ≡ true → valueOk a v ≡ valueOk a v′) × Twins P b a (littleBytes v a) (littleBytes v′ a)) → At j)
         (λ _. step-0) (λ g. step-1 (g refl .0) (g refl .1)) (λ _. step-2) (λ _. step-3) (λ _. step-4) (λ _. step-5) (λ _. step-6) (λ _. step-7) (λ _. step-8)
-        (λ _. step-9) (λ _. step-10) (λ _. step-11) (λ j h _. step-other j h) k f
+        (λ _. step-9) (λ _. step-10) (λ _. step-11) (λ _. step-12) (λ j h _. step-other j h) k f

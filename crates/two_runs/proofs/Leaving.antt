@@ -9,6 +9,7 @@ use mathlib.Core.Path.{_≡_, refl, sym, ap, _∙_}
 use mathlib.Core.Logic.{⊎-elim}
 use mathlib.Core.List.{List}
 use native.Mathlib.Omega.{arith}
+use Rattle.model.specs.Laws.{cond-both}
 use Rattle.model.specs.Bytes.{stored, part}
 use Rattle.model.specs.Memories.{externalBase}
 use Rattle.model.specs.Lines.{l1dSetOf, l1dData, lineOf, l2Line, upperHalf}
@@ -21,7 +22,7 @@ use Rattle.agreement.proofs.Tables.{l2Store, line-same}
 use Rattle.agreement.proofs.Good.{l1d-hit, l2-hit}
 use Rattle.two_runs.proofs.Areas.{Pairing, Twins, Area, area-part, area-stored}
 use Rattle.two_runs.proofs.Held.{Exists, valid-exists, exists-put, replaces, held-lines}
-use Rattle.two_runs.proofs.Pair.{cond-both, Layout, Pair, Keeps, twin, lift, l1d-room, l2-room, emptyL1d-pair, emptyL2-pair, l2-put, high-pair, putMemory-pair}
+use Rattle.two_runs.proofs.Pair.{Layout, Pair, Keeps, twin, lift, l1d-room, l2-room, emptyL1d-pair, emptyL2-pair, l2-put, high-pair, putMemory-pair}
 
 -- the L2 line at b stands in slot t, v
 abbrev pub Holding : ℕ → ℕ → ℕ → State → Type 0

@@ -15,11 +15,11 @@ use Rattle.model.specs.Records.{State, withL1d, sramOf, wellFormed}
 use Rattle.model.specs.Homes.{memoryPart}
 use Rattle.model.specs.Refusals.{lowestDue, unless, multipleOf, lentL2, lentExternal, viewLentDue, placeOk, viewDue}
 use Rattle.model.specs.Calls.{viewCall}
-use Rattle.model.specs.Laws.{bool, both-true, lowestDue-none, unless-none}
+use Rattle.model.specs.Laws.{bool, both-true, lowestDue-none, unless-none, cond-both}
 use Rattle.model.specs.declared.Record.{Record}
 use Rattle.two_runs.specs.TwoRuns.{SameBytesBut, LineFor}
 use Rattle.two_runs.proofs.Areas.{Twins, area-part}
-use Rattle.two_runs.proofs.Pair.{cond-both, twin, one-record}
+use Rattle.two_runs.proofs.Pair.{twin, one-record}
 use Rattle.two_runs.proofs.Behaviour.{view-due}
 use Rattle.two_runs.proofs.Along.{Byte, Along, sram-area, ext-area}
 

@@ -19,19 +19,13 @@ use Rattle.model.specs.Lines.{l1dData, l2Sets, emptyLine, l1dUse, l2Use}
 use Rattle.model.specs.Records.{State, withRecord, withL1d, withL2, withExternal, sramOf, l2SetsOf, l2Data, l1dLineAt, l2LineAt, withL1dLine, withL2Line}
 use Rattle.model.specs.Ways.{useL1d, useL2, emptyL1d, emptyL2}
 use Rattle.model.specs.Homes.{memoryPart, putMemory}
-use Rattle.model.specs.Laws.{length-stored}
+use Rattle.model.specs.Laws.{length-stored, cond-both}
 use Rattle.model.specs.declared.Line.{Line}
 use Rattle.model.specs.declared.Record.{Record}
 use Rattle.agreement.proofs.Tables.{l1dStore, l2Store}
 use Rattle.agreement.proofs.Good.{slot-bound, l1d-apart, l2-apart, l1d-used-line, l2-used-line}
 use Rattle.two_runs.proofs.Areas.{Pairing, Twins, Area, area-part, area-stored, area-elsewhere}
 use Rattle.two_runs.proofs.Held.{replaces, Held, held-same, held-emptied, held-put}
-
--- ---- a choice by the same test in both runs
-pub cond-both {ℓ κ} : {A : Type ℓ} (R : A → A → Type κ) (b : Bool) (x y x′ y′ : A) → (b ≡ true → R x x′) → (b ≡ false → R y y′) →
-    R (cond b x y) (cond b x′ y′)
-cond-both R true x y x′ y′ f g = f refl
-cond-both R false x y x′ y′ f g = g refl
 
 -- ---- what only a mode change changes: S, the number of L2 sets, L, E
 pub record Layout : Type 0 where

@@ -15,14 +15,14 @@ use Rattle.model.specs.Lines.{l1dSetOf, l1dData, lineOf, l1dLine, l2Line, l2Set
 use Rattle.model.specs.Records.{State, l2SetsOf, l2SetOf, l2Data, l1dSetAt, l2SetAt, l1dLineAt, withL2Line}
 use Rattle.model.specs.Ways.{l1dVictim, l2Victim, l1dWay, l2Way, inL1d, inL2, useL1d, useL2}
 use Rattle.model.specs.Homes.{homeIsL2, memoryPart, putMemory, putL2, l2WayFor, evictL2, fillL2, bringL2, fetchL2, homeServer}
-use Rattle.model.specs.Access.{Access, access, cacheable, l1dBytes, readHit, homeLine, fillL1d, readFilled, readEmptied, readMiss, readAccess, putL1d, writeHit, writeHome, writeMiss, writeAccess, evictL1d}
-use Rattle.model.specs.Laws.{false-true, cond-elim, mode0-sets}
+use Rattle.model.specs.Access.{Access, access, cacheable, l1dBytes, useHit, readHit, homePart, fillL1d, readFilled, readEmptied, readThawed, readFrozen, readMiss, readAccess, putL1d, writeHit, writeHome, writeMiss, writeAccess, evictL1d}
+use Rattle.model.specs.Laws.{false-true, cond-elim, mode0-sets, cond-both}
 use Rattle.model.specs.declared.Line.{Line}
 use Rattle.agreement.proofs.Tables.{l2Store, line-same}
 use Rattle.agreement.proofs.Good.{l1dLevel, Hit, l1d-hit, l2-hit, l1d-victim-bound, l2-victim-bound, home-l2, l2-used-line}
 use Rattle.two_runs.proofs.Areas.{Pairing, Twins, no-twins, Area, area-part, area-stored, area-filled}
 use Rattle.two_runs.proofs.Held.{Exists, exists-used, exists-put}
-use Rattle.two_runs.proofs.Pair.{cond-both, Layout, Pair, Keeps, twin, one-record, lift, l1d-room, l2-room, useL1d-pair, useL2-pair, l1d-put, l2-put, memory-twins, putMemory-pair}
+use Rattle.two_runs.proofs.Pair.{Layout, Pair, Keeps, twin, one-record, lift, l1d-room, l2-room, useL1d-pair, useL2-pair, l1d-put, l2-put, memory-twins, putMemory-pair}
 use Rattle.two_runs.proofs.Leaving.{Holding, putL2-pair, evictL1d-both, evictL2-both}
 
 -- n bytes at a, in one line, in SRAM or in external memory
@@ -84,6 +84,14 @@ module _ {P : Pairing} {g : Layout} where
 
   useL1d-both : (s w : ℕ) → Keeps P g (useL1d s w)
   useL1d-both s w z = lift (Pair P g) (useL1d s w) z (λ d m e q. useL1d-pair q s w)
+
+  -- unless L1D is frozen, which is a part of the record
+  useHit-both : (s w : ℕ) → Keeps P g (useHit s w)
+  unfolding useHit
+  useHit-both s w z =
+      lift (Pair P g) (useHit s w) z
+      (λ d m e q. let z′ = twin z d m e in
+      cond-both (Pair P g) (z .rec .frozen) z (useL1d s w z) z′ (useL1d s w z′) (λ _. q) (λ _. useL1d-both s w z z′ q))
 
   -- ---- a way of L2 filled, used, both after what stood there left
   fill-has : {z : State} {d m e : List ℕ} → Pair P g z (twin z d m e) → (t v b : ℕ) → t < g .sets → v < 4 → b % 128 ≡ 0 → externalBase ≤ b →
@@ -150,24 +158,30 @@ module _ {P : Pairing} {g : Layout} where
   fetch-here {a} f z d m e q =
       subst (λ (t : ℕ). Fetched P g a t (l2WayFor z a) (fetchL2 a z) (fetchL2 a (twin z d m e))) (set-is q a) (fetchL2-pair f z d m e q)
 
-  -- ---- the line of a, from its home into way w of L1D; L2 has it in way v
-  homeLine-twins : {a n : ℕ} → Fits g a n → (v : ℕ) {z : State} {d m e : List ℕ} → Fetched P g a (setFor g a) v z (twin z d m e) →
-      Twins P (l1dLine a) 64 (homeLine v a z) (homeLine v a (twin z d m e))
-  unfolding homeLine
-  homeLine-twins {a} f v {z} {d} {m} {e} h =
-      let q = h .pair in let z′ = twin z d m e in let b = l1dLine a in let i = l2Data (z .rec) (l2SetOf (z .rec) a) v + b % 128 in
+  -- ---- k bytes at b, in the L1D line of a, from their home; L2 has the line in way v
+  homePart-twins : {a n : ℕ} → Fits g a n → (v b k : ℕ) → b / 64 ≡ a / 64 → b % 64 + k ≤ 64 → {z : State} {d m e : List ℕ} →
+      Fetched P g a (setFor g a) v z (twin z d m e) → Twins P b k (homePart v a b k z) (homePart v a b k (twin z d m e))
+  unfolding homePart
+  homePart-twins {a} f v b k same row {z} {d} {m} {e} h =
+      let q = h .pair in let z′ = twin z d m e in let i = l2Data (z .rec) (l2SetOf (z .rec) a) v + b % 128 in
       let c₀ = f .row in let c₁ = q .sizes .sramWhole in let c₂ = q .sizes .extWhole in let c₃ = f .more in
-      cond-both (Twins P b 64) (homeIsL2 (z .rec) a) (part (z .l2) i 64) (memoryPart b 64 z) (part m i 64) (memoryPart b 64 z′)
-      (λ k. let x = h .has (sym (home-is q a) ∙ k) in let s = set-is q a in
+      cond-both (Twins P b k) (homeIsL2 (z .rec) a) (part (z .l2) i k) (memoryPart b k z) (part m i k) (memoryPart b k z′)
+      (λ y. let x = h .has (sym (home-is q a) ∙ y) in let s = set-is q a in
       area-part (rw (← s) at (x .area)) (q .sizes .l2Same) (rw (← s) at (l2-room q (setFor g a) v (x .set) (x .way))) (b % 128)
       (omega arith) (omega arith) refl)
-      (λ _. memory-twins q b 64 (λ y. let c = f .low (omega arith) in omega arith) (λ y. let c = f .high (omega arith) in omega arith))
+      (λ _. memory-twins q b k (λ y. let c = f .low (omega arith) in omega arith) (λ y. let c = f .high (omega arith) in omega arith))
 
+  home-both : {a n : ℕ} → Fits g a n → (v b k : ℕ) → b / 64 ≡ a / 64 → b % 64 + k ≤ 64 → (z z′ : State) → Fetched P g a (setFor g a) v z z′ →
+      Twins P b k (homePart v a b k z) (homePart v a b k z′)
+  home-both {a} f v b k same row z z′ h =
+      one-record (Fetched P g a (setFor g a) v) (Twins P b k) (homePart v a b k) (homePart v a b k) z (λ d m e p. homePart-twins f v b k same row p) z′ (h .pair .same) h
+
+  -- the line of a comes into way w of L1D
   fillL1d-pair : {a n : ℕ} → Fits g a n → (w v : ℕ) → w < 2 → {z : State} {d m e : List ℕ} → Fetched P g a (setFor g a) v z (twin z d m e) →
       Filled P g w a (fillL1d w v a z) (fillL1d w v a (twin z d m e))
   unfolding fillL1d
   fillL1d-pair {a} f w v hw {z} {d} h =
-      let q = h .pair in let s = l1dSetOf a in let tw = homeLine-twins f v h in
+      let q = h .pair in let s = l1dSetOf a in let tw = homePart-twins f v (l1dLine a) 64 (omega arith) (omega arith) h in
       let c₀ = f .row in let c₁ = q .sizes .sramWhole in let c₂ = q .sizes .extWhole in let c₃ = f .more in
       let new = area-filled (z .l1d) d (q .sizes .l1dSame) (l1d-room q s w (omega arith) hw) tw in (
         l1d-put q s w 0 (lineOf (l1dLine a) false) (omega arith) hw (omega arith) (omega arith) tw
@@ -207,7 +221,10 @@ module _ {P : Pairing} {g : Layout} where
     readHit-pair : (z : State) (d m e : List ℕ) → Pair P g z (twin z d m e) → inL1d z a ≡ true →
         Accesses P g a n (readHit n a z) (readHit n a (twin z d m e))
     unfolding readHit l1dWay
-    readHit-pair z d m e q t = let w = l1dWay z a in let h = l1d-hit z a t in served f 1 w (h .way) z (twin z d m e) (q, hit-area q a w h)
+    readHit-pair z d m e q t =
+        let w = l1dWay z a in let h = l1d-hit z a t in let z′ = twin z d m e in
+        let r = served f 1 w (h .way) z z′ (q, hit-area q a w h) in
+        record { server = refl; bytes = r .bytes; next = useHit-both (l1dSetOf a) w z z′ q }
 
     readEmptied-pair : (w : ℕ) → w < 2 → (z : State) (d m e : List ℕ) → Pair P g z (twin z d m e) →
         Accesses P g a n (readEmptied w n a z) (readEmptied w n a (twin z d m e))
@@ -216,12 +233,25 @@ module _ {P : Pairing} {g : Layout} where
         let v = l2WayFor z a in let y = fetchL2 a z in let y′ = fetchL2 a (twin z d m e) in
         served f (homeServer a z) w hw (fillL1d w v a y) (fillL1d w v a y′) (filled f w v hw y y′ (fetch-here f z d m e q))
 
-    readMiss-pair : (z : State) (d m e : List ℕ) → Pair P g z (twin z d m e) → Accesses P g a n (readMiss n a z) (readMiss n a (twin z d m e))
-    unfolding readMiss
-    readMiss-pair z d m e q =
+    readThawed-pair : (z : State) (d m e : List ℕ) → Pair P g z (twin z d m e) → Accesses P g a n (readThawed n a z) (readThawed n a (twin z d m e))
+    unfolding readThawed
+    readThawed-pair z d m e q =
         let s = l1dSetOf a in let w = l1dVictim (l1dSetAt (z .rec) s) in let hw = l1d-victim-bound (l1dSetAt (z .rec) s) in
         lift (Accesses P g a n) (readEmptied w n a) (evictL1d s w z) (readEmptied-pair w hw (evictL1d s w z)) (evictL1d s w (twin z d m e))
         (evictL1d-both s w hw z (twin z d m e) q)
+
+    readFrozen-pair : (z : State) (d m e : List ℕ) → Pair P g z (twin z d m e) → Accesses P g a n (readFrozen n a z) (readFrozen n a (twin z d m e))
+    unfolding readFrozen homeServer inL2 l2Way l2WayFor
+    readFrozen-pair z d m e q =
+        let h = fetch-here f z d m e q in
+        record { server = refl; bytes = home-both f (l2WayFor z a) a n refl (f .row) (fetchL2 a z) (fetchL2 a (twin z d m e)) h; next = h .pair }
+
+    readMiss-pair : (z : State) (d m e : List ℕ) → Pair P g z (twin z d m e) → Accesses P g a n (readMiss n a z) (readMiss n a (twin z d m e))
+    unfolding readMiss
+    readMiss-pair z d m e q =
+        let z′ = twin z d m e in
+        cond-both (Accesses P g a n) (z .rec .frozen) (readFrozen n a z) (readThawed n a z) (readFrozen n a z′) (readThawed n a z′)
+        (λ _. readFrozen-pair z d m e q) (λ _. readThawed-pair z d m e q)
 
     readAccess-pair : (z : State) (d m e : List ℕ) → Pair P g z (twin z d m e) → Accesses P g a n (readAccess n a z) (readAccess n a (twin z d m e))
     unfolding readAccess inL1d l1dWay
@@ -255,7 +285,7 @@ module _ {P : Pairing} {g : Layout} where
           record {
             server = refl;
             bytes = no-twins P a;
-            next = useL1d-both (l1dSetOf a) w (putL1d w a bs z) (putL1d w a bs′ (twin z d m e)) (putL1d-pair z d m e q w (l1d-hit z a t));
+            next = useHit-both (l1dSetOf a) w (putL1d w a bs z) (putL1d w a bs′ (twin z d m e)) (putL1d-pair z d m e q w (l1d-hit z a t));
           }
 
       writeHome-pair : (v : ℕ) (z : State) (d m e : List ℕ) → Fetched P g a (setFor g a) v z (twin z d m e) →

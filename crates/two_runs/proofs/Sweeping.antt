@@ -14,16 +14,16 @@ use Rattle.model.specs.Records.{State, mode0, sramOf, l2SetsOf, l2SetOf, l2Line
 use Rattle.model.specs.Ways.{l1dWay, l2Way, inL1d, inL2, emptyL1d}
 use Rattle.model.specs.Homes.{writeOutL2, writebackL2, evictL2}
 use Rattle.model.specs.Access.{writebackL1d, evictL1d}
-use Rattle.model.specs.Modes.{smaller, flushL1d, flushL2, newMode, changeMode, changeMar}
+use Rattle.model.specs.Modes.{smaller, flushL1d, flushL2, newMode, changeMode, changeMar, changeFreeze}
 use Rattle.model.specs.Commands.{linesTouched, eachTouched, eachL2, atL2, atL1d, unlessMode0, evictAllL1d, l2WritebackAll, l2WritebackInvalidateAll, l2WritebackBlock, l2WritebackInvalidateBlock, dropL2, l2InvalidateBlock, l1dWritebackInvalidateBlock, l1dInvalidateBlock, l1dInvalidateAll}
-use Rattle.model.specs.Laws.{bool}
+use Rattle.model.specs.Laws.{bool, cond-both}
 use Rattle.agreement.proofs.Tables.{l1dStore, l2Store, fresh-line}
 use Rattle.agreement.proofs.Good.{l1d-hit, l2-hit, cache-whole}
 use Rattle.agreement.proofs.Tested.{legalL2-tells}
 use Rattle.agreement.proofs.Changes.{zero-length, zero-below, zero-above, smaller-bound, l1d-fresh, l2-fresh}
 use Rattle.two_runs.proofs.Areas.{Pairing, moved}
 use Rattle.two_runs.proofs.Held.{held-none}
-use Rattle.two_runs.proofs.Pair.{cond-both, Layout, Pair, Keeps, twin, lift}
+use Rattle.two_runs.proofs.Pair.{Layout, Pair, Keeps, twin, lift}
 use Rattle.two_runs.proofs.Leaving.{emptyL1d-both, emptyL2-both, writebackL1d-both, evictL1d-both, writeOutL2-both, writebackL2-both, evictL2-both}
 
 -- ---- a loop keeps what each of its turns keeps
@@ -133,6 +133,13 @@ module _ {P : Pairing} {g : Layout} where
   unfolding changeMar
   code-11 n b z =
       lift (Pair P g) (changeMar n b) z
+      (λ d m e q. record { same = refl; sizes = q .sizes; l1d = q .l1d; l2 = q .l2; sram = q .sram; ext = q .ext })
+
+  -- ---- the freeze
+  pub code-12 : (b : ℕ) → Keeps P g (changeFreeze b)
+  unfolding changeFreeze
+  code-12 b z =
+      lift (Pair P g) (changeFreeze b) z
       (λ d m e q. record { same = refl; sizes = q .sizes; l1d = q .l1d; l2 = q .l2; sram = q .sram; ext = q .ext })
 
   -- ---- a mode: first everything dirty goes out
