@@ -9,14 +9,14 @@ use mathlib.Core.List.{List}
 use native.Mathlib.Omega.{arith}
 use lib.Dec.{ltb, eqb}
 use borrow.Author.Tests.{lt-ltb, le-ltb}
-use Rattle.model.specs.Bytes.{part, stored}
+use Rattle.model.specs.Bytes.{part, stored, little}
 use Rattle.model.specs.Memories.{externalBase}
 use Rattle.model.specs.Laws.{bool, false-true, mode0-sets}
 use Rattle.model.specs.Lines.{l1dSetOf, l1dData, l1dLine, l2DataIn, l2SetIn, l2Line, lineOf, l2Use}
 use Rattle.model.specs.Records.{State, state, sramOf, l2SetsOf, mode0, l2SetOf, l2SetAt, l2LineAt, withL2Set, withL1dLine, withL2Line}
 use Rattle.model.specs.Ways.{l2Find, l2Victim, inL2, l2Way, useL2}
 use Rattle.model.specs.Homes.{homeIsL2, memoryPart, putMemory, putL2, l2WayFor, evictL2, fillL2, bringL2, fetchL2, homeServer}
-use Rattle.model.specs.Access.{homeLine, fillL1d, writeHome}
+use Rattle.model.specs.Access.{homePart, fillL1d, writeHome}
 use Rattle.model.specs.declared.Line.{Line}
 use Rattle.model.specs.declared.Record.{Record}
 use Rattle.tags.specs.Home.{home-sram, home-external, home-l2}
@@ -92,14 +92,14 @@ serves-brought z a k t b v u h ek n et lt eb ev l eu lu =
 pub filled-homed : (r q : Record) (l k m e : List ℕ) (a i w s n b to at off : ℕ) (h : Fetched) (x : Line) → i ≡ l1dSetOf a → s ≡ sramOf r → n ≡ l2SetsOf r → Found h a r →
     h .homed ≡ true → b ≡ l1dLine a → to ≡ l1dData i w → at ≡ l2DataIn s n (h .set) (h .way) → off ≡ b % 128 → k ≡ stored l to (part m (at + off) 64) →
     x ≡ lineOf b false → q ≡ withL1dLine r i w x → state q k m e ≡ fillL1d w (h .way) a (state r l m e)
-unfolding fillL1d homeLine
+unfolding fillL1d homePart
 filled-homed r q l k m e a i w s n b to at off h x ei es en f t eb eo ea ef ek ex eq =
     let o : homeIsL2 r a ≡ true = sym (f .0) ∙ t in let p = f .1 .0 t in rw (o, eq, ex, ek, ef, ea, eo, eb, es, en, p, ei) refl
 
 pub filled-external : (r q : Record) (l k m e : List ℕ) (a i w b to from : ℕ) (h : Fetched) (u : Line) → i ≡ l1dSetOf a → Found h a r → h .homed ≡ false → b ≡ l1dLine a →
     ltb b externalBase ≡ false → to ≡ l1dData i w → from ≡ b - externalBase → k ≡ stored l to (part e from 64) →
     u ≡ lineOf b false → q ≡ withL1dLine r i w u → state q k m e ≡ fillL1d w (h .way) a (state r l m e)
-unfolding fillL1d homeLine memoryPart
+unfolding fillL1d homePart memoryPart
 filled-external r q l k m e a i w b to from h u ei f t eb x eo ef ek eu eq =
     let o : homeIsL2 r a ≡ false = sym (f .0) ∙ t in let y : ltb (l1dLine a) externalBase ≡ false = rw (← eb) x in
     rw (o, y, eq, eu, ek, ef, eo, eb, ei) refl
@@ -107,10 +107,26 @@ filled-external r q l k m e a i w b to from h u ei f t eb x eo ef ek eu eq =
 pub filled-sram : (r q : Record) (l k m e : List ℕ) (a i w b to from : ℕ) (h : Fetched) (u : Line) → i ≡ l1dSetOf a → Found h a r → h .homed ≡ false → b ≡ l1dLine a →
     ltb b externalBase ≡ true → to ≡ l1dData i w → from ≡ b → k ≡ stored l to (part m from 64) →
     u ≡ lineOf b false → q ≡ withL1dLine r i w u → state q k m e ≡ fillL1d w (h .way) a (state r l m e)
-unfolding fillL1d homeLine memoryPart
+unfolding fillL1d homePart memoryPart
 filled-sram r q l k m e a i w b to from h u ei f t eb x eo ef ek eu eq =
     let o : homeIsL2 r a ≡ false = sym (f .0) ∙ t in let y : ltb (l1dLine a) externalBase ≡ true = rw (← eb) x in
     rw (o, y, eq, eu, ek, ef, eo, eb, ei) refl
+
+pub read-homed : (r : Record) (d m e : List ℕ) (a n s k at off v : ℕ) (h : Fetched) → s ≡ sramOf r → k ≡ l2SetsOf r → Found h a r → h .homed ≡ true →
+    at ≡ l2DataIn s k (h .set) (h .way) → off ≡ a % 128 → v ≡ little (part m (at + off) n) → v ≡ little (homePart (h .way) a a n (state r d m e))
+unfolding homePart
+read-homed r d m e a n s k at off v h es ek f t ea eo ev =
+    let o : homeIsL2 r a ≡ true = sym (f .0) ∙ t in let p = f .1 .0 t in rw (o, ev, ea, eo, es, ek, p) refl
+
+pub read-external : (r : Record) (d m e : List ℕ) (a n from v : ℕ) (h : Fetched) → Found h a r → h .homed ≡ false → ltb a externalBase ≡ false →
+    from ≡ a - externalBase → v ≡ little (part e from n) → v ≡ little (homePart (h .way) a a n (state r d m e))
+unfolding homePart memoryPart
+read-external r d m e a n from v h g t x eo ev = let o : homeIsL2 r a ≡ false = sym (g .0) ∙ t in rw (o, x, ev, eo) refl
+
+pub read-sram : (r : Record) (d m e : List ℕ) (a n from v : ℕ) (h : Fetched) → Found h a r → h .homed ≡ false → ltb a externalBase ≡ true →
+    from ≡ a → v ≡ little (part m from n) → v ≡ little (homePart (h .way) a a n (state r d m e))
+unfolding homePart memoryPart
+read-sram r d m e a n from v h g t x eo ev = let o : homeIsL2 r a ≡ false = sym (g .0) ∙ t in rw (o, x, ev, eo) refl
 
 pub wrote-homed : (r q : Record) (d m n e bs : List ℕ) (a s k at off : ℕ) (h : Fetched) (y x : Line) → s ≡ sramOf r → k ≡ l2SetsOf r → Found h a r → h .homed ≡ true →
     at ≡ l2DataIn s k (h .set) (h .way) → off ≡ a % 128 → n ≡ stored m (at + off) bs → y ≡ l2LineAt r (h .set) (h .way) →
@@ -131,8 +147,12 @@ wrote-sram r d m n e bs a to h g t x eo en = let o : homeIsL2 r a ≡ false = sy
 
 -- where L2 is not the home, its way is not asked for
 pub any-fill : (z : State) (b : Bool) (w v u a : ℕ) → b ≡ homeIsL2 (z .rec) a → (b ≡ true → v ≡ u) → fillL1d w v a z ≡ fillL1d w u a z
-unfolding fillL1d homeLine
+unfolding fillL1d homePart
 any-fill z b w v u a eb f = bool b (λ t. ap (λ (x : ℕ). fillL1d w x a z) (f t)) (λ t. let o : homeIsL2 (z .rec) a ≡ false = sym eb ∙ t in rw o refl)
+
+pub any-part : (z : State) (b : Bool) (v u a n : ℕ) → b ≡ homeIsL2 (z .rec) a → (b ≡ true → v ≡ u) → homePart v a a n z ≡ homePart u a a n z
+unfolding homePart
+any-part z b v u a n eb f = bool b (λ t. ap (λ (x : ℕ). homePart x a a n z) (f t)) (λ t. let o : homeIsL2 (z .rec) a ≡ false = sym eb ∙ t in rw o refl)
 
 pub any-write : (z : State) (b : Bool) (v u a : ℕ) (bs : List ℕ) → b ≡ homeIsL2 (z .rec) a → (b ≡ true → v ≡ u) → writeHome v a bs z ≡ writeHome u a bs z
 unfolding writeHome

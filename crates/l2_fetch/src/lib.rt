@@ -1,14 +1,14 @@
 // What lies behind L1D for an access (paper 01, "CPU reads and writes"): L2 finds or fetches the line, a way of L1D
-// is filled from it, the bytes of a write go there. Each function is the step of paper 01 itself, and all are total:
+// is filled from it (or, frozen, only the bytes of a read are taken), the bytes of a write go there. Each function is the step of paper 01 itself, and all are total:
 // they say what they do for every content of the record.
 ghost use mathlib.Core.Bool.{true, false};
 ghost use mathlib.Core.Path.{_≡_};
 ghost use mathlib.Core.List.{List};
 ghost use Prim.Native.Nat.{ℕ, _<_};
-ghost use Rattle.model.specs.Bytes.{littleBytes};
+ghost use Rattle.model.specs.Bytes.{little, littleBytes};
 ghost use Rattle.model.specs.Lines.{l1dSetOf};
 ghost use Rattle.model.specs.Homes.{bringL2, fetchL2};
-ghost use Rattle.model.specs.Access.{fillL1d, writeHome};
+ghost use Rattle.model.specs.Access.{homePart, fillL1d, writeHome};
 ghost use Rattle.model.specs.Refusals.{sizeOk};
 ghost use Rattle.tags.specs.Words.{recordIn, stateIn};
 ghost use Rattle.tags.specs.Sizes.{Lent};
@@ -146,6 +146,33 @@ pub fn fill_l1d(
         return;
     }
     memory::move64(l1d, to, l2, geometry::place_of(b));
+}
+
+// Just the n bytes at a, out of the home.
+pub fn read_home(
+    tags: &[u32],
+    sram: usize,
+    sets: usize,
+    h: Fetched,
+    a: u32,
+    n: u32,
+    l2: &[u8],
+    ext: &[u8],
+) -> u64
+    requires { ⌜ sizeOk n ≡ true ⌝ }
+    requires { ⌜ Lent sram sets (now tags) ⌝ }
+    requires { ⌜ Found h a (recordIn (now tags)) ⌝ }
+    ensures { λ r. ⌜ ((d : List ℕ) → r
+        ≡ little (homePart (h .way) a a n (stateIn (now (tags .entry)) d (now (l2 .entry)) (now (ext .entry))))) ⌝ }
+{
+    if h.homed {
+        let at = L2::data_at(sram, sets, h.set, h.way);
+        return memory::load(l2, at + L2::offset_of(a), n);
+    }
+    if geometry::is_external(a) {
+        return memory::load(ext, geometry::external_place(a), n);
+    }
+    memory::load(l2, geometry::place_of(a), n)
 }
 
 // The bytes of a write go to the home.
