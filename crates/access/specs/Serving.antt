@@ -1,7 +1,7 @@
 -- An access put together from its parts: a hit, a miss, past the caches; the number due. One law for each way through
 -- the code, over plain records and lists.
 use Prim.Native.Nat.{ℕ, _+_, _-_, _%_, _≤_, _<_}
-use mathlib.Core.Bool.{Bool, true, false, cond}
+use mathlib.Core.Bool.{Bool, true, false, cond, _||_}
 use mathlib.Core.Path.{_≡_, refl, sym, ap, _∙_}
 use mathlib.Core.Logic.{_≢_}
 use mathlib.Core.List.{List, []}
@@ -15,7 +15,7 @@ use Rattle.model.specs.Lines.{l1dSetOf, l1dData, l1dLine, lineOf, l1dUse}
 use Rattle.model.specs.Records.{State, state, sramOf, l2SetsOf, marBit, l1dSetAt, l1dLineAt, withL1dSet, withL1dLine}
 use Rattle.model.specs.Ways.{l1dFind, l1dVictim, inL1d, l1dWay, useL1d}
 use Rattle.model.specs.Homes.{memoryPart, putMemory, l2WayFor, fetchL2}
-use Rattle.model.specs.Access.{Access, access, cacheable, l1dBytes, evictL1d, fillL1d, putL1d, writeHome, readHit, readFilled, readEmptied, readMiss, readAccess, writeHit, writeMiss, writeAccess}
+use Rattle.model.specs.Access.{Access, access, cacheable, l1dBytes, evictL1d, fillL1d, putL1d, writeHome, homePart, useHit, readHit, readFilled, readEmptied, readThawed, readFrozen, readMiss, readAccess, writeHit, writeMiss, writeAccess}
 use Rattle.model.specs.Refusals.{sizeOk, multipleOf, placeOk, valueOk, accessDue, lowestDue, unless}
 use Rattle.model.specs.Calls.{Reply, reply, commandDue, readDone, writeDone, accepted, step}
 use Rattle.model.specs.declared.Line.{Line}
@@ -23,7 +23,7 @@ use Rattle.model.specs.declared.Record.{Record}
 use Rattle.model.specs.declared.Command.{Command}
 use Rattle.tags.specs.Sizes.{Same, same-evict-l1d}
 use Rattle.l2_fetch.specs.declared.Fetched.{Fetched}
-use Rattle.l2_fetch.specs.Fetching.{Serves, found-next, any-fill, any-write}
+use Rattle.l2_fetch.specs.Fetching.{Serves, found-next, any-fill, any-part, any-write}
 
 -- ---- what contracts say with these
 -- what a command answers that is a write (y) or a read (x): as `writeDone` and `readDone` of Calls say it
@@ -40,57 +40,99 @@ pub used : (r p : Record) (l m e : List ℕ) (a i w : ℕ) → i ≡ l1dSetOf a 
 unfolding useL1d
 used r p l m e a i w ei ep = rw (ep, ei) refl
 
+pub hit-frozen : (r : Record) (l m e : List ℕ) (i w : ℕ) (b : Bool) → b ≡ r .frozen → b ≡ true → state r l m e ≡ useHit i w (state r l m e)
+unfolding useHit
+hit-frozen r l m e i w b eb t = cond-true (r .frozen) (state r l m e) (useL1d i w (state r l m e)) (sym eb ∙ t)
+
+pub hit-used : (r p : Record) (l m e : List ℕ) (i w : ℕ) (b : Bool) → b ≡ r .frozen → b ≡ false → p ≡ withL1dSet r i (l1dUse (l1dSetAt r i) w) →
+    state p l m e ≡ useHit i w (state r l m e)
+unfolding useHit useL1d
+hit-used r p l m e i w b eb t ep =
+    let x = state (withL1dSet r i (l1dUse (l1dSetAt r i) w)) l m e in
+    ap (λ (q : Record). state q l m e) ep ∙ cond-false (r .frozen) (state r l m e) x (sym eb ∙ t)
+
 pub bytes-of : (r : Record) (l m e : List ℕ) (a n i w at off v : ℕ) → i ≡ l1dSetOf a → at ≡ l1dData i w → off ≡ a % 64 → v ≡ little (part l (at + off) n) →
     v ≡ little (l1dBytes w a n (state r l m e))
 bytes-of r l m e a n i w at off v ei ea eo ev = rw (ev, ea, eo, ei) refl
 
-pub changed : (r q p : Record) (l k m e bs : List ℕ) (a i w at off : ℕ) (y x : Line) → i ≡ l1dSetOf a → at ≡ l1dData i w → off ≡ a % 64 → k ≡ stored l (at + off) bs →
-    y ≡ l1dLineAt r i w → x ≡ lineOf (y .address) true → q ≡ withL1dLine r i w x → p ≡ withL1dSet q i (l1dUse (l1dSetAt q i) w) →
-    state p k m e ≡ useL1d (l1dSetOf a) w (putL1d w a bs (state r l m e))
-unfolding useL1d putL1d
-changed r q p l k m e bs a i w at off y x ei ea eo ek ey ex eq ep = rw (ep, eq, ex, ey, ek, ea, eo, ei) refl
+pub changed : (r q : Record) (l k m e bs : List ℕ) (a i w at off : ℕ) (y x : Line) → i ≡ l1dSetOf a → at ≡ l1dData i w → off ≡ a % 64 → k ≡ stored l (at + off) bs →
+    y ≡ l1dLineAt r i w → x ≡ lineOf (y .address) true → q ≡ withL1dLine r i w x → state q k m e ≡ putL1d w a bs (state r l m e)
+unfolding putL1d
+changed r q l k m e bs a i w at off y x ei ea eo ek ey ex eq = rw (eq, ex, ey, ek, ea, eo, ei) refl
 
-pub hit-write : (c : Command) (z y : State) (w : ℕ) → c .code ≡ 1 → w ≡ l1dWay z (c .second) →
-    y ≡ useL1d (l1dSetOf (c .second)) w (putL1d w (c .second) (littleBytes (c .value) (c .first)) z) →
+-- z₁: the bytes changed; y: the way used
+pub hit-write : (c : Command) (z z₁ y : State) (i w : ℕ) → c .code ≡ 1 → i ≡ l1dSetOf (c .second) → w ≡ l1dWay z (c .second) →
+    z₁ ≡ putL1d w (c .second) (littleBytes (c .value) (c .first)) z → y ≡ useHit i w z₁ →
     reply 0 1 0 y ≡ answered c (readHit (c .first) (c .second) z) (writeHit (c .second) (littleBytes (c .value) (c .first)) z)
 unfolding writeHit
-hit-write c z y w d ew e = rw (eq-eqb (c .code) 1 d, e, ew) refl
+hit-write c z z₁ y i w d ei ew e₁ e = rw (eq-eqb (c .code) 1 d, e, e₁, ei, ew) refl
 
-pub hit-read : (c : Command) (z y : State) (w v : ℕ) → c .code ≢ 1 → w ≡ l1dWay z (c .second) → v ≡ little (l1dBytes w (c .second) (c .first) z) →
-    y ≡ useL1d (l1dSetOf (c .second)) w z →
+pub hit-read : (c : Command) (z y : State) (i w v : ℕ) → c .code ≢ 1 → i ≡ l1dSetOf (c .second) → w ≡ l1dWay z (c .second) → v ≡ little (l1dBytes w (c .second) (c .first) z) →
+    y ≡ useHit i w z →
     reply 0 1 v y ≡ answered c (readHit (c .first) (c .second) z) (writeHit (c .second) (littleBytes (c .value) (c .first)) z)
 unfolding readHit
-hit-read c z y w v d ew ev e = rw (ne-eqb (c .code) 1 d, ev, e, ew) refl
+hit-read c z y i w v d ei ew ev e = rw (ne-eqb (c .code) 1 d, ev, e, ei, ew) refl
 
--- a read miss makes room, a write miss does not
+-- ---- a miss. A thawed read miss makes room, no other does
 pub same-room : (b : Bool) (i w : ℕ) (z : State) → Same (cond b z (evictL1d i w z)) z
 same-room b i w z = cond-elim (λ (y : State). Same y z) b z (evictL1d i w z) (λ _. (refl, refl)) (λ _. same-evict-l1d i w z)
 
 pub room-made : (b : Bool) (z y : State) (i w v : ℕ) → b ≡ false → w ≡ v → y ≡ evictL1d i w z → y ≡ cond b z (evictL1d i v z)
 room-made b z y i w v h ew e = rw (h, e, ew) refl
 
-pub miss-write : (c : Command) (z₀ z v y x : State) (h : Fetched) → eqb (c .code) 1 ≡ true → z ≡ cond (eqb (c .code) 1) z₀ v → Serves h (c .second) z →
+or-true : (a b : Bool) → b ≡ true → (a || b) ≡ true
+or-true true b e = refl
+or-true false b e = e
+
+-- z: room was made, or not; y: L2 has served; x: the bytes went home
+pub miss-write : (c : Command) (z₀ z v y x : State) (f : Bool) (h : Fetched) → eqb (c .code) 1 ≡ true → z ≡ cond (eqb (c .code) 1 || f) z₀ v → Serves h (c .second) z →
     y ≡ fetchL2 (c .second) z → l2SetsOf (y .rec) ≡ l2SetsOf (z .rec) → x ≡ writeHome (h .way) (c .second) (littleBytes (c .value) (c .first)) y →
     reply 0 (h .server) 0 x ≡ answered c (readMiss (c .first) (c .second) z₀) (writeMiss (c .second) (littleBytes (c .value) (c .first)) z₀)
 unfolding writeMiss
-miss-write c z₀ z v y x h d ez s e k ex =
-    let f = found-next h (c .second) (z .rec) (y .rec) k (s .0) in
-    let g = any-write y (h .homed) (h .way) (l2WayFor z (c .second)) (c .second) (littleBytes (c .value) (c .first)) (f .0) (s .1 .0) in
-    let o : z ≡ z₀ = ez ∙ sym (cond-true (eqb (c .code) 1) z₀ v d) in
-    rw (d, ex, g, s .1 .1, e, o) refl
+miss-write c z₀ z v y x f h d ez s e k ex =
+    let g = found-next h (c .second) (z .rec) (y .rec) k (s .0) in
+    let p = any-write y (h .homed) (h .way) (l2WayFor z (c .second)) (c .second) (littleBytes (c .value) (c .first)) (g .0) (s .1 .0) in
+    let o : z ≡ z₀ = ez ∙ ap (λ (b : Bool). cond (b || f) z₀ v) d in
+    rw (d, ex, p, s .1 .1, e, o) refl
 
-pub miss-read : (c : Command) (z₀ z y x u : State) (h : Fetched) (i w v : ℕ) → eqb (c .code) 1 ≡ false → i ≡ l1dSetOf (c .second) →
-    (eqb (c .code) 1 ≡ false → w ≡ l1dVictim (l1dSetAt (z₀ .rec) i)) →
-    z ≡ cond (eqb (c .code) 1) z₀ (evictL1d i (l1dVictim (l1dSetAt (z₀ .rec) i)) z₀) → Serves h (c .second) z → y ≡ fetchL2 (c .second) z →
+-- an accepted read is answered as a read miss is
+read-answered : (c : Command) (z : State) (k v : ℕ) (u : State) → eqb (c .code) 1 ≡ false →
+    reply 0 k v u ≡ reply 0 (readMiss (c .first) (c .second) z .server) (little (readMiss (c .first) (c .second) z .bytes)) (readMiss (c .first) (c .second) z .next) →
+    reply 0 k v u ≡ answered c (readMiss (c .first) (c .second) z) (writeMiss (c .second) (littleBytes (c .value) (c .first)) z)
+read-answered c z k v u d e = e ∙ cond-false (eqb (c .code) 1) _ _ d
+
+abbrev replied : Access → Reply
+replied x = reply 0 (x .server) (little (x .bytes)) (x .next)
+
+pub miss-frozen : (c : Command) (z₀ z v y : State) (f : Bool) (h : Fetched) (n : ℕ) → eqb (c .code) 1 ≡ false → f ≡ z₀ .rec .frozen → f ≡ true →
+    z ≡ cond (eqb (c .code) 1 || f) z₀ v → Serves h (c .second) z → y ≡ fetchL2 (c .second) z → l2SetsOf (y .rec) ≡ l2SetsOf (z .rec) →
+    n ≡ little (homePart (h .way) (c .second) (c .second) (c .first) y) →
+    reply 0 (h .server) n y ≡ answered c (readMiss (c .first) (c .second) z₀) (writeMiss (c .second) (littleBytes (c .value) (c .first)) z₀)
+unfolding readMiss readFrozen
+miss-frozen c z₀ z v y f h n d ef t ez s e k en =
+    let a = c .second in
+    let g = found-next h a (z .rec) (y .rec) k (s .0) in
+    let p = any-part y (h .homed) (h .way) (l2WayFor z a) a (c .first) (g .0) (s .1 .0) in
+    let o : z ≡ z₀ = ez ∙ sym (cond-true (eqb (c .code) 1 || f) z₀ v (or-true (eqb (c .code) 1) f t)) in
+    let q : reply 0 (h .server) n y ≡ replied (readFrozen (c .first) a z₀) = rw (en, p, s .1 .1, e, o) refl in
+    read-answered c z₀ (h .server) n y d (q ∙ ap replied (cond-true (z₀ .rec .frozen) (readFrozen (c .first) a z₀) (readThawed (c .first) a z₀) (sym ef ∙ t)))
+
+pub miss-read : (c : Command) (z₀ z y x u : State) (f : Bool) (h : Fetched) (i w v : ℕ) → eqb (c .code) 1 ≡ false → f ≡ z₀ .rec .frozen → f ≡ false → i ≡ l1dSetOf (c .second) →
+    ((eqb (c .code) 1 || f) ≡ false → w ≡ l1dVictim (l1dSetAt (z₀ .rec) i)) →
+    z ≡ cond (eqb (c .code) 1 || f) z₀ (evictL1d i (l1dVictim (l1dSetAt (z₀ .rec) i)) z₀) → Serves h (c .second) z → y ≡ fetchL2 (c .second) z →
     l2SetsOf (y .rec) ≡ l2SetsOf (z .rec) → x ≡ fillL1d w (h .way) (c .second) y → v ≡ little (l1dBytes w (c .second) (c .first) x) →
     u ≡ useL1d (l1dSetOf (c .second)) w x →
     reply 0 (h .server) v u ≡ answered c (readMiss (c .first) (c .second) z₀) (writeMiss (c .second) (littleBytes (c .value) (c .first)) z₀)
-unfolding readMiss readEmptied readFilled
-miss-read c z₀ z y x u h i w v d ei ew ez s e k ex ev eu =
-    let f = found-next h (c .second) (z .rec) (y .rec) k (s .0) in
-    let g = any-fill y (h .homed) w (h .way) (l2WayFor z (c .second)) (c .second) (f .0) (s .1 .0) in
-    let o : z ≡ evictL1d i (l1dVictim (l1dSetAt (z₀ .rec) i)) z₀ = ez ∙ sym (cond-false (eqb (c .code) 1) z₀ (evictL1d i (l1dVictim (l1dSetAt (z₀ .rec) i)) z₀) d) in
-    rw (d, eu, ev, ex, g, s .1 .1, e, o, ew d, ei) refl
+unfolding readMiss readThawed readEmptied readFilled
+miss-read c z₀ z y x u f h i w v d ef t ei ew ez s e k ex ev eu =
+    let a = c .second in
+    let none : (eqb (c .code) 1 || f) ≡ false = rw (d, t) refl in
+    let g = found-next h a (z .rec) (y .rec) k (s .0) in
+    let p = any-fill y (h .homed) w (h .way) (l2WayFor z a) a (g .0) (s .1 .0) in
+    let z₁ = evictL1d i (l1dVictim (l1dSetAt (z₀ .rec) i)) z₀ in
+    let o : z ≡ z₁ = ez ∙ sym (cond-false (eqb (c .code) 1 || f) z₀ z₁ none) in
+    let q : reply 0 (h .server) v u ≡ replied (readThawed (c .first) a z₀) = rw (eu, ev, ex, p, s .1 .1, e, o, ew none, ei) refl in
+    read-answered c z₀ (h .server) v u d (q ∙ ap replied (cond-false (z₀ .rec .frozen) (readFrozen (c .first) a z₀) (readThawed (c .first) a z₀) (sym ef ∙ t)))
 
 -- ---- the whole
 pub uncached-write : (c : Command) (z : State) (e f : List ℕ) (to : ℕ) → c .code ≡ 1 → ltb (c .second) externalBase ≡ false → z .ext ≡ e → to ≡ c .second - externalBase →

@@ -12,11 +12,12 @@ ghost use Rattle.model.specs.Bytes.{little, littleBytes};
 ghost use Rattle.model.specs.Lines.{l1dSetOf};
 ghost use Rattle.model.specs.Memories.{externalBase};
 ghost use Rattle.model.specs.Records.{State, state, l1dSetAt};
-ghost use Rattle.model.specs.Ways.{l1dVictim, l1dWay, useL1d};
+ghost use Rattle.model.specs.Ways.{l1dVictim, l1dWay};
 ghost use Rattle.model.specs.Homes.{memoryPart, putMemory};
-ghost use Rattle.model.specs.Access.{access, cacheable, l1dBytes, evictL1d, putL1d, readHit, writeHit, readMiss, writeMiss};
+ghost use Rattle.model.specs.Access.{access, cacheable, l1dBytes, useHit, evictL1d, putL1d, readHit, writeHit, readMiss, writeMiss};
 ghost use Rattle.model.specs.Refusals.{sizeOk};
 ghost use Rattle.model.specs.Calls.{reply, step};
+ghost use Rattle.model.specs.declared.Record.{Record};
 ghost use Rattle.tags.specs.Words.{recordWords, recordIn, stateIn};
 ghost use Rattle.tags.specs.Sizes.{Lent};
 ghost use Rattle.access.specs.Serving.{answered};
@@ -34,29 +35,34 @@ pub struct Answer {
 }
 
 // ---- a way of L1D serves
-// Its bytes, the way used.
-pub fn read_way(tags: &mut [u32], i: usize, w: usize, a: u32, n: u32, l1d: &[u8]) -> u64
-    requires { ⌜ ((i < 128) × (w < 2)) × (length (now tags) ≡ recordWords) ⌝ }
-    requires { ⌜ (i ≡ l1dSetOf a) × (sizeOk n ≡ true) ⌝ }
-    ensures { λ r. ⌜ ((m e : List ℕ) → r
-        ≡ little (l1dBytes w a n (stateIn (now (tags .entry)) (now (l1d .entry)) m e))) ⌝ }
-    ensures { λ _. ⌜ ((m e : List ℕ) → stateIn (now (tags .exit)) (now (l1d .entry)) m e
-        ≡ useL1d (l1dSetOf a) w (stateIn (now (tags .entry)) (now (l1d .entry)) m e)) ⌝ }
+// The n bytes at a of the line in way w of L1D set i.
+pub fn way_value(i: usize, w: usize, a: u32, n: u32, l1d: &[u8]) -> u64
+    requires { ⌜ ((i < 128) × (w < 2)) × ((i ≡ l1dSetOf a) × (sizeOk n ≡ true)) ⌝ }
+    ensures { λ v. ⌜ ((r : Record) (m e : List ℕ) → v ≡ little (l1dBytes w a n (state r (now (l1d .entry)) m e))) ⌝ }
 {
-    tags::l1d_use(tags, i, w);
     memory::load(l1d, L1d::data_at(i, w) + L1d::offset_of(a), n)
 }
 
-// Bytes changed, line dirty, way used.
-pub fn write_way(tags: &mut [u32], i: usize, w: usize, a: u32, n: u32, v: u64, l1d: &mut [u8])
+// Bytes changed, line dirty.
+pub fn put_way(tags: &mut [u32], i: usize, w: usize, a: u32, n: u32, v: u64, l1d: &mut [u8])
     requires { ⌜ ((i < 128) × (w < 2)) × (length (now tags) ≡ recordWords) ⌝ }
     requires { ⌜ (i ≡ l1dSetOf a) × (sizeOk n ≡ true) ⌝ }
     ensures { λ _. ⌜ ((m e : List ℕ) → stateIn (now (tags .exit)) (now (l1d .exit)) m e
-        ≡ useL1d (l1dSetOf a) w (putL1d w a (littleBytes v n) (stateIn (now (tags .entry)) (now (l1d .entry)) m e))) ⌝ }
+        ≡ putL1d w a (littleBytes v n) (stateIn (now (tags .entry)) (now (l1d .entry)) m e)) ⌝ }
 {
     memory::store(l1d, L1d::data_at(i, w) + L1d::offset_of(a), n, v);
     let y = tags::l1d_line(tags, i, w);
     tags::l1d_put(tags, i, w, geometry::line_at(y.address, true));
+}
+
+// The way that was hit is used, unless L1D is frozen.
+pub fn use_hit(tags: &mut [u32], i: usize, w: usize)
+    requires { ⌜ ((i < 128) × (w < 2)) × (length (now tags) ≡ recordWords) ⌝ }
+    ensures { λ _. ⌜ ((d m e : List ℕ) → stateIn (now (tags .exit)) d m e ≡ useHit i w (stateIn (now (tags .entry)) d m e)) ⌝ }
+{
+    if tags::frozen_of(tags) {
+        return;
+    }
     tags::l1d_use(tags, i, w);
 }
 
@@ -70,32 +76,35 @@ pub fn hit(tags: &mut [u32], i: usize, w: usize, c: Command, l1d: &mut [u8]) -> 
         (writeHit (c .second) (littleBytes (c .value) (c .first)) (stateIn (now (tags .entry)) (now (l1d .entry)) m e))) ⌝ }
 {
     if c.code == 1 {
-        write_way(tags, i, w, c.second, c.first, c.value, l1d);
+        put_way(tags, i, w, c.second, c.first, c.value, l1d);
+        use_hit(tags, i, w);
         return 0;
     }
-    read_way(tags, i, w, c.second, c.first, l1d)
+    use_hit(tags, i, w);
+    way_value(i, w, c.second, c.first, l1d)
 }
 
-// ---- a miss A read miss chooses a way of L1D set i; a dirty line there is written back to its home and the way
-// emptied. A write miss chooses none.
+// ---- a miss
+// A read miss chooses a way of L1D set i; a dirty line there is written back to its home and the way emptied. A write
+// miss chooses none, and neither does a read miss where L1D is frozen.
 pub fn free_way(
     tags: &mut [u32],
     sram: usize,
     sets: usize,
     i: usize,
-    write: bool,
+    none: bool,
     l1d: &[u8],
     l2: &mut [u8],
     ext: &mut [u8],
 ) -> usize
     requires { ⌜ i < 128 ⌝ }
     requires { ⌜ Lent sram sets (now tags) ⌝ }
-    ensures { λ r. ⌜ (r < 2) × (write ≡ false → r ≡ l1dVictim (l1dSetAt (recordIn (now (tags .entry))) i)) ⌝ }
+    ensures { λ r. ⌜ (r < 2) × (none ≡ false → r ≡ l1dVictim (l1dSetAt (recordIn (now (tags .entry))) i)) ⌝ }
     ensures { λ _. ⌜ stateIn (now (tags .exit)) (now (l1d .entry)) (now (l2 .exit)) (now (ext .exit))
-        ≡ cond write (stateIn (now (tags .entry)) (now (l1d .entry)) (now (l2 .entry)) (now (ext .entry)))
+        ≡ cond none (stateIn (now (tags .entry)) (now (l1d .entry)) (now (l2 .entry)) (now (ext .entry)))
         (evictL1d i (l1dVictim (l1dSetAt (recordIn (now (tags .entry))) i)) (stateIn (now (tags .entry)) (now (l1d .entry)) (now (l2 .entry)) (now (ext .entry)))) ⌝ }
 {
-    if write {
+    if none {
         return 0;
     }
     let w = tags::l1d_victim(tags, i);
@@ -121,7 +130,8 @@ pub fn miss(
         (writeMiss (c .second) (littleBytes (c .value) (c .first)) (stateIn (now (tags .entry)) (now (l1d .entry)) (now (l2 .entry)) (now (ext .entry)))) ⌝ }
 {
     let write = c.code == 1;
-    let w = free_way(tags, sram, sets, i, write, l1d, l2, ext);
+    let frozen = tags::frozen_of(tags);
+    let way = free_way(tags, sram, sets, i, write | frozen, l1d, l2, ext);
     let h = l2_fetch::fetch_l2(tags, sram, sets, c.second, l1d, l2, ext);
     if write {
         l2_fetch::write_home(tags, sram, sets, h, c.second, c.first, c.value, l2, ext);
@@ -131,8 +141,17 @@ pub fn miss(
             value: 0,
         };
     }
-    l2_fetch::fill_l1d(tags, sram, sets, h, i, w, c.second, l1d, l2, ext);
-    let v = read_way(tags, i, w, c.second, c.first, l1d);
+    if frozen {
+        let v = l2_fetch::read_home(tags, sram, sets, h, c.second, c.first, l2, ext);
+        return Answer {
+            number: 0,
+            server: h.server,
+            value: v,
+        };
+    }
+    l2_fetch::fill_l1d(tags, sram, sets, h, i, way, c.second, l1d, l2, ext);
+    tags::l1d_use(tags, i, way);
+    let v = way_value(i, way, c.second, c.first, l1d);
     Answer {
         number: 0,
         server: h.server,
@@ -140,8 +159,9 @@ pub fn miss(
     }
 }
 
-// ---- the whole Both bits are read first: the tests then choose between values and not between loads, which the
-// whole loop is faster for.
+// ---- the whole
+// Both bits are read first: the tests then choose between values and not between loads, which the whole loop is
+// faster for.
 pub fn is_cacheable(tags: &[u32], a: u32) -> bool
     requires { ⌜ length (now tags) ≡ recordWords ⌝ }
     ensures { λ r. ⌜ r ≡ cacheable (recordIn (now (tags .entry))) a ⌝ }

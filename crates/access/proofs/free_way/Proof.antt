@@ -20,7 +20,7 @@ returns : tie.Need-returns
 returns c =
     let p-start = c .before .before .before .before .before in
     let a = p-start .args in let k = p-start .pre in let r = recordIn (a .tags .now) in let z = state r (a .l1d .now) (a .l2 .now) (a .ext .now) in
-    ((omega arith, λ q. false-true (sym q ∙ (c .if1) .taken)), cond-true (a .write) z (evictL1d (a .i) (l1dVictim (l1dSetAt r (a .i))) z) ((c .if1) .taken))
+    ((omega arith, λ q. false-true (sym q ∙ (c .if1) .taken)), cond-true (a .none) z (evictL1d (a .i) (l1dVictim (l1dSetAt r (a .i))) z) ((c .if1) .taken))
 
 -- src/lib.rt:148:9
 l1d-victim-requires : tie.Need-l1d-victim-requires
@@ -51,7 +51,7 @@ returns-2 c =
     let a = p-start .args in let k = p-start .pre in let r = recordIn (a .tags .now) in let z = state r (a .l1d .now) (a .l2 .now) (a .ext .now) in
     let g = (p-evict-l1d .evict-l1d) in (
       ((p-l1d-victim .l1d-victim) .ensures .1, λ _. (p-l1d-victim .l1d-victim) .ensures .0),
-      room-made (a .write) z (state (recordIn (g .last .0)) (a .l1d .now) (g .last .1 .1 .1 .1 .1 .1 .0) (g .last .1 .1 .1 .1 .1 .1 .1 .0)) (a .i) ((p-l1d-victim .l1d-victim) .result) (l1dVictim (l1dSetAt r (a .i))) ((p-if1 .if1) .left) ((p-l1d-victim .l1d-victim) .ensures .0) (g .ensures),
+      room-made (a .none) z (state (recordIn (g .last .0)) (a .l1d .now) (g .last .1 .1 .1 .1 .1 .1 .0) (g .last .1 .1 .1 .1 .1 .1 .1 .0)) (a .i) ((p-l1d-victim .l1d-victim) .result) (l1dVictim (l1dSetAt r (a .i))) ((p-if1 .if1) .left) ((p-l1d-victim .l1d-victim) .ensures .0) (g .ensures),
     )
 
 pub free-way-spec : {M : Type 1} → statement M

@@ -1,62 +1,60 @@
+-- `access::hit` meets its contract: a write changes the way, both use it (`hit-write`, `hit-read`). Assumes nothing.
 use Rattle.access.specs.Serving.{hit-write, hit-read}
 use Rattle.tags.specs.Words.{recordIn}
 use Rattle.model.specs.Records.{state}
 use borrow.Author.Needs.{needs}
 use Rattle.access.proofs.hit.Statement.{statement}
 use Rattle.access.proofs.hit.Tie as tie
-use Rattle.access.proofs.hit.Reads as reads
-use Rattle.access.proofs.hit.Lts as lts
-use Rattle.access.proofs.read_way.Reads as read-way-reads
-use Rattle.access.proofs.write_way.Reads as write-way-reads
 
--- src/lib.rt:129:9
-write-way-requires : tie.Need-write-way-requires
-write-way-requires c κs = search needs
+put-way-requires : tie.Need-put-way-requires
+put-way-requires c κs = search needs
 
--- src/lib.rt:130:9
+use-hit-requires : tie.Need-use-hit-requires
+use-hit-requires c κs = search needs
+
 same-length : tie.Need-same-length
 same-length c = search needs
 
--- src/lib.rt:130:9
 same-length-2 : tie.Need-same-length-2
 same-length-2 c = search needs
 
--- src/lib.rt:130:9
 returns : tie.Need-returns
 returns c =
-    let p-write-way = c .before .before .before .before in let p-if1 = p-write-way .before .before .before in
-    let p-start = p-if1 .before .before .before .before in
-    let a = p-start .args in let g = (p-write-way .write-way) in
-    λ m e q. hit-write (a .c) (state (recordIn (a .tags .now)) (a .l1d .now) m e) (state (recordIn (g .last .0)) (g .last .1 .1 .1 .1 .1 .1 .0) m e) (a .w) ((p-if1 .if1) .taken) q (g .ensures m e)
+    let p-use-hit = c .before .before in let p-put-way = p-use-hit .before .before .before .before .before .before in let p-if1 = p-put-way .before .before .before in let p-start = p-if1 .before .before .before .before in
+    let a = (p-start .args) in let g = (p-put-way .put-way) in let d = g .last .1 .1 .1 .1 .1 .1 .0 in
+    λ m e q. hit-write (a .c) (state (recordIn (a .tags .now)) (a .l1d .now) m e) (state (recordIn (g .last .0)) d m e) (state (recordIn ((p-use-hit .use-hit) .last .0)) d m e)
+    (a .i) (a .w) ((p-if1 .if1) .taken) ((p-start .pre) .1 .0) q (g .ensures m e) ((p-use-hit .use-hit) .ensures d m e)
 
--- src/lib.rt:132:5
-read-way-requires : tie.Need-read-way-requires
-read-way-requires c κs = search needs
+use-hit-requires-2 : tie.Need-use-hit-requires-2
+use-hit-requires-2 c κs = search needs
 
--- src/lib.rt:120:1
+way-value-requires : tie.Need-way-value-requires
+way-value-requires c κs = search needs
+
 same-length-3 : tie.Need-same-length-3
 same-length-3 c = search needs
 
--- src/lib.rt:120:1
 same-length-4 : tie.Need-same-length-4
 same-length-4 c = search needs
 
--- src/lib.rt:120:1
 returns-2 : tie.Need-returns-2
 returns-2 c =
-    let p-if1 = c .before .before .before .before .before in let p-start = p-if1 .before .before .before .before in
-    let a = p-start .args in let g = (c .before .before .read-way) in
-    λ m e q. hit-read (a .c) (state (recordIn (a .tags .now)) (a .l1d .now) m e) (state (recordIn (g .last .0)) (a .l1d .now) m e) (a .w) (g .result) ((p-if1 .if1) .left) q (g .ensures .0 m e) (g .ensures .1 m e)
+    let p-way-value = c in let p-use-hit2 = p-way-value .before .before .before .before in let p-if1 = p-use-hit2 .before .before in let p-start = p-if1 .before .before .before .before in
+    let a = (p-start .args) in let r = recordIn (a .tags .now) in
+    λ m e q. hit-read (a .c) (state r (a .l1d .now) m e) (state (recordIn ((p-use-hit2 .use-hit2) .last .0)) (a .l1d .now) m e) (a .i) (a .w) ((p-way-value .way-value) .result)
+    ((p-if1 .if1) .left) ((p-start .pre) .1 .0) q ((p-way-value .way-value) .ensures r m e) ((p-use-hit2 .use-hit2) .ensures (a .l1d .now) m e)
 
 pub hit-spec : {M : Type 1} → statement M
 hit-spec =
     tie.close
     (tie.spec
-    write-way-requires
+    put-way-requires
+    use-hit-requires
     same-length
     same-length-2
     returns
-    read-way-requires
+    use-hit-requires-2
+    way-value-requires
     same-length-3
     same-length-4
     returns-2)
