@@ -11,8 +11,8 @@ use Rattle.model.specs.Basics.{each}
 use Rattle.model.specs.Memories.{isMode}
 use Rattle.model.specs.Records.{State}
 use Rattle.model.specs.Homes.{writeOutL2, writebackL2, evictL2}
-use Rattle.model.specs.Modes.{changeMode, changeMar}
-use Rattle.model.specs.Refusals.{lowestDue, unless, blockDue, modeDue, marDue, holdsRange}
+use Rattle.model.specs.Modes.{changeMode, changeMar, changeFreeze}
+use Rattle.model.specs.Refusals.{lowestDue, unless, blockDue, modeDue, marDue, freezeDue, holdsRange}
 use Rattle.model.specs.Commands.{atL2, atL1d, eachTouched, eachL2, unlessMode0, evictAllL1d, l2WritebackAll, l2WritebackInvalidateAll, l2WritebackBlock, l2WritebackInvalidateBlock, l2InvalidateBlock, l1dWritebackInvalidateBlock, l1dInvalidateBlock, l1dInvalidateAll}
 use Rattle.model.specs.Calls.{reply, commandDue, commandState, accepted, step}
 use Rattle.model.specs.Laws.{bool, both-true, no-ways}
@@ -55,21 +55,22 @@ module _ (c : Command) (z : State) where
     pub due-below-4 : c .code < 4 → 0 ≡ commandDue c z
     unfolding commandDue
     due-below-4 k =
-        let low : c .code ≤ 11 = omega arith in
+        let low : c .code ≤ 12 = omega arith in
         rw (
           not-access .0,
           not-access .1,
           lt-leb 4 (c .code) k,
           ne-eqb (c .code) 10 (λ e. absurd (omega arith)),
           ne-eqb (c .code) 11 (λ e. absurd (omega arith)),
-          le-leb (c .code) 11 low,
+          ne-eqb (c .code) 12 (λ e. absurd (omega arith)),
+          le-leb (c .code) 12 low,
         ) refl
 
     pub due-block : 4 ≤ c .code → c .code ≤ 8 → (n : ℕ) → n ≡ blockDue (c .first) (c .second) → n ≡ commandDue c z
     unfolding commandDue
     due-block k g n e = rw (not-access .0, not-access .1, le-leb 4 (c .code) k, le-leb (c .code) 8 g) e
 
-    pub due-unknown : 11 < c .code → 11 ≡ commandDue c z
+    pub due-unknown : 12 < c .code → 11 ≡ commandDue c z
     unfolding commandDue
     due-unknown k =
         let four : 4 ≤ c .code = omega arith in let eight : 8 < c .code = omega arith in
@@ -80,7 +81,8 @@ module _ (c : Command) (z : State) where
           lt-leb (c .code) 8 eight,
           ne-eqb (c .code) 10 (λ e. absurd (omega arith)),
           ne-eqb (c .code) 11 (λ e. absurd (omega arith)),
-          lt-leb (c .code) 11 k,
+          ne-eqb (c .code) 12 (λ e. absurd (omega arith)),
+          lt-leb (c .code) 12 k,
         ) refl
 
     -- refused, or carried out
@@ -103,6 +105,10 @@ module _ (c : Command) (z : State) where
   pub due-mar : c .code ≡ 11 → (n : ℕ) → n ≡ marDue (z .rec) (c .first) (c .second) → n ≡ commandDue c z
   unfolding commandDue
   due-mar e n h = rw e h
+
+  pub due-freeze : c .code ≡ 12 → (n : ℕ) → n ≡ freezeDue (c .first) → n ≡ commandDue c z
+  unfolding commandDue
+  due-freeze e n h = rw e h
 
   -- ---- the state
   pub state-all : 2 ≤ c .code → c .code < 4 → (y : State) → y ≡ overAll (c .code) z → y ≡ commandState c z
@@ -130,6 +136,10 @@ module _ (c : Command) (z : State) where
   pub state-mar : c .code ≡ 11 → (y : State) → y ≡ changeMar (c .first) (c .second) z → y ≡ commandState c z
   unfolding commandState
   state-mar q y e = rw q e
+
+  pub state-freeze : c .code ≡ 12 → (y : State) → y ≡ changeFreeze (c .first) z → y ≡ commandState c z
+  unfolding commandState
+  state-freeze q y e = rw q e
 
 -- ---- an L2 command over all lines, or over a block: what its two loops did, one behind the other
 -- L1D holds nothing after the first, so that the second need not look for halves
@@ -165,10 +175,10 @@ mar-bit n b k h =
     (λ e. let q : _≡_ {A = ℕ} 9 0 = rw e at h in absurd (omega arith))
 
 module _ (c : Command) (z : State) (none : commandDue c z ≡ 0) where
-  -- no code above 11 is accepted
-  pub known-code : 2 ≤ c .code → c .code ≤ 11
+  -- no code above 12 is accepted
+  pub known-code : 2 ≤ c .code → c .code ≤ 12
   known-code h =
-      bool (leb (c .code) 11) (λ e. leb-true (c .code) 11 e) (λ e. let k = leb-false (c .code) 11 e in let d = due-unknown c z h k ∙ none in absurd (omega arith))
+      bool (leb (c .code) 12) (λ e. leb-true (c .code) 12 e) (λ e. let k = leb-false (c .code) 12 e in let d = due-unknown c z h k ∙ none in absurd (omega arith))
 
   pub accepted-mode : c .code ≡ 10 → c .first < 256
   accepted-mode e = mode-byte (z .rec .l2len) (c .first) (due-mode c z e (modeDue (z .rec .l2len) (c .first)) refl ∙ none)

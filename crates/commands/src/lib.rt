@@ -32,6 +32,9 @@ pub fn command_due(tags: &[u32], c: Command) -> u8
     if c.code == 11 {
         return mar_check::mar_due(tags, c.first, c.second);
     }
+    if c.code == 12 {
+        return refusals::freeze_due(c.first);
+    }
     11
 }
 
@@ -115,7 +118,7 @@ pub fn sweep(
     l1d_commands::l1d_all(tags, sram, sets, c.code, l1d, l2, ext);
 }
 
-// An accepted mode or MAR change, codes 10 and 11.
+// An accepted mode or MAR change or freeze, codes 10 to 12.
 pub fn change(
     tags: &mut [u32],
     sram: usize,
@@ -134,7 +137,11 @@ pub fn change(
         modes::change_mode(tags, sram, sets, c.first as u8, l1d, l2, ext);
         return;
     }
-    modes::change_mar(tags, c.first, c.second);
+    if c.code == 11 {
+        modes::change_mar(tags, c.first, c.second);
+        return;
+    }
+    modes::change_freeze(tags, c.first);
 }
 
 // Refused by its number with nothing changed, or carried out.

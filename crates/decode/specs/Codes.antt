@@ -46,7 +46,7 @@ unfoldable pub numbersBehind : ℕ → ℕ
 numbersBehind c =
     cond (eqb c 1) 3
     (cond (eqb c 0 || ((leb 4 c && leb c 8) || eqb c 11)) 2
-    (cond (eqb c 10) 1 (cond (eqb c 2 || (eqb c 3 || eqb c 9)) 0 4)))
+    (cond (eqb c 10 || eqb c 12) 1 (cond (eqb c 2 || (eqb c 3 || eqb c 9)) 0 4)))
 
 module _ (c : ℕ) where
   pub behind-is : (k n : ℕ) → c ≡ k → n ≡ numbersBehind k → n ≡ numbersBehind c
@@ -63,9 +63,9 @@ module _ (c : ℕ) where
       (λ e. rw (eqb-true c 2 e) refl)
       (λ e. let n = eqb-false c 2 e in let z : c ≡ 3 = omega arith in rw z refl)
 
-  pub behind-none : 8 < c → (c ≡ 9 → ⊥) → (c ≡ 10 → ⊥) → (c ≡ 11 → ⊥) → 4 ≡ numbersBehind c
+  pub behind-none : 8 < c → (c ≡ 9 → ⊥) → (c ≡ 10 → ⊥) → (c ≡ 11 → ⊥) → (c ≡ 12 → ⊥) → 4 ≡ numbersBehind c
   unfolding numbersBehind
-  behind-none h n9 n10 n11 =
+  behind-none h n9 n10 n11 n12 =
       rw (
         ne-eqb c 1 (above 1 (omega arith)),
         ne-eqb c 0 (above 0 (omega arith)),
@@ -73,6 +73,7 @@ module _ (c : ℕ) where
         lt-leb c 8 h,
         ne-eqb c 11 n11,
         ne-eqb c 10 n10,
+        ne-eqb c 12 n12,
         ne-eqb c 2 (above 2 (omega arith)),
         ne-eqb c 3 (above 3 (omega arith)),
         ne-eqb c 9 n9,
@@ -93,7 +94,7 @@ byNumbers n c bs =
 
 after-numbers : (c : ℕ) (bs : List ℕ) → decodeAfter c bs ≡ byNumbers (numbersBehind c) c bs
 unfolding decodeAfter byNumbers numbersBehind
-after-numbers c bs = go (eqb c 1) (eqb c 0 || ((leb 4 c && leb c 8) || eqb c 11)) (eqb c 10)
+after-numbers c bs = go (eqb c 1) (eqb c 0 || ((leb 4 c && leb c 8) || eqb c 11)) (eqb c 10 || eqb c 12)
     (eqb c 2 || (eqb c 3 || eqb c 9))
   where
     at : ℕ → Decoded

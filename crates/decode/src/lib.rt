@@ -28,7 +28,7 @@ pub fn numbers_behind(code: u8) -> u8
     match code {
         1 => 3,
         0 | 4..=8 | 11 => 2,
-        10 => 1,
+        10 | 12 => 1,
         2 | 3 | 9 => 0,
         _ => 4,
     }

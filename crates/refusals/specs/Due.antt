@@ -7,7 +7,7 @@ use native.Mathlib.Omega.{arith}
 use lib.Dec.{ltb, leb, eqb}
 use borrow.Author.Tests.{lt-ltb, le-ltb, le-leb, lt-leb, eq-eqb, ne-eqb, eqb-true}
 use Rattle.model.specs.Memories.{externalBase, isMode, cacheSize}
-use Rattle.model.specs.Refusals.{unless, sizeOk, placeOk, valueOk, accessDue, blockDue, modeDue}
+use Rattle.model.specs.Refusals.{unless, sizeOk, placeOk, valueOk, accessDue, blockDue, modeDue, freezeDue}
 
 -- "4: address not a multiple of the size"
 abbrev pub aligned : ℕ → ℕ → Bool
@@ -113,3 +113,13 @@ module _ (l m : ℕ) (b : Bool) (c : ℕ) (eb : b ≡ isMode m) (ec : c ≡ cach
 
   pub mode-eight : (b && leb c l) ≡ false → 8 ≡ modeDue l m
   mode-eight e = sym (by-mode ∙ rw e refl)
+
+-- ---- the freeze
+module _ (b : ℕ) where
+  pub freeze-none : b ≤ 1 → 0 ≡ freezeDue b
+  unfolding freezeDue
+  freeze-none h = rw (le-leb b 1 h) refl
+
+  pub freeze-seventeen : 1 < b → 17 ≡ freezeDue b
+  unfolding freezeDue
+  freeze-seventeen h = rw (lt-leb b 1 h) refl

@@ -2,7 +2,7 @@
 // answers for every argument.
 ghost use mathlib.Core.Bool.{true};
 ghost use mathlib.Core.Path.{_≡_};
-ghost use Rattle.model.specs.Refusals.{sizeOk, placeOk, valueOk, accessDue, blockDue, modeDue};
+ghost use Rattle.model.specs.Refusals.{sizeOk, placeOk, valueOk, accessDue, blockDue, modeDue, freezeDue};
 ghost use Rattle.refusals.specs.Due.{aligned};
 
 // Sums of an address and a length are made of 64 bits, so that none wraps.
@@ -99,4 +99,14 @@ pub fn mode_due(l2len: u32, mode: u32) -> u8
         return 0;
     }
     8
+}
+
+// ---- the freeze: 17
+pub fn freeze_due(bit: u32) -> u8
+    ensures { λ n. ⌜ n ≡ freezeDue bit ⌝ }
+{
+    if bit <= 1 {
+        return 0;
+    }
+    17
 }

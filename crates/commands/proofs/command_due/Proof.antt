@@ -1,4 +1,4 @@
--- `others::command_due` meets its contract: each way through the code is the case of `commandDue` at its code.
+-- `commands::command_due` meets its contract: each way through the code is the case of `commandDue` at its code.
 use Prim.Native.Nat.{_<_, ℕ, _-_}
 use mathlib.Core.Path.{ap, _∙_}
 use native.Mathlib.Omega.{arith}
@@ -6,7 +6,7 @@ use borrow.Author.Needs.{needs}
 use Rattle.model.specs.Refusals.{modeDue}
 use Rattle.model.specs.Records.{state}
 use Rattle.tags.specs.Words.{recordIn}
-use Rattle.commands.specs.Codes.{due-below-4, due-block, due-unknown, due-9, due-mode, due-mar}
+use Rattle.commands.specs.Codes.{due-below-4, due-block, due-unknown, due-9, due-mode, due-mar, due-freeze}
 use Rattle.commands.proofs.command_due.Statement.{statement}
 use Rattle.commands.proofs.command_due.Tie as tie
 
@@ -53,14 +53,19 @@ returns-5 c =
     let p-args = p-if5 .before .before .before .before .before .before .before .before .before .before .before in
     let a = p-args .args in λ d m e. due-mar (a .c) (state (recordIn (a .tags .now)) d m e) (p-if5 .if5 .taken) (c .mar-due .result) (c .mar-due .ensures)
 
+freeze-due-requires : tie.Need-freeze-due-requires
+freeze-due-requires c κs = search needs
+
 returns-6 : tie.Need-returns-6
 returns-6 c =
-    let p-if4 = c .before .before in
-    let p-if3 = p-if4 .before .before in
-    let p-if2 = p-if3 .before .before in
-    let p-pre = p-if2 .before .before .before .before .before in
-    let a = p-pre .args in let x = p-if2 .if2 .left in let y = p-if3 .if3 .left in let z = p-if4 .if4 .left in let w = c .if5 .left in
-    let h : 11 < a .c .code = omega arith in λ d m e. due-unknown (a .c) (state (recordIn (a .tags .now)) d m e) (p-pre .pre .0) h
+    let p-freeze-due = c in let p-if6 = p-freeze-due .before in let p-start = p-if6 .before .before .before .before .before .before .before .before .before .before .before .before .before in
+    let a = (p-start .args) in λ d m e. due-freeze (a .c) (state (recordIn (a .tags .now)) d m e) ((p-if6 .if6) .taken) ((p-freeze-due .freeze-due) .result) ((p-freeze-due .freeze-due) .ensures)
+
+returns-7 : tie.Need-returns-7
+returns-7 c =
+    let p-if6 = c in let p-if5 = p-if6 .before .before in let p-if4 = p-if5 .before .before in let p-if3 = p-if4 .before .before in let p-if2 = p-if3 .before .before in let p-start = p-if2 .before .before .before .before .before in
+    let a = (p-start .args) in let x = (p-if2 .if2) .left in let y = (p-if3 .if3) .left in let z = (p-if4 .if4) .left in let w = (p-if5 .if5) .left in let v = (p-if6 .if6) .left in
+    let h : 12 < a .c .code = omega arith in λ d m e. due-unknown (a .c) (state (recordIn (a .tags .now)) d m e) ((p-start .pre) .0) h
 
 pub command-due-spec : {M : Type 1} → statement M
 command-due-spec =
@@ -75,4 +80,6 @@ command-due-spec =
     returns-4
     mar-due-requires
     returns-5
-    returns-6)
+    freeze-due-requires
+    returns-6
+    returns-7)

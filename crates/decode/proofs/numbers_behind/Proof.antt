@@ -12,7 +12,7 @@ returns c = behind-is (c .before .args .code) 1 3 (c .match .keys1) refl
 
 returns-2 : tie.Need-returns-2
 unfolding numbersBehind
-returns-2 c = behind-is (c .before .args .code) 10 1 (c .match .keys3) refl
+returns-2 c = ⊎-elim (λ e. behind-is (c .before .args .code) 10 1 e refl) (λ e. behind-is (c .before .args .code) 12 1 e refl) (c .match .keys3)
 
 returns-3 : tie.Need-returns-3
 returns-3 c =
@@ -20,7 +20,7 @@ returns-3 c =
     let rest = c .before .before .match .rest in
     let n1 : code ≡ 1 → ⊥ = rest .0 .0 .0 .1 in
     let n0 : code ≡ 0 → ⊥ = λ e. rest .0 .0 .1 (inl e) in
-    behind-none code (omega arith) (rest .1) (rest .0 .1) (λ e. rest .0 .0 .1 (inr e))
+    behind-none code (omega arith) (rest .1) (λ e. rest .0 .1 (inl e)) (λ e. rest .0 .0 .1 (inr e)) (λ e. rest .0 .1 (inr e))
 
 returns-4 : tie.Need-returns-4
 unfolding numbersBehind
