@@ -210,6 +210,21 @@ pub extern "C" fn c64x_change_mar(
 }
 
 #[no_mangle]
+pub extern "C" fn c64x_freeze(
+    words: &mut [u32; WORDS],
+    frozen: u32,
+    l1d: &mut [u8],
+    l2: &mut [u8],
+    ext: &mut [u8],
+) -> Answer
+    ensures { λ x. ⌜ reply (x .number) (x .server) (x .value) (stateIn (now (words .exit)) (now (l1d .exit)) (now (l2 .exit)) (now (ext .exit)))
+        ≡ called (oneCommand (command 12 frozen 0 0)) (stateIn (now (words .entry)) (now (l1d .entry)) (now (l2 .entry)) (now (ext .entry))) ⌝ }
+    ensures refused { λ x. ⌜ (x .number ≢ 0 → now (words .exit) ≡ now (words .entry)) ⌝ }
+{
+    calls::carry_out(words, 12, frozen, 0, 0, l1d, l2, ext)
+}
+
+#[no_mangle]
 pub extern "C" fn c64x_fresh(
     words: &mut [u32; WORDS],
     l1d: &mut [u8],

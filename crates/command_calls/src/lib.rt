@@ -154,3 +154,10 @@ pub fn change_mar(
 {
     by_value::one_command(r, 11, mar, bit, 0, l1d, l2, ext)
 }
+
+pub fn freeze(r: Record, frozen: u32, l1d: &mut [u8], l2: &mut [u8], ext: &mut [u8]) -> Called
+    ensures { λ x. ⌜ calledAs x (now (l1d .exit)) (now (l2 .exit)) (now (ext .exit))
+        ≡ called (oneCommand (command 12 frozen 0 0)) (state r (now (l1d .entry)) (now (l2 .entry)) (now (ext .entry))) ⌝ }
+{
+    by_value::one_command(r, 12, frozen, 0, 0, l1d, l2, ext)
+}

@@ -40,7 +40,7 @@ fn seen<'a>(r: Record, l2: &'a [u8], ext: &'a [u8], address: u32) {
     show(part.len() as u64, wide(part[0]), wide(part[2]));
 }
 
-// The call of one row: its code (12: a view) and its numbers.
+// The call of one row: its code (13: a view) and its numbers.
 fn one(
     r: Record,
     code: u32,
@@ -87,6 +87,9 @@ fn one(
     if code == 11 {
         return told(command_calls::change_mar(r, a, b, l1d, l2, ext));
     }
+    if code == 12 {
+        return told(command_calls::freeze(r, a, l1d, l2, ext));
+    }
     seen(r, l2, ext, a);
     r
 }
@@ -122,6 +125,8 @@ fn run_over(r: Record, l1d: &mut [u8; 16384], l2: &mut [u8; 65536], ext: &mut [u
         128,
         128,
         8,
+        12,
+        2,
     ];
     let mut answers = [0u8; 60];
     let q = by_value::run(r, &trace, l1d, l2, ext, &mut answers);
@@ -166,7 +171,7 @@ fn main() {
         4,
         2147483648,
         7,
-        12,
+        13,
         2147483648,
         0,
         0,
@@ -174,7 +179,7 @@ fn main() {
         2147483648,
         1,
         0,
-        12,
+        13,
         2147483648,
         0,
         0,
@@ -182,7 +187,7 @@ fn main() {
         2147483648,
         32,
         0,
-        12,
+        13,
         2147483648,
         0,
         0,
@@ -198,7 +203,7 @@ fn main() {
         0,
         0,
         0,
-        12,
+        13,
         2147483648,
         0,
         0,
@@ -214,7 +219,7 @@ fn main() {
         1,
         256,
         8,
-        12,
+        13,
         256,
         0,
         0,
@@ -262,7 +267,7 @@ fn main() {
         2147483776,
         1,
         0,
-        12,
+        13,
         2147483776,
         0,
         0,
@@ -278,7 +283,7 @@ fn main() {
         0,
         0,
         0,
-        12,
+        13,
         2147483776,
         0,
         0,
@@ -323,10 +328,42 @@ fn main() {
         0,
         0,
         12,
-        4,
+        2,
         0,
         0,
         12,
+        1,
+        0,
+        0,
+        0,
+        1,
+        2147483776,
+        0,
+        0,
+        1,
+        2147483904,
+        0,
+        0,
+        1,
+        2147483904,
+        0,
+        12,
+        0,
+        0,
+        0,
+        0,
+        1,
+        2147483904,
+        0,
+        0,
+        1,
+        2147483904,
+        0,
+        13,
+        4,
+        0,
+        0,
+        13,
         2147549184,
         0,
         0,
@@ -339,7 +376,7 @@ fn main() {
         0,
         0,
     ];
-    for k in 0..49 {
+    for k in 0..57 {
         let p = k * 4;
         r = one(
             r,

@@ -172,6 +172,7 @@ taken-behind c = refl
 pub taken-none : (c : ℕ) → 255 < c → 4 ≡ numbersTaken c
 taken-none c h =
     behind-none c (omega arith) (λ e. absurd (omega arith)) (λ e. absurd (omega arith)) (λ e. absurd (omega arith))
+    (λ e. absurd (omega arith))
     ∙ taken-behind c
 
 module _ (n a b : ℕ) where
@@ -266,7 +267,7 @@ module _ (c a b v n : ℕ) (taken : n ≡ numbersTaken c) {bs : List ℕ} {j : �
 taken-most : (c : ℕ) → numbersTaken c ≤ 4
 unfolding numbersTaken
 taken-most c =
-    go (eqb c 1) (eqb c 0 || ((leb 4 c && leb c 8) || eqb c 11)) (eqb c 10) (eqb c 2 || (eqb c 3 || eqb c 9))
+    go (eqb c 1) (eqb c 0 || ((leb 4 c && leb c 8) || eqb c 11)) (eqb c 10 || eqb c 12) (eqb c 2 || (eqb c 3 || eqb c 9))
   where
     go : (x y z w : Bool) → cond x 3 (cond y 2 (cond z 1 (cond w 0 4))) ≤ 4
     go true y z w = omega arith
