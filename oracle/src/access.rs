@@ -22,10 +22,24 @@ pub fn read(machine: &mut Machine, size: u32, address: u32) -> (u8, u64) {
     if machine.is_reached_directly(address) {
         return (SERVER_EXTERNAL, load(machine.ext, external_offset(address), size));
     }
-    // "read hit in L1D: its bytes, the way used."
+    // "read hit in L1D: its bytes, the way used." 02, U11: "Frozen, hits are
+    // served as before but change no order".
     if let Some((set, way)) = machine.record.find_l1d(address) {
-        machine.use_l1d_way(set, way);
+        if !machine.record.is_frozen() {
+            machine.use_l1d_way(set, way);
+        }
         return (SERVER_L1D, load(machine.l1d, l1d_byte(set, way, address), size));
+    }
+    // 02, U11: "and a read miss takes just its bytes from the home and fills
+    // nothing. L2 isn't frozen.": it is reached as by any read, uses its way,
+    // fetches and puts lines out.
+    if machine.record.is_frozen() {
+        let (home, server) = machine.reach_home(address);
+        let value = match home {
+            Home::Sram { offset } | Home::L2Line { offset, .. } => load(machine.l2, offset, size),
+            Home::External { offset } => load(machine.ext, offset, size),
+        };
+        return (server, value);
     }
     // "Read miss: the way is the lowest invalid one, else the last in order; a
     // dirty line there is written back to its home and the way emptied; then
@@ -49,16 +63,20 @@ pub fn write(machine: &mut Machine, size: u32, address: u32, value: u64) -> u8 {
         store(machine.ext, external_offset(address), size, value);
         return SERVER_EXTERNAL;
     }
-    // "Write hit: bytes changed, line dirty, way used."
+    // "Write hit: bytes changed, line dirty, way used." 02, U11: "Frozen, hits are
+    // served as before but change no order": the line is dirty all the same.
     if let Some((set, way)) = machine.record.find_l1d(address) {
         store(machine.l1d, l1d_byte(set, way, address), size, value);
         machine.record.l1d[set].lines[way].dirty = true;
-        machine.use_l1d_way(set, way);
+        if !machine.record.is_frozen() {
+            machine.use_l1d_way(set, way);
+        }
         return SERVER_L1D;
     }
     // "Write miss: L1D is neither filled nor used, the bytes go to the home
     // (an L2 line that leaves for them still takes its halves out of L1D, as
-    // below)." and "A write then makes the L2 line dirty."
+    // below)." and "A write then makes the L2 line dirty." 02, U11: "Write misses,
+    // commands and mode changes are as they were".
     let (home, server) = machine.reach_home(address);
     match home {
         Home::Sram { offset } => store(machine.l2, offset, size, value),

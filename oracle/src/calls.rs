@@ -7,7 +7,7 @@ use crate::geometry::{
     external_length_is_legal, l2_length_is_legal, mode_is_legal, place, L1D_BYTES,
 };
 use crate::machine::{Events, Machine, SERVER_NONE};
-use crate::modes::{change_mar, change_mode, holds_a_line_of};
+use crate::modes::{change_freeze, change_mar, change_mode, holds_a_line_of};
 use crate::record::Record;
 use crate::trace::Command;
 use crate::wellformed::is_well_formed;
@@ -104,7 +104,16 @@ fn check_mar(record: &Record, number: u32, bit: u32) -> u8 {
     0
 }
 
-/// "The lowest due number wins": checks 3 to 10, 0 when none is due.
+/// "17 for a number above 1" (02, U11), the one number that freezes or thaws.
+fn check_freeze(frozen: u32) -> u8 {
+    if frozen > 1 {
+        return 17;
+    }
+    0
+}
+
+/// "The lowest due number wins": checks 3 to 10, then 17, which is "checked after
+/// 10" (02, U11). 0 when none is due.
 pub fn check_command(record: &Record, command: &Command) -> u8 {
     match *command {
         Command::Read { size, address } => {
@@ -123,10 +132,11 @@ pub fn check_command(record: &Record, command: &Command) -> u8 {
         }
         Command::Mode { mode } => check_mode(record, mode),
         Command::Mar { number, bit } => check_mar(record, number, bit),
+        Command::Freeze { frozen } => check_freeze(frozen),
     }
 }
 
-/// Checks 3 to 10, then the call itself. "Value and server are 0 with it; the
+/// Checks 3 to 10 and 17, then the call itself. "Value and server are 0 with it; the
 /// record comes back as given". "The value is 0 for all but accepted reads.";
 /// the server is "0 for calls that aren't reads or writes".
 pub fn carry_out(machine: &mut Machine, command: &Command) -> Answer {
@@ -161,6 +171,7 @@ pub fn carry_out(machine: &mut Machine, command: &Command) -> Answer {
         Command::L1dInvalidateAll => commands::l1d_invalidate_all(machine),
         Command::Mode { mode } => change_mode(machine, mode),
         Command::Mar { number, bit } => change_mar(machine.record, number, bit),
+        Command::Freeze { frozen } => change_freeze(machine.record, frozen),
     }
     Answer { number: 0, server, value }
 }
@@ -348,4 +359,15 @@ pub fn mar_change(
     bit: u32,
 ) -> Answer {
     direct(record, l1d, l2, ext, &Command::Mar { number, bit })
+}
+
+/// "A call, in the trace code 12, takes one number: 1 freezes, 0 thaws" (02, U11).
+pub fn freeze(
+    record: &mut Record,
+    l1d: &mut [u8],
+    l2: &mut [u8],
+    ext: &mut [u8],
+    frozen: u32,
+) -> Answer {
+    direct(record, l1d, l2, ext, &Command::Freeze { frozen })
 }

@@ -106,6 +106,7 @@ impl History {
                 self.start_anew();
                 self.kept.clear();
             }
+            // Commands do what their events say, and a freeze (02, U11) changes no byte.
             _ => {}
         }
         Ok(read)

@@ -101,7 +101,9 @@ impl Flat {
     }
 
     /// The number and value of a read, a write or a mode change. "No other
-    /// call, and no refused one, does anything.": `None` for the others.
+    /// call, and no refused one, does anything.": `None` for the others. A freeze
+    /// is one of these: "Read values in lists with freezes are still flat memory's."
+    /// (02, U11)
     pub fn apply(&mut self, command: &Command) -> Option<(u8, u64)> {
         match *command {
             Command::Read { size, address } => Some(self.read(size, address)),

@@ -166,6 +166,7 @@ impl Setup {
             Command::L1dInvalidateAll => calls::l1d_invalidate_all(record, l1d, l2, ext),
             Command::Mode { mode } => calls::mode_change(record, l1d, l2, ext, mode),
             Command::Mar { number, bit } => calls::mar_change(record, l1d, l2, ext, number, bit),
+            Command::Freeze { frozen } => calls::freeze(record, l1d, l2, ext, frozen),
         }
     }
 
@@ -187,6 +188,11 @@ impl Setup {
     /// A direct MAR change.
     pub fn mar(&mut self, number: u32, bit: u32) -> Answer {
         self.call(&Command::Mar { number, bit })
+    }
+
+    /// A direct call that freezes or thaws L1D.
+    pub fn freeze(&mut self, frozen: u32) -> Answer {
+        self.call(&Command::Freeze { frozen })
     }
 
     /// A trace run.
@@ -252,7 +258,7 @@ pub fn l_for(rng: &mut Rng, mode: u32) -> u32 {
 // ----------------------------------------------------- well-formed records
 
 /// A random well-formed record of these legal sizes, reachable or not: any
-/// mode, MAR bits, densities, dirty marks and orders.
+/// mode, MAR bits, frozen or not, densities, dirty marks and orders.
 pub fn well_formed_record(rng: &mut Rng, l: u32, e: u32) -> Box<Record> {
     let modes: Vec<u32> = LEGAL_MODES.into_iter().filter(|&mode| mode_is_legal(l, mode)).collect();
     let mode = rng.pick(&modes);
@@ -265,6 +271,7 @@ pub fn well_formed_record_in_mode(rng: &mut Rng, l: u32, e: u32, mode: u32) -> B
     record.mode = mode;
     record.mar128 = u32::from(rng.chance(4, 5));
     record.mar129 = u32::from(rng.chance(4, 5));
+    record.frozen = u32::from(rng.chance(1, 4));
 
     // How many of 16 ways are filled, and how many of 16 lines are dirty.
     let l2_density = rng.pick(&[0, 1, 4, 8, 15, 16]);
@@ -374,6 +381,7 @@ pub enum Fault {
     CacheAboveL,
     Mar128NoBit,
     Mar129NoBit,
+    FrozenNoBit,
     L1dOrder,
     L2Order,
     L1dInvalidDirty,
@@ -398,11 +406,12 @@ pub enum Fault {
 }
 
 /// All faults.
-pub const FAULTS: [Fault; 25] = [
+pub const FAULTS: [Fault; 26] = [
     Fault::IllegalMode,
     Fault::CacheAboveL,
     Fault::Mar128NoBit,
     Fault::Mar129NoBit,
+    Fault::FrozenNoBit,
     Fault::L1dOrder,
     Fault::L2Order,
     Fault::L1dInvalidDirty,
@@ -432,6 +441,7 @@ impl Fault {
         match self {
             Fault::IllegalMode | Fault::CacheAboveL => Clause::SizesAndMode,
             Fault::Mar128NoBit | Fault::Mar129NoBit => Clause::MarBits,
+            Fault::FrozenNoBit => Clause::Frozen,
             Fault::L1dOrder | Fault::L2Order => Clause::Orders,
             Fault::L1dInvalidDirty
             | Fault::L1dInvalidAddress
@@ -539,6 +549,9 @@ fn put_fault(rng: &mut Rng, record: &mut Record, fault: Fault) -> Option<()> {
         Fault::Mar129NoBit => {
             drop_range(record, 129);
             record.mar129 = rng.pick(&[2, 3, 129, 255, 256, u32::MAX]);
+        }
+        Fault::FrozenNoBit => {
+            record.frozen = rng.pick(&[2, 3, 17, 128, 254, 255, 256, 257, u32::MAX]);
         }
         Fault::L1dOrder => {
             let place = &mut record.l1d[edge_or_any(rng, L1d::SETS)].order[rng.below(2) as usize];
@@ -888,6 +901,7 @@ pub fn senseless_record(rng: &mut Rng, l: u32, e: u32) -> Box<Record> {
     record.mode = if rng.chance(1, 2) { rng.below(9) } else { rng.next_u32() };
     record.mar128 = rng.below(3);
     record.mar129 = if rng.chance(1, 2) { rng.below(3) } else { rng.next_u32() };
+    record.frozen = if rng.chance(3, 4) { rng.below(2) } else { rng.next_u32() };
     let density = rng.pick(&[1, 8, 16]);
     for set in record.l1d.iter_mut() {
         if rng.chance(density, 16) {
@@ -1092,6 +1106,7 @@ pub struct Mix {
     pub l1d_invalidate_all: u32,
     pub mode: u32,
     pub mar: u32,
+    pub freeze: u32,
 }
 
 impl Mix {
@@ -1107,6 +1122,7 @@ impl Mix {
         l1d_invalidate_all: 5,
         mode: 15,
         mar: 40,
+        freeze: 20,
     };
 
     /// Everything that flat memory agrees with: nothing is dropped unwritten.
@@ -1125,6 +1141,7 @@ impl Mix {
             + self.l1d_invalidate_all
             + self.mode
             + self.mar
+            + self.freeze
     }
 }
 
@@ -1175,7 +1192,7 @@ pub fn command(rng: &mut Rng, hot: &Hot, mix: &Mix) -> Command {
             rng.pick(&[4, 5, 6, 8, 255, 256, 263, u32::MAX])
         };
         Command::Mode { mode }
-    } else {
+    } else if is_in(mix.mar) {
         let number = if rng.chance(15, 16) {
             rng.pick(&[128, 129])
         } else {
@@ -1187,6 +1204,14 @@ pub fn command(rng: &mut Rng, hot: &Hot, mix: &Mix) -> Command {
             rng.pick(&[2, 3, 256, u32::MAX])
         };
         Command::Mar { number, bit }
+    } else {
+        // L1D is thawed more often, so that lines come into it.
+        let frozen = if rng.chance(7, 8) {
+            u32::from(rng.chance(2, 5))
+        } else {
+            rng.pick(&[2, 3, 12, 17, 128, 255, 256, 257, 1 << 16, u32::MAX])
+        };
+        Command::Freeze { frozen }
     }
 }
 
@@ -1309,6 +1334,7 @@ pub fn code(command: &Command) -> u8 {
         Command::L1dInvalidateAll => 9,
         Command::Mode { .. } => 10,
         Command::Mar { .. } => 11,
+        Command::Freeze { .. } => 12,
     }
 }
 
@@ -1327,6 +1353,7 @@ pub fn numbers(command: &Command) -> Vec<u64> {
         | Command::L1dBlockInvalidate { base, count } => vec![base.into(), count.into()],
         Command::Mode { mode } => vec![mode.into()],
         Command::Mar { number, bit } => vec![number.into(), bit.into()],
+        Command::Freeze { frozen } => vec![frozen.into()],
     }
 }
 
@@ -1409,7 +1436,7 @@ pub fn trace(rng: &mut Rng, hot: &Hot, mix: &Mix, count: usize, kind: TraceKind)
             made.bytes.extend_from_slice(&whole[..kept]);
         }
         TraceKind::UnknownCode => {
-            made.bytes.push(12 + rng.below(244) as u8);
+            made.bytes.push(13 + rng.below(243) as u8);
             push_more(rng, hot, mix, &mut made.bytes);
         }
         TraceKind::Overlong => {

@@ -1,4 +1,4 @@
-//! "Modes and MAR". The checks have been passed, but for the one that looks
+//! "Modes and MAR", and freezing L1D (02, U11). The checks have been passed, but for the one that looks
 //! into the caches.
 
 use crate::geometry::{mar_number, sram_size, L1d, L2};
@@ -7,7 +7,8 @@ use crate::record::{L1dSet, L2Set, Record};
 
 /// "An accepted mode change, even to the same mode, writes back all dirty
 /// lines of L1D, then of L2, makes every line invalid and every order fresh,
-/// and sets zero every L2 byte from the smaller of old and new S on."
+/// and sets zero every L2 byte from the smaller of old and new S on." 02, U11: "a
+/// mode change keeps the freeze".
 pub fn change_mode(machine: &mut Machine, new_mode: u32) {
     for set in 0..L1d::SETS {
         for way in 0..L1d::WAYS {
@@ -34,6 +35,11 @@ pub fn change_mar(record: &mut Record, number: u32, bit: u32) {
         129 => record.mar129 = bit,
         _ => {}
     }
+}
+
+/// "1 freezes, 0 thaws; the record keeps it" (02, U11). Nothing else changes.
+pub fn change_freeze(record: &mut Record, frozen: u32) {
+    record.frozen = frozen;
 }
 
 /// "either cache holds a line of that range".

@@ -42,7 +42,8 @@ impl L2Set {
 }
 
 /// "The record holds L, E, the mode, the two MAR bits (128 and 129), and for
-/// all 128 L1D and 512 L2 sets the lines". Any number may stand in any field.
+/// all 128 L1D and 512 L2 sets the lines"; whether L1D is frozen, 1, or thawed,
+/// 0: "the record keeps it" (02, U11). Any number may stand in any field.
 #[derive(Clone, PartialEq, Eq, Debug)]
 pub struct Record {
     pub l: u32,
@@ -50,12 +51,14 @@ pub struct Record {
     pub mode: u32,
     pub mar128: u32,
     pub mar129: u32,
+    pub frozen: u32,
     pub l1d: [L1dSet; L1d::SETS],
     pub l2: [L2Set; L2::SETS_HELD],
 }
 
 impl Record {
-    /// "Fresh: mode 0, MAR bits 0, nothing valid, orders 1,0 and 3,2,1,0."
+    /// "Fresh: mode 0, MAR bits 0, nothing valid, orders 1,0 and 3,2,1,0." "A
+    /// fresh start is thawed." (02, U11)
     pub fn fresh(l: u32, e: u32) -> Box<Record> {
         Box::new(Record {
             l,
@@ -63,6 +66,7 @@ impl Record {
             mode: 0,
             mar128: 0,
             mar129: 0,
+            frozen: 0,
             l1d: [L1dSet::FRESH; L1d::SETS],
             l2: [L2Set::FRESH; L2::SETS_HELD],
         })
@@ -71,6 +75,11 @@ impl Record {
     /// "SRAM is the first S = L − C bytes of L2, at address 0."
     pub fn sram_size(&self) -> u32 {
         sram_size(self.l, self.mode)
+    }
+
+    /// "1 freezes, 0 thaws; the record keeps it" (02, U11).
+    pub fn is_frozen(&self) -> bool {
+        self.frozen == 1
     }
 
     /// "MAR n covers the 16 MiB from n × 1000000h". An address outside both

@@ -19,6 +19,7 @@ pub enum Command {
     L1dInvalidateAll,
     Mode { mode: u32 },
     Mar { number: u32, bit: u32 },
+    Freeze { frozen: u32 },
 }
 
 /// "numbers in groups of seven bits, low group first, top bit set on all but
@@ -67,8 +68,8 @@ fn decode_u64(bytes: &[u8], place: &mut usize) -> Option<u64> {
 /// write (size, address, value); 2 L2 writeback all; 3 L2 writeback-invalidate
 /// all; 4, 5, 6 L2 block writeback, writeback-invalidate, invalidate (base,
 /// count); 7, 8 L1D block writeback-invalidate, invalidate (base, count); 9
-/// L1D invalidate all; 10 mode; 11 MAR (number, bit)." `None` stands for 11,
-/// "an unknown code, an overlong or too wide number, or an end inside a
+/// L1D invalidate all; 10 mode; 11 MAR (number, bit)." "in the trace code 12,
+/// takes one number" (02, U11). `None` stands for 11, "an unknown code, an overlong or too wide number, or an end inside a
 /// command"; otherwise the command at the front and its length.
 pub fn decode(bytes: &[u8]) -> Option<(Command, usize)> {
     let code = *bytes.first()?;
@@ -106,6 +107,7 @@ pub fn decode(bytes: &[u8]) -> Option<(Command, usize)> {
         9 => Command::L1dInvalidateAll,
         10 => Command::Mode { mode: decode_u32(bytes, at)? },
         11 => Command::Mar { number: decode_u32(bytes, at)?, bit: decode_u32(bytes, at)? },
+        12 => Command::Freeze { frozen: decode_u32(bytes, at)? },
         _ => return None,
     };
     Some((command, place))
@@ -127,7 +129,7 @@ pub const ANSWER_BYTES: usize = 10;
 /// answered or changed. Then it carries out commands. ... Refusals 3 to 10 are
 /// answered and the run goes on. 11, then 12, stop it before that command and
 /// refuse that one alone: what ran before it stands. ... Later answer bytes
-/// are unchanged."
+/// are unchanged." 17 is "answered in a trace as 3 to 10 are" (02, U11).
 pub fn run(
     record: &mut Record,
     l1d: &mut [u8],

@@ -15,6 +15,7 @@ use crate::record::{L2Set, Line, Record};
 pub enum Clause {
     SizesAndMode,
     MarBits,
+    Frozen,
     Orders,
     InvalidWays,
     LineMultiples,
@@ -27,9 +28,10 @@ pub enum Clause {
 }
 
 /// All clauses, with the sizes and the mode first.
-pub const CLAUSES: [Clause; 11] = [
+pub const CLAUSES: [Clause; 12] = [
     Clause::SizesAndMode,
     Clause::MarBits,
+    Clause::Frozen,
     Clause::Orders,
     Clause::InvalidWays,
     Clause::LineMultiples,
@@ -56,6 +58,7 @@ pub fn holds(record: &Record, clause: Clause) -> bool {
     match clause {
         Clause::SizesAndMode => sizes_and_mode_are_legal(record),
         Clause::MarBits => mar_bits_are_bits(record),
+        Clause::Frozen => frozen_is_0_or_1(record),
         Clause::Orders => orders_are_permutations(record),
         Clause::InvalidWays => invalid_ways_are_empty(record),
         Clause::LineMultiples => addresses_are_multiples_of_the_line_length(record),
@@ -88,6 +91,11 @@ fn sizes_and_mode_are_legal(record: &Record) -> bool {
 /// "the two MAR bits (128 and 129)": a bit is 0 or 1.
 fn mar_bits_are_bits(record: &Record) -> bool {
     record.mar128 <= 1 && record.mar129 <= 1
+}
+
+/// 02, U11: "1 freezes, 0 thaws; the record keeps it": no other number is kept.
+fn frozen_is_0_or_1(record: &Record) -> bool {
+    record.frozen <= 1
 }
 
 /// "orders are permutations".

@@ -13,7 +13,8 @@ pub struct Put {
 /// writeback-invalidate all; 4, 5, 6 L2 block writeback, writeback-invalidate,
 /// invalidate (base, count); 7, 8 L1D block writeback-invalidate, invalidate
 /// (base, count); 9 L1D invalidate all; 10 mode; 11 MAR (number, bit). Value is
-/// 64 bits wide, the others 32." `None` for "a code the trace lacks".
+/// 64 bits wide, the others 32." "in the trace code 12, takes one number" (02,
+/// U11). `None` for "a code the trace lacks".
 pub fn widths(code: u32) -> Option<&'static [u32]> {
     match code {
         0 => Some(&[32, 32]),
@@ -24,6 +25,7 @@ pub fn widths(code: u32) -> Option<&'static [u32]> {
         9 => Some(&[]),
         10 => Some(&[32]),
         11 => Some(&[32, 32]),
+        12 => Some(&[32]),
         _ => None,
     }
 }
@@ -124,8 +126,8 @@ mod tests {
     fn eleven_comes_first_and_only_for_what_the_code_takes() {
         let wide = 1 << 32;
         for (code, numbers) in [
-            (12, [0; 3]),
             (13, [0; 3]),
+            (14, [0; 3]),
             (255, [0; 3]),
             (256, [0; 3]),
             (u32::MAX, [0; 3]),
@@ -134,6 +136,7 @@ mod tests {
             (4, [0, u64::MAX, 0]),
             (10, [wide, 0, 0]),
             (11, [0, wide, 0]),
+            (12, [wide, 0, 0]),
         ] {
             for (length, at) in [(0, 0), (40, 0), (40, 40), (40, 41), (40, usize::MAX)] {
                 let mut out = vec![7; length];
@@ -143,6 +146,9 @@ mod tests {
         }
         assert_eq!(command_bytes(2, [u64::MAX; 3]), Some(vec![2]));
         assert_eq!(command_bytes(10, [1, u64::MAX, u64::MAX]), Some(vec![10, 1]));
+        assert_eq!(command_bytes(12, [1, u64::MAX, u64::MAX]), Some(vec![12, 1]));
+        // What 17 refuses is a command all the same.
+        assert_eq!(command_bytes(12, [300, wide, wide]), Some(vec![12, 0xAC, 0x02]));
         assert_eq!(command_bytes(1, [1, 2, wide]), Some(vec![1, 1, 2, 128, 128, 128, 128, 16]));
     }
 
@@ -173,7 +179,7 @@ mod tests {
         for _ in 0..50_000 {
             let mut bytes = [0; 24];
             rng.fill(&mut bytes);
-            bytes[0] %= 13;
+            bytes[0] %= 14;
             let Some((command, length)) = decode(&bytes) else { continue };
             accepted += 1;
             let mut three = [rng.next_u64(); 3];

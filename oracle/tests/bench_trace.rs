@@ -32,7 +32,17 @@ fn only_the_first_4096_bytes_are_read() {
 #[test]
 fn damage_stops_with_11_before_the_command() {
     assert_eq!(bench_trace(&[9, 0, 4, 0x80]), "0 0 0\nend 11 1\n");
-    assert_eq!(bench_trace(&[9, 12, 9]), "0 0 0\nend 11 1\n");
+    assert_eq!(bench_trace(&[9, 13, 9]), "0 0 0\nend 11 1\n");
+    assert_eq!(bench_trace(&[9, 12]), "0 0 0\nend 11 1\n");
+}
+
+/// Code 12 (02, U11): the second read of a frozen L1D is no hit, 2 is refused with
+/// 17, and thawed the third read fills the line that the fourth hits.
+#[test]
+fn a_frozen_l1d_prints_so() {
+    let input = [12, 1, 0, 1, 0, 0, 1, 0, 12, 2, 12, 0, 0, 1, 0, 0, 1, 0];
+    let output = "0 0 0\n0 2 0\n0 2 0\n17 0 0\n0 0 0\n0 2 0\n0 1 0\nend 0 18\n";
+    assert_eq!(bench_trace(&input), output);
 }
 
 #[test]

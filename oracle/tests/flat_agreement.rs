@@ -10,8 +10,10 @@ use oracle::{Command, Line};
 #[derive(Default, Debug)]
 struct Met {
     servers: [u32; 5],
-    numbers: [u32; 13],
+    numbers: [u32; 18],
     modes: [u32; 8],
+    /// Accepted reads while L1D was frozen, by the server.
+    frozen_reads: [u32; 5],
     /// Global writebacks, by the mode.
     settled: [u32; 8],
     bypassed_in: [u32; 2],
@@ -53,6 +55,7 @@ fn run_list(seed: u64, l: u32, e: u32, calls: u32, mix: &Mix, met: &mut Met) {
         assert!(answer.number != 1 && answer.number != 2, "{seed} {turn} {command:?}");
         met.modes[setup.record.mode as usize] += 1;
         if let (0, Command::Read { address, .. }) = (answer.number, &command) {
+            met.frozen_reads[answer.server as usize] += setup.record.frozen;
             let range = (address >> 24) as usize;
             if range >= 128 && setup.record.mar_bit(*address) == 0 {
                 met.bypassed_in[range - 128] += 1;
@@ -129,12 +132,14 @@ fn lists_with_drops_keep_the_record_well_formed() {
         }
     }
     assert!(met.numbers[..=10].iter().enumerate().all(|(n, &met)| met > 0 || n == 1 || n == 2));
+    assert!(met.numbers[17] > 0);
 }
 
 /// Every server, refusal and mode was met.
 fn check_met(met: &Met) {
     assert!(met.servers.iter().all(|&count| count > 1_000), "{met:?}");
-    for number in [0, 3, 4, 5, 6, 7, 8, 9, 10] {
+    assert!(met.frozen_reads[1..].iter().all(|&count| count > 500), "{met:?}");
+    for number in [0, 3, 4, 5, 6, 7, 8, 9, 10, 17] {
         assert!(met.numbers[number] > 20, "{met:?}");
     }
     for mode in [0, 1, 2, 3, 7] {

@@ -93,6 +93,8 @@ fn nothing_else() {
         Command::L1dBlockInvalidate { base: 0, count: 9 },
         Command::L1dInvalidateAll,
         Command::Mar { number: 128, bit: 1 },
+        Command::Freeze { frozen: 1 },
+        Command::Freeze { frozen: 2 },
     ] {
         assert_eq!(flat.apply(&command), None);
     }

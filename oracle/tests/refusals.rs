@@ -7,7 +7,7 @@ use oracle::{Answer, Command, Record};
 const A: u32 = 0x8000_0000;
 
 /// One command of each kind, all of which pass the checks on a fresh record.
-fn passing() -> [Command; 12] {
+fn passing() -> [Command; 13] {
     let (base, count) = (A, 1);
     [
         Command::Read { size: 1, address: 0 },
@@ -22,6 +22,7 @@ fn passing() -> [Command; 12] {
         Command::L1dInvalidateAll,
         Command::Mode { mode: 0 },
         Command::Mar { number: 128, bit: 0 },
+        Command::Freeze { frozen: 1 },
     ]
 }
 
@@ -318,6 +319,48 @@ fn number_10_held_lines() {
     }
 }
 
+/// "17 for a number above 1, checked after 10" (02, U11).
+#[test]
+fn number_17_freeze() {
+    for mode in [0, 1] {
+        for frozen in [0, 1] {
+            let mut setup = Setup::fresh(65_536, 65_536);
+            setup.mode(mode);
+            setup.freeze(frozen);
+            gets(&setup, Command::Freeze { frozen: 0 }, 0);
+            gets(&setup, Command::Freeze { frozen: 1 }, 0);
+            for number in [2, 3, 12, 17, 255, 256, 257, 1 << 16, 1 << 31, u32::MAX] {
+                gets(&setup, Command::Freeze { frozen: number }, 17);
+            }
+        }
+    }
+    // 1, then 2, come before it.
+    let mut setup = Setup::fresh(65_536, 65_536);
+    setup.record.frozen = 2;
+    gets(&setup, Command::Freeze { frozen: 2 }, 2);
+    gets(&setup, Command::Freeze { frozen: 0 }, 2);
+    setup.l1d.pop();
+    gets(&setup, Command::Freeze { frozen: 2 }, 1);
+}
+
+/// A record keeps 0 or 1; with another number each call gets 2.
+#[test]
+fn number_2_frozen() {
+    let mut setup = Setup::fresh(65_536, 65_536);
+    for frozen in [2, 3, 128, 254, 255, 256, u32::MAX] {
+        setup.record.frozen = frozen;
+        for command in passing() {
+            gets(&setup, command, 2);
+        }
+        assert_eq!((setup.look_number(0), setup.look(0).len()), (2, 0));
+    }
+    setup.record.frozen = 1;
+    for command in passing() {
+        gets(&setup, command, 0);
+    }
+    assert_eq!(setup.look_number(0), 0);
+}
+
 #[test]
 fn number_11_damage() {
     let stops = |trace: &[u8], consumed: usize, answers: usize, stop: u8| {
@@ -330,7 +373,7 @@ fn number_11_damage() {
         );
     };
     stops(&[], 0, 0, 0);
-    for code in 12..=255 {
+    for code in 13..=255 {
         stops(&[9, code, 9], 1, 1, 11);
     }
     // An end inside a command.
@@ -345,6 +388,13 @@ fn number_11_damage() {
     stops(&[10, 0x80, 0x80, 0x00], 0, 0, 11);
     stops(&[10, 0x80, 0x80, 0x80, 0x80, 0x80, 0x00], 0, 0, 11);
     stops(&[10, 0x00], 2, 1, 0);
+    // Code 12 has one number.
+    stops(&[12], 0, 0, 11);
+    stops(&[12, 0x80], 0, 0, 11);
+    stops(&[12, 0x81, 0x00], 0, 0, 11);
+    stops(&[12, 0x80, 0x80, 0x80, 0x80, 0x10], 0, 0, 11);
+    stops(&[12, 0xFF, 0xFF, 0xFF, 0xFF, 0x0F], 6, 1, 0);
+    stops(&[12, 1, 12, 0, 9], 5, 3, 0);
     // Too wide numbers: 2^32 − 1 passes, 2^32 does not.
     stops(&[10, 0xFF, 0xFF, 0xFF, 0xFF, 0x0F], 6, 1, 0);
     stops(&[10, 0x80, 0x80, 0x80, 0x80, 0x10], 0, 0, 11);
@@ -386,11 +436,13 @@ fn number_12_answer_bytes() {
 }
 
 #[test]
-fn in_a_trace_11_before_12_before_3_to_10() {
+fn in_a_trace_11_before_12_before_the_others() {
     let mut setup = Setup::fresh(65_536, 65_536);
     for (trace, stop) in [
         (&[0, 3, 0x80][..], 11), // cut off, and size 3
-        (&[12][..], 11),
+        (&[13][..], 11),
+        (&[12][..], 11),      // cut off
+        (&[12, 2][..], 12),   // 17
         (&[0, 3, 0][..], 12), // size 3
         (&[10, 4][..], 12),   // mode 4
         (&[11, 1, 2][..], 12),
@@ -404,13 +456,13 @@ fn in_a_trace_11_before_12_before_3_to_10() {
     }
     // 1 and 2 come before both.
     setup.record.mar128 = 7;
-    assert_eq!(setup.run(&[12], &mut []).stop, 2);
+    assert_eq!(setup.run(&[13], &mut []).stop, 2);
     setup.l1d.pop();
-    assert_eq!(setup.run(&[12], &mut []).stop, 1);
+    assert_eq!(setup.run(&[13], &mut []).stop, 1);
 }
 
 #[test]
-fn refusals_3_to_10_are_answered_and_the_run_goes_on() {
+fn other_refusals_are_answered_and_the_run_goes_on() {
     let mut setup = Setup::fresh(65_536, 65_536);
     let mut trace = Vec::new();
     let commands = [
@@ -424,6 +476,7 @@ fn refusals_3_to_10_are_answered_and_the_run_goes_on() {
         (Command::Mar { number: 128, bit: 1 }, 0),
         (Command::Read { size: 1, address: A }, 0),
         (Command::Mar { number: 128, bit: 0 }, 10),
+        (Command::Freeze { frozen: 2 }, 17),
         (Command::Write { size: 1, address: 5, value: 6 }, 0),
     ];
     for (command, _) in &commands {
