@@ -104,7 +104,7 @@ static void put_number(struct trace *t, uint64_t v)
 
 static void put(struct trace *t, uint8_t code, uint32_t first, uint32_t second, uint64_t value)
 {
-    static const uint8_t numbers[12] = { 2, 3, 0, 0, 2, 2, 2, 2, 2, 0, 1, 2 };
+    static const uint8_t numbers[13] = { 2, 3, 0, 0, 2, 2, 2, 2, 2, 0, 1, 2, 1 };
     t->bytes[t->len++] = code;
     t->count++;
     if (numbers[code] > 0) put_number(t, first);
@@ -137,7 +137,8 @@ static c64x_answer library_call(union both *both, const struct lent *m, const st
     case 8: return c64x_l1d_invalidate_block(r, q->first, q->second, LENT(*m));
     case 9: return c64x_l1d_invalidate_all(r, LENT(*m));
     case 10: return c64x_change_mode(r, q->first, LENT(*m));
-    default: return c64x_change_mar(r, q->first, q->second, LENT(*m));
+    case 11: return c64x_change_mar(r, q->first, q->second, LENT(*m));
+    default: return c64x_freeze(r, q->first, LENT(*m));
     }
 }
 
@@ -164,7 +165,7 @@ static int same_line(const struct line *x, const struct line *y)
 static int same_record(const struct record *x, const struct record *y)
 {
     if (x->l2len != y->l2len || x->extlen != y->extlen) return 0;
-    if (x->mode != y->mode || x->mar128 != y->mar128 || x->mar129 != y->mar129) return 0;
+    if (x->mode != y->mode || x->mar128 != y->mar128 || x->mar129 != y->mar129 || x->frozen != y->frozen) return 0;
     for (int s = 0; s < 128; s++) {
         for (int w = 0; w < 2; w++)
             if (!same_line(&x->l1d[s].lines[w], &y->l1d[s].lines[w])) return 0;
@@ -285,6 +286,7 @@ static void some_command(struct trace *t)
     else if (kind < 62)
         put(t, (uint8_t)(below(8) ? 11 : 10), below(20) ? 128 + below(2) : below(200), below(20) ? 1 : below(3), 0);
     else if (below(12) == 0) put(t, 10, modes[below(8)], 0, 0);
+    else if (below(8) == 0) put(t, 12, below(8) ? below(2) : below(300), 0, 0);
     else if (below(6) == 0) put(t, (uint8_t)(below(3) == 0 ? 9 : 2 + below(2)), 0, 0, 0);
     else put(t, 11, 128 + below(2), 1, 0);
 }
@@ -296,10 +298,11 @@ static void damage(struct record *r)
     struct l1d_set *s = &r->l1d[below(128)];
     struct l2_set *u = &r->l2[below(2) ? below(64) : below(512)];
     struct line *x = below(2) ? &s->lines[below(2)] : &u->lines[below(4)];
-    switch (below(10)) {
+    switch (below(11)) {
     case 0: ((uint8_t *)r)[below(sizeof *r)] = (uint8_t)(below(2) ? below(4) : below(256)); break;
     case 1: ((uint8_t *)r)[below(12)] = (uint8_t)(below(2) ? below(8) : below(256)); break;
     case 2: r->mar128 ^= 1; break;
+    case 9: r->frozen = (uint8_t)below(4); break;
     case 3: s->order[below(2)] = (uint8_t)below(3); break;
     case 4: u->order[below(4)] = (uint8_t)below(5); break;
     case 5: u->lines[below(4)] = u->lines[below(4)]; break;
@@ -359,6 +362,7 @@ static void same_calls(struct trace *t)
             if (q.code >= 4 && q.code <= 8) q.first = some_address() & ~3u, q.second = below(300);
             if (q.code == 10) q.first = below(9);
             if (q.code == 11) q.first = 127 + below(4), q.second = below(3);
+            if (q.code == 12) q.first = below(3);
             if (q.code == 1) q.value = below(256);
             c64x_answer x = library_call(&lib.r, &lib.m, &q);
             struct answer y = model_call(&c.r.model, &c.m, &q);
@@ -631,6 +635,41 @@ static void classes(struct trace *t)
             }
 }
 
+/* L1D frozen, with the first 8 Kbytes of SRAM and of external memory in it, or with nothing. */
+static void start_frozen(struct trace *t, uint32_t mode, int held)
+{
+    start(t, 1, mode);
+    for (uint32_t a = 0; held && a < 8192; a += 64) put(t, 0, 4, a, 0), put(t, 0, 4, EXTERNAL + a, 0);
+    put(t, 12, 1, 0, 0);
+    play("set-up", t);
+}
+
+/* What a frozen L1D serves, and what goes past it. */
+static void frozen_classes(struct trace *t)
+{
+    head("trace run with a frozen L1D, by the command [servers]");
+    start_frozen(t, 1, 1);
+    at_random(t, 0, 4);
+    class("frozen read hits, 4 bytes", t);
+    at_random(t, 0, 1);
+    class("frozen read hits, 1 byte", t);
+    at_random(t, 1, 4);
+    class("frozen write hits, 4 bytes", t);
+    start_frozen(t, 1, 0);
+    round_and_round(t, 0, 0, 32768, 64);
+    class("frozen misses, SRAM", t);
+    round_and_round(t, 0, EXTERNAL, 32768, 64);
+    class("frozen misses that hit L2", t);
+    round_and_round(t, 0, EXTERNAL, 1 << 20, 128);
+    class("frozen misses that miss L2", t);
+    start_frozen(t, 0, 0);
+    round_and_round(t, 0, EXTERNAL, 65536, 64);
+    class("frozen misses, mode 0, external memory", t);
+    clear(t);
+    for (uint32_t i = 0; i < COMMANDS; i++) put(t, 12, i % 2, 0, 0);
+    class("12 frozen and thawed in turn", t);
+}
+
 /* ---- direct calls */
 
 /* Every line of both caches in use and dirty, from the start of external memory on. */
@@ -713,6 +752,7 @@ static void each_call(uint32_t count)
     direct("10 mode change to the same mode", 10, c.r.model.mode, 0, 0);
     direct("11 MAR bit set", 11, 129, 1, 0);
     direct("11 MAR bit cleared (looked for in all lines)", 11, 129, 0, 0);
+    direct("12 L1D frozen", 12, 1, 0, 0);
     view("view", EXTERNAL + 64, 0);
 }
 
@@ -787,14 +827,14 @@ static struct given givens[COMMANDS];
 /* Random commands, most of them right, at points in and around a short output: both sides do the same. */
 static void same_puts(void)
 {
-    static const uint32_t codes[4] = { 12, 255, 256, UINT32_MAX };
+    static const uint32_t codes[4] = { 13, 255, 256, UINT32_MAX };
     size_t by[3] = { 0 };
     for (int i = 0; i < 400000; i++) {
         uint8_t out[48], out_by_c[48];
         for (size_t k = 0; k < sizeof out; k++) out[k] = out_by_c[k] = (uint8_t)below(256);
         uint64_t n[3];
         for (int k = 0; k < 3; k++) n[k] = ((uint64_t)below(UINT32_MAX) << 32 | below(UINT32_MAX)) >> below(64);
-        uint32_t code = below(8) ? below(12) : codes[below(4)];
+        uint32_t code = below(8) ? below(13) : codes[below(4)];
         for (int k = 0; k < 2; k++)
             if (below(4)) n[k] &= UINT32_MAX;
         size_t len = below(sizeof out + 1), at = below(8) ? below((uint32_t)len + 2) : SIZE_MAX - below(30);
@@ -849,11 +889,11 @@ static void writing(void)
     for (int i = 0; i < COMMANDS; i++) {
         uint32_t kind = below(16), size = 1u << below(4), a = EXTERNAL + 8 * below(8192);
         givens[i] = (struct given){ kind < 8, size, a, some_value(size) };
-        if (kind >= 13) givens[i] = (struct given){ 2 + below(10), a, below(200), 0 };
+        if (kind >= 13) givens[i] = (struct given){ 2 + below(11), a, below(200), 0 };
     }
     writing_row("c64x_put_command, a mix of all", len);
     writing_row("c64x_put_command, refused with 16", 0);
-    for (int i = 0; i < COMMANDS; i++) givens[i].code += 12;
+    for (int i = 0; i < COMMANDS; i++) givens[i].code += 13;
     writing_row("c64x_put_command, refused with 11", len);
 }
 
@@ -1017,6 +1057,7 @@ int main(void)
     if (differences) return 1;
     time_the_clock();
     classes(&t);
+    frozen_classes(&t);
     directs(&t);
     writing();
     loads();

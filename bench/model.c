@@ -192,7 +192,7 @@ int model_well_formed(const struct record *r)
 {
     static const uint8_t fresh4[4] = { 3, 2, 1, 0 };
     if (!legal_l2(r->l2len) || !legal_ext(r->extlen) || !is_mode(r->mode) || cache_size(r->mode) > r->l2len) return 0;
-    if (r->mar128 > 1 || r->mar129 > 1) return 0;
+    if (r->mar128 > 1 || r->mar129 > 1 || r->frozen > 1) return 0;
     uint32_t sram = r->l2len - cache_size(r->mode);
     uint32_t sets = cache_size(r->mode) / 512;
     for (uint32_t s = 0; s < L1D_SETS; s++) {
@@ -275,6 +275,8 @@ static inline uint8_t command_due(const struct machine *k, const struct command 
     case 11:
         if ((c->first != 128 && c->first != 129) || c->second > 1) return 9;
         return c->second == 0 && holds_range(k->r, c->first) ? 10 : 0;
+    case 12:
+        return c->first > 1 ? 17 : 0;
     default:
         return 0;
     }
@@ -400,14 +402,19 @@ static inline void read(struct machine *k, uint32_t size, uint32_t a, struct ans
     int w = l1d_find(s, b);
     if (w >= 0) {
         q->server = 1;
+        if (!k->r->frozen) l1d_use(s, w);
+    } else if (k->r->frozen) {
+        /* just its bytes, from the home: L1D stays as it is (02, U11) */
+        q->value = load(reach_home(k, a, 0, &q->server), size);
+        return;
     } else {
         w = l1d_victim(s);
         if (s->lines[w].dirty) send_home(k, s, w);
         empty(&s->lines[w]);
         memcpy(l1d_data(k, s, w), reach_home(k, b, 0, &q->server), L1D_LINE);
         fill(&s->lines[w], b);
+        l1d_use(s, w);
     }
-    l1d_use(s, w);
     q->value = load(l1d_data(k, s, w) + a % L1D_LINE, size);
 }
 
@@ -427,7 +434,7 @@ static inline void write(struct machine *k, uint32_t size, uint32_t a, uint64_t 
     q->server = 1;
     store(l1d_data(k, s, w) + a % L1D_LINE, size, value);
     s->lines[w].dirty = 1;
-    l1d_use(s, w);
+    if (!k->r->frozen) l1d_use(s, w);
 }
 
 /* ---- cache commands */
@@ -540,6 +547,7 @@ static void command(struct machine *k, const struct command *c, struct answer *q
     case 9: l1d_all(k); break;
     case 10: change_mode(k, (uint8_t)c->first); break;
     case 11: *(c->first == 128 ? &k->r->mar128 : &k->r->mar129) = (uint8_t)c->second; break;
+    case 12: k->r->frozen = (uint8_t)c->first; break;
     }
 }
 
@@ -564,7 +572,7 @@ uint8_t model_fresh(struct record *r, const struct lent *m)
     int legal = m->l1d_len == L1D_BYTES && legal_l2(m->l2_len) && legal_ext(m->ext_len);
     r->l2len = legal ? (uint32_t)m->l2_len : 32768;
     r->extlen = legal ? (uint32_t)m->ext_len : 128;
-    r->mode = r->mar128 = r->mar129 = 0;
+    r->mode = r->mar128 = r->mar129 = r->frozen = 0;
     fresh_sets(r);
     if (!legal) return 1;
     memset(m->l1d, 0, m->l1d_len);
@@ -608,13 +616,13 @@ static inline const uint8_t *number(const uint8_t *p, const uint8_t *end, unsign
 /* The command at p; the place after it, or NULL where the trace is damaged. */
 static inline const uint8_t *decode(const uint8_t *p, const uint8_t *end, struct command *c)
 {
-    static const uint8_t numbers[12] = { 2, 3, 0, 0, 2, 2, 2, 2, 2, 0, 1, 2 };
+    static const uint8_t numbers[13] = { 2, 3, 0, 0, 2, 2, 2, 2, 2, 0, 1, 2, 1 };
     uint64_t v;
     c->code = *p++;
     c->first = 0;
     c->second = 0;
     c->value = 0;
-    if (c->code > 11) return NULL;
+    if (c->code > 12) return NULL;
     unsigned n = numbers[c->code];
     if (n == 0) return p;
     p = number(p, end, 32, &v);
@@ -682,9 +690,9 @@ static inline uint8_t *put_numbers(uint8_t *p, unsigned n, uint64_t first, uint6
 struct put_result model_put(uint8_t *out, size_t out_len, size_t at, uint32_t code, uint64_t first, uint64_t second,
                             uint64_t value)
 {
-    static const uint8_t numbers[12] = { 2, 3, 0, 0, 2, 2, 2, 2, 2, 0, 1, 2 };
+    static const uint8_t numbers[13] = { 2, 3, 0, 0, 2, 2, 2, 2, 2, 0, 1, 2, 1 };
     struct put_result x = { at, 11 };
-    if (code > 11) return x;
+    if (code > 12) return x;
     unsigned n = numbers[code];
     if ((n > 0 && first > UINT32_MAX) || (n > 1 && second > UINT32_MAX)) return x;
     x.number = 16;

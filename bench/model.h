@@ -1,6 +1,7 @@
 /* A plain C model of paper 01, "The C64x data memory in two levels", as the requests of paper 02 have left it, to
-   measure the proved library against. Like the library it is lent the record in place and copies it nowhere. The record's layout is that of include/c64x.h, so that
-   both sides can be held against each other field by field. Little-endian hosts only. */
+   measure the proved library against. Like the library it is lent the record in place and copies it nowhere. The
+   record's layout is that of include/c64x.h, so that both sides can be held against each other field by field.
+   Little-endian hosts only. */
 #ifndef MODEL_H
 #define MODEL_H
 
@@ -29,6 +30,7 @@ struct record {
     uint8_t mode;
     uint8_t mar128;
     uint8_t mar129;
+    uint8_t frozen;
     struct l1d_set l1d[128];
     struct l2_set l2[512];
 };

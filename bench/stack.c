@@ -15,7 +15,7 @@
 #define EXT_BYTES (1u << 20)
 
 /* The calls, in the order of the codes of a trace; then the others. */
-enum { FRESH = 12, RUN, VIEW, VIEW_NUMBER, SHORT_RUN_OF, SHORT_RUN_NUMBER, PUT, LOAD, KINDS };
+enum { FRESH = 13, RUN, VIEW, VIEW_NUMBER, SHORT_RUN_OF, SHORT_RUN_NUMBER, PUT, LOAD, KINDS };
 
 static const char *const names[KINDS] = {
     "c64x_read",
@@ -30,6 +30,7 @@ static const char *const names[KINDS] = {
     "c64x_l1d_invalidate_all",
     "c64x_change_mode",
     "c64x_change_mar",
+    "c64x_freeze",
     "c64x_fresh",
     "c64x_run",
     "c64x_view",
@@ -89,6 +90,7 @@ static void call(void)
     case 9: c64x_l1d_invalidate_all(r, LENT); break;
     case 10: c64x_change_mode(r, first, LENT); break;
     case 11: c64x_change_mar(r, first, second, LENT); break;
+    case 12: c64x_freeze(r, first, LENT); break;
     case FRESH: c64x_fresh(r, LENT); break;
     case RUN: c64x_run(r, trace, trace_len, LENT, answers, sizeof answers); break;
     case VIEW: c64x_view(r, first, l2, l2_len, ext, sizeof ext, seen, sizeof seen); break;
@@ -149,7 +151,7 @@ static void put_number(uint64_t v)
 
 static void put(const struct call *q)
 {
-    static const uint8_t numbers[12] = { 2, 3, 0, 0, 2, 2, 2, 2, 2, 0, 1, 2 };
+    static const uint8_t numbers[13] = { 2, 3, 0, 0, 2, 2, 2, 2, 2, 0, 1, 2, 1 };
     trace[trace_len++] = (uint8_t)q->kind;
     if (numbers[q->kind] > 0) put_number(q->first);
     if (numbers[q->kind] > 1) put_number(q->second);
@@ -163,13 +165,14 @@ static struct call some_command(void)
     uint32_t size = below(40) ? 1u << below(4) : below(10);
     uint32_t a = (below(3) ? EXTERNAL : 0) + (below(4) ? below(40) * 4096 + below(256) : below(300000));
     if (size && below(40)) a -= a % size;
-    switch (below(24)) {
+    switch (below(25)) {
     case 0: return (struct call){ 2, 0, 0, 0 };
     case 1: return (struct call){ 3, 0, 0, 0 };
     case 2: return (struct call){ 9, 0, 0, 0 };
     case 3: return (struct call){ 10, modes[below(6)], 0, 0 };
     case 4: return (struct call){ 11, 127 + below(4), below(3), 0 };
     case 5: case 6: case 7: return (struct call){ 4 + (int)below(5), a & ~3u, below(70000), 0 };
+    case 14: return (struct call){ 12, below(3), 0, 0 };
     case 8: case 9: case 10: case 11: case 12: case 13: return (struct call){ 1, size, a, below(256) };
     default: return (struct call){ 0, size, a, 0 };
     }
@@ -189,6 +192,7 @@ static void every_call(void)
         { 7, EXTERNAL, 65535, 0 }, { 7, 0, 65535, 0 }, { 8, EXTERNAL, 65535, 0 }, { 9, 0, 0, 0 },
         { 10, 0, 0, 0 }, { 10, 1, 0, 0 }, { 10, 2, 0, 0 }, { 10, 3, 0, 0 }, { 10, 7, 0, 0 }, { 10, 4, 0, 0 },
         { 11, 128, 1, 0 }, { 11, 128, 0, 0 }, { 11, 129, 0, 0 }, { 11, 7, 0, 0 },
+        { 12, 1, 0, 0 }, { 12, 0, 0, 0 }, { 12, 2, 0, 0 },
         { FRESH, 0, 0, 0 }, { VIEW, EXTERNAL + 64, 0, 0 }, { VIEW, 64, 0, 0 }, { VIEW, 4, 0, 0 },
         { VIEW_NUMBER, EXTERNAL + 64, 0, 0 }, { VIEW_NUMBER, 4, 0, 0 },
         { PUT, 4, EXTERNAL, 5 }, { PUT, UINT32_MAX, UINT32_MAX, UINT64_MAX },
@@ -197,7 +201,7 @@ static void every_call(void)
     for (size_t i = 0; i < sizeof calls / sizeof calls[0]; i++) {
         measure(calls[i].kind, calls[i].first, calls[i].second, calls[i].value);
         memcpy(&record, &state, sizeof state);
-        if (calls[i].kind > 11) continue;
+        if (calls[i].kind > 12) continue;
         trace_len = 0;
         put(&calls[i]);
         measure(RUN, 0, 0, 0);
@@ -242,6 +246,8 @@ int main(void)
         fill(modes[i], 0); /* SRAM; in mode 7 there is none */
         every_call();
         fill(modes[i], EXTERNAL);
+        every_call();
+        c64x_freeze(&record, 1, LENT);
         every_call();
         record.l2[5].lines[1].valid = 2; /* refused with 2 */
         every_call();

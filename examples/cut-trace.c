@@ -73,7 +73,7 @@ static c64x_ran run(const uint8_t *bytes, size_t length)
 /* The commands of a trace that a run has taken to its end. */
 static void list_commands(size_t length)
 {
-    static const uint8_t numbers[] = {2, 3, 0, 0, 2, 2, 2, 2, 2, 0, 1, 2};
+    static const uint8_t numbers[] = {2, 3, 0, 0, 2, 2, 2, 2, 2, 0, 1, 2, 1};
     size_t at = 0;
     for (count = 0; at < length; count++) {
         struct command *command = &commands[count];

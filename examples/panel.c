@@ -1,6 +1,6 @@
 /*
  * What the repair panel shows: a trace is run from a fresh start, and each
- * answer is told in words, then what the two caches hold.
+ * answer is told in words, then whether L1D is frozen and what the two caches hold.
  *
  *   panel [TRACE]           TRACE is a file; without it a small trace of its own is run
  *   panel --load SEED N     with both MAR bits on, the load of this seed and N accesses
@@ -48,12 +48,13 @@ static const char *const commands[] = {
     "L1D invalidate all",
     "mode",
     "MAR",
+    "freeze",
 };
 
 /* How many bytes the whole command at `at` has: a code and numbers that end with a byte below 128. */
 static size_t command_length(size_t at)
 {
-    static const uint8_t numbers[] = {2, 3, 0, 0, 2, 2, 2, 2, 2, 0, 1, 2};
+    static const uint8_t numbers[] = {2, 3, 0, 0, 2, 2, 2, 2, 2, 0, 1, 2, 1};
     size_t end = at + 1;
     for (uint8_t left = numbers[trace[at]]; left > 0; end++)
         if (trace[end] < 128)
@@ -92,8 +93,8 @@ static void show_lines(const char *cache, const c64x_line *lines, size_t count, 
 static void show_caches(const c64x_record *record)
 {
     size_t held = 0, dirty = 0;
-    printf("L2 mode %d, MAR 128 %s, MAR 129 %s\n", record->mode, record->mar128 ? "on" : "off",
-           record->mar129 ? "on" : "off");
+    printf("L2 mode %d, MAR 128 %s, MAR 129 %s, L1D %s\n", record->mode, record->mar128 ? "on" : "off",
+           record->mar129 ? "on" : "off", record->frozen ? "frozen" : "not frozen");
     for (size_t set = 0; set < C64X_L1D_SETS; set++)
         show_lines("L1D", record->l1d[set].lines, 2, &held, &dirty);
     printf("L1D: %zu lines held, %zu dirty\n", held, dirty);

@@ -15,8 +15,8 @@
  * ONE CHIP is one record and three memories. All four are yours, and they are the whole state: a copy of all four is
  * a copy of the chip.
  *
- *   record    a c64x_record: the mode, the MAR bits, and which lines the caches hold. c64x_fresh writes it. You may
- *             read it at any time; there is no need ever to write to it.
+ *   record    a c64x_record: the mode, the MAR bits, whether L1D is frozen, and which lines the caches hold. c64x_fresh
+ *             writes it. You may read it at any time; there is no need ever to write to it.
  *   l1d       the bytes of L1D: exactly 16,384
  *   l2        the bytes of L2: a multiple of 32,768, from 32,768 to 262,144
  *   ext       the bytes of external memory: a multiple of 128, from 128 to 33,554,432
@@ -45,11 +45,12 @@
  *   11  the trace is damaged; of a command to be written: a code that traces lack, or a number that is too wide
  *   12  fewer than 10 answer bytes are left
  *   16  fewer bytes of the output are left than the command, or the whole load, has
+ *   17  L1D is to be frozen or thawed by a number above 1
  *   18  no short run: its number is above 4,680, it has more than four digits, or a digit is above 7
  *
- * Where several are due, the lowest counts (only in a trace 11, then 12, come before 3 to 10). A refused call changes
- * nothing: no byte of the record and no byte of a memory. (The one exception is c64x_fresh; see there. A run that is
- * stopped by 11 or 12 keeps what it did before.)
+ * Where several are due, the lowest counts (only in a trace 11, then 12, come before 3 to 10 and 17). A refused call
+ * changes nothing: no byte of the record and no byte of a memory. (The one exception is c64x_fresh; see there. A run
+ * that is stopped by 11 or 12 keeps what it did before.)
  *
  * PADDING. The record has bytes between its fields that mean nothing. No call looks at them. An accepted call may
  * change them, so compare two records field by field and not with memcmp.
@@ -80,10 +81,11 @@ extern "C" {
  * The version of this interface. MAJOR goes up when a program that was written for the version before would have to
  * be changed or compiled again: another layout of a struct, other arguments, another meaning of a number. MINOR goes
  * up when calls are added, or when one does more than it did, and programs stay as they are. Version 1 passed the
- * record by value; since 2.4 the L2 commands reach all of L1D.
+ * record by value; since 2.4 the L2 commands reach all of L1D; since 2.5 L1D can be frozen, and a byte of the record
+ * that was padding says whether it is.
  */
 #define C64X_VERSION_MAJOR 2
-#define C64X_VERSION_MINOR 4
+#define C64X_VERSION_MINOR 5
 
 /* The stack that a call needs at most, in bytes. */
 #define C64X_STACK_BYTES 4096
@@ -142,8 +144,9 @@ typedef struct {
 } c64x_l2_set;
 
 /*
- * The lengths of L2 and of external memory, the L2 mode, the MAR bits (0 or 1), and the sets of both caches. How many
- * sets of L2 are in use goes by the mode: none in mode 0, 64 in mode 1, 128 in 2, 256 in 3, 512 in 7.
+ * The lengths of L2 and of external memory, the L2 mode, the MAR bits (0 or 1), whether L1D is frozen (1) or not (0),
+ * and the sets of both caches. How many sets of L2 are in use goes by the mode: none in mode 0, 64 in mode 1, 128 in 2,
+ * 256 in 3, 512 in 7. A number other than 0 or 1 for a MAR bit or for `frozen` is refused with 2.
  */
 typedef struct {
     uint32_t l2len;
@@ -151,6 +154,7 @@ typedef struct {
     uint8_t mode;
     uint8_t mar128;
     uint8_t mar129;
+    uint8_t frozen;
     c64x_l1d_set l1d[C64X_L1D_SETS];
     c64x_l2_set l2[C64X_L2_SETS];
 } c64x_record;
@@ -230,6 +234,7 @@ C64X_ASSERT(offsetof(c64x_record, extlen) == 4, "c64x_record");
 C64X_ASSERT(offsetof(c64x_record, mode) == 8, "c64x_record");
 C64X_ASSERT(offsetof(c64x_record, mar128) == 9, "c64x_record");
 C64X_ASSERT(offsetof(c64x_record, mar129) == 10, "c64x_record");
+C64X_ASSERT(offsetof(c64x_record, frozen) == 11, "c64x_record");
 C64X_ASSERT(offsetof(c64x_record, l1d) == 12, "c64x_record");
 C64X_ASSERT(offsetof(c64x_record, l2) == 2572, "c64x_record");
 C64X_ASSERT(sizeof(c64x_answer) == 16, "c64x_answer");
@@ -259,9 +264,9 @@ C64X_ASSERT(offsetof(c64x_load, number) == 8, "c64x_load");
     uint8_t *l1d, size_t l1d_len, uint8_t *l2, size_t l2_len, uint8_t *ext, size_t ext_len
 
 /*
- * The chip after reset: mode 0, both MAR bits 0, nothing in the caches. What stood in the record before does not
- * matter. The bytes of L1D and L2 become 0, external memory is kept. Refused: 1 only. The record then becomes that of
- * a fresh chip with 32,768 bytes of L2 and 128 of external memory; no memory changes.
+ * The chip after reset: mode 0, both MAR bits 0, L1D not frozen, nothing in the caches. What stood in the record before
+ * does not matter. The bytes of L1D and L2 become 0, external memory is kept. Refused: 1 only. The record then becomes
+ * that of a fresh chip with 32,768 bytes of L2 and 128 of external memory; no memory changes.
  */
 c64x_answer c64x_fresh(c64x_record *record, C64X_LENT);
 
@@ -301,7 +306,8 @@ c64x_answer c64x_l1d_invalidate_all(c64x_record *record, C64X_LENT);
 /*
  * Another L2 mode, or the same again. The L2 cache has no bytes in mode 0, 32,768 in mode 1, 65,536 in 2, 131,072 in
  * 3 and 262,144 in 7; SRAM is what is left of L2. All dirty lines are written back and all lines leave. SRAM that
- * both the old and the new mode have is kept; every later byte of L2 becomes 0. Refused: 1, 2, 8.
+ * both the old and the new mode have is kept; every later byte of L2 becomes 0. A frozen L1D stays frozen. Refused: 1,
+ * 2, 8.
  */
 c64x_answer c64x_change_mode(c64x_record *record, uint32_t mode, C64X_LENT);
 
@@ -312,21 +318,32 @@ c64x_answer c64x_change_mode(c64x_record *record, uint32_t mode, C64X_LENT);
 c64x_answer c64x_change_mar(c64x_record *record, uint32_t mar, uint32_t bit, C64X_LENT);
 
 /*
+ * Freezes L1D (1), as an interrupt routine may do to keep what it holds, or thaws it (0). A frozen L1D serves what it
+ * holds as before, and a write to such a line makes it dirty, but the order of use stays as it is. A read of something
+ * else takes just its bytes from SRAM, from the L2 cache or, in mode 0, from external memory: nothing comes into L1D,
+ * and no line leaves it for that. L2 is not frozen: it fetches lines, uses them and puts others out, and a line that
+ * leaves it still takes its two halves out of L1D. Writes to what L1D does not hold, the cache commands and mode
+ * changes do what they always do. Refused: 1, 2, 17.
+ */
+c64x_answer c64x_freeze(c64x_record *record, uint32_t frozen, C64X_LENT);
+
+/*
  * Many calls at once: a trace is a list of commands in bytes. A command is one byte, its code, and its numbers:
  *
- *    0  read (size, address)                            6  L2 block invalidate (base, count)
- *    1  write (size, address, value)                    7  L1D block writeback-invalidate (base, count)
- *    2  L2 writeback all                                8  L1D block invalidate (base, count)
- *    3  L2 writeback-invalidate all                     9  L1D invalidate all
- *    4  L2 block writeback (base, count)               10  mode (mode)
- *    5  L2 block writeback-invalidate (base, count)    11  MAR (mar, bit)
+ *    0  read (size, address)                            7  L1D block writeback-invalidate (base, count)
+ *    1  write (size, address, value)                    8  L1D block invalidate (base, count)
+ *    2  L2 writeback all                                9  L1D invalidate all
+ *    3  L2 writeback-invalidate all                    10  mode (mode)
+ *    4  L2 block writeback (base, count)               11  MAR (mar, bit)
+ *    5  L2 block writeback-invalidate (base, count)    12  freeze (frozen)
+ *    6  L2 block invalidate (base, count)
  *
  * A number is written in groups of seven bits, the lowest first, in one byte each; every byte but the last has its
  * top bit set. 5 is 05, 300 is AC 02, 80000000h is 80 80 80 80 08. Longer forms of the same number are damage.
  *
  * Each command gives one answer of 10 bytes: its number, its server, and its value in 8 bytes, the lowest first. A
- * command that is refused by 3 to 10 is answered so, and the run goes on. 11 and 12 stop it in front of their command;
- * what ran before stands, and answer bytes behind the last answer stay as they were. 1 and 2 stop it at once.
+ * command that is refused by 3 to 10 or 17 is answered so, and the run goes on. 11 and 12 stop it in front of their
+ * command; what ran before stands, and answer bytes behind the last answer stay as they were. 1 and 2 stop it at once.
  */
 c64x_ran c64x_run(c64x_record *record, const uint8_t *trace, size_t trace_len, C64X_LENT, uint8_t *answers,
                   size_t answers_len);

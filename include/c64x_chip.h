@@ -34,6 +34,7 @@ enum {
     C64X_STOPPED_TRACE = 11,
     C64X_STOPPED_ANSWERS = 12,
     C64X_REFUSED_ROOM = 16,
+    C64X_REFUSED_FREEZE = 17,
     C64X_REFUSED_SHORT_RUN = 18
 };
 
@@ -64,6 +65,7 @@ static inline const char *c64x_number_text(unsigned number)
     case C64X_STOPPED_TRACE: return "stopped: the trace is damaged";
     case C64X_STOPPED_ANSWERS: return "stopped: fewer than 10 answer bytes are left";
     case C64X_REFUSED_ROOM: return "refused: too few bytes of the output are left";
+    case C64X_REFUSED_FREEZE: return "refused: neither 1, which freezes L1D, nor 0, which thaws it";
     case C64X_REFUSED_SHORT_RUN: return "refused: no short run has this number or these digits";
     default: return "unknown number";
     }
@@ -175,6 +177,11 @@ static inline c64x_answer c64x_chip_change_mar(c64x_chip *chip, uint32_t mar, ui
     return c64x_change_mar(&chip->record, mar, bit, C64X_CHIP_LENT(chip));
 }
 
+static inline c64x_answer c64x_chip_freeze(c64x_chip *chip, uint32_t frozen)
+{
+    return c64x_freeze(&chip->record, frozen, C64X_CHIP_LENT(chip));
+}
+
 static inline c64x_ran c64x_chip_run(c64x_chip *chip, const uint8_t *trace, size_t trace_len, uint8_t *answers,
                                      size_t answers_len)
 {
@@ -201,7 +208,8 @@ enum {
     C64X_CODE_L1D_INVALIDATE_BLOCK = 8,
     C64X_CODE_L1D_INVALIDATE_ALL = 9,
     C64X_CODE_MODE = 10,
-    C64X_CODE_MAR = 11
+    C64X_CODE_MAR = 11,
+    C64X_CODE_FREEZE = 12
 };
 
 /* A trace that is being written: where it goes, how many bytes there are, and how many are written already. */

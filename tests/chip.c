@@ -1,9 +1,9 @@
 /*
  * Every call of include/c64x_chip.h, on cases whose outcome the papers give: the worked example, C5, C6, C8, C9 and
  * C10, what each cache command does to a dirty line and L2's to lines that L1D alone holds, each number of the refusal
- * table with nothing changed, and short runs at the ends of each length; the trace of the worked example, C3 and C4 are
- * written through c64x_put_command; a load by hand. It is compiled as C and as C++. Prints how many checks passed; exit
- * status 1 where one failed.
+ * table with nothing changed, and short runs at the ends of each length; a frozen L1D; the trace of the worked example,
+ * C3 and C4 are written through c64x_put_command; a load by hand. It is compiled as C and as C++. Prints how many
+ * checks passed; exit status 1 where one failed.
  */
 #include <stdio.h>
 #include <string.h>
@@ -246,10 +246,71 @@ static void commands(void)
     CHECK(!l1d_line(EXT) && !l2_line(EXT) && ext[0] == 5 && chip.record.mode == 0 && chip.record.mar128 == 0);
 }
 
+/* The order of use of an L1D set is this one. */
+static int order_is(unsigned set, unsigned first, unsigned second)
+{
+    return chip.record.l1d[set].order.first == first && chip.record.l1d[set].order.second == second;
+}
+
+/* A frozen L1D: hits change no order, a write hit makes its line dirty, a miss fills nothing, a mode change keeps the
+   freeze, a fresh start thaws; then code 12 in a trace. */
+static void frozen(void)
+{
+    static const uint8_t trace[] = {12, 1, 0, 1, 0, 12, 2, 12, 0, 0, 1, 0};
+    uint8_t answers[sizeof trace * C64X_ANSWER_BYTES];
+    for (unsigned mode = 0; mode < 2; mode++) {
+        start(sizeof l2);
+        for (size_t i = 0; i < sizeof ext; i++)
+            ext[i] = (uint8_t)(i / 64);
+        CHECK(chip.record.frozen == 0);
+        CHECK(done(c64x_chip_change_mar(&chip, 128, 1)));
+        CHECK(done(c64x_chip_change_mode(&chip, mode)));
+        CHECK(c64x_chip_read(&chip, 1, EXT).server == C64X_SERVER_EXTERNAL);
+        CHECK(c64x_chip_read(&chip, 1, EXT + 0x2000).server == C64X_SERVER_EXTERNAL);
+        CHECK(order_is(0, 1, 0));
+        CHECK(done(c64x_chip_freeze(&chip, 1)));
+        CHECK(chip.record.frozen == 1);
+        CHECK(is(c64x_chip_read(&chip, 1, EXT), 0, C64X_SERVER_L1D, 0) && order_is(0, 1, 0));
+        CHECK(is(c64x_chip_write(&chip, 1, EXT, 7), 0, C64X_SERVER_L1D, 0) && order_is(0, 1, 0));
+        CHECK(dirty(l1d_line(EXT)) && ext[0] == 0);
+        /* from external memory; the second time from where it stands now, and not from L1D */
+        CHECK(is(c64x_chip_read(&chip, 1, EXT + 0x4041), 0, C64X_SERVER_EXTERNAL, 1));
+        CHECK(is(c64x_chip_read(&chip, 1, EXT + 0x4041), 0, mode ? C64X_SERVER_L2_CACHE : C64X_SERVER_EXTERNAL, 1));
+        CHECK(is(c64x_chip_read(&chip, 1, EXT + 0x4000), 0, mode ? C64X_SERVER_L2_CACHE : C64X_SERVER_EXTERNAL, 0));
+        CHECK(!l1d_line(EXT + 0x4040) && !l1d_line(EXT + 0x4000) && l1d_line(EXT) && l1d_line(EXT + 0x2000));
+        CHECK(mode ? clean(l2_line(EXT + 0x4000)) : !l2_line(EXT + 0x4000));
+        CHECK(is(c64x_chip_read(&chip, 1, 64), 0, C64X_SERVER_SRAM, 0) && !l1d_line(64));
+        CHECK(is(c64x_chip_write(&chip, 1, 64, 9), 0, C64X_SERVER_SRAM, 0) && l2[64] == 9);
+        /* in mode 1 the line of 80000000h leaves L2 for the fifth of its set, and takes its dirty half with it */
+        CHECK(c64x_chip_read(&chip, 1, EXT + 0x6000).server == C64X_SERVER_EXTERNAL);
+        CHECK(c64x_chip_read(&chip, 1, EXT + 0x8000).server == C64X_SERVER_EXTERNAL);
+        CHECK(mode ? !l1d_line(EXT) && !l2_line(EXT) && ext[0] == 7 : dirty(l1d_line(EXT)) && ext[0] == 0);
+        CHECK(clean(l1d_line(EXT + 0x2000)) && order_is(0, 1, 0));
+        CHECK(done(c64x_chip_change_mode(&chip, 1 - mode)));
+        CHECK(chip.record.frozen == 1 && ext[0] == 7 && !l1d_line(EXT + 0x2000));
+        CHECK(c64x_chip_read(&chip, 1, EXT).value == 7 && !l1d_line(EXT));
+        CHECK(done(c64x_chip_freeze(&chip, 0)));
+        CHECK(chip.record.frozen == 0);
+        CHECK(c64x_chip_read(&chip, 1, EXT).value == 7 && clean(l1d_line(EXT)));
+        CHECK(done(c64x_chip_freeze(&chip, 1)));
+        CHECK(done(c64x_chip_fresh(&chip)));
+        CHECK(chip.record.frozen == 0);
+    }
+    start(sizeof l2);
+    c64x_ran ran = c64x_chip_run(&chip, trace, sizeof trace, answers, sizeof answers);
+    CHECK(ran.consumed == sizeof trace && ran.count == 5 && ran.stop == C64X_ACCEPTED);
+    CHECK(done(c64x_answer_at(answers, 0)));
+    CHECK(is(c64x_answer_at(answers, 1), 0, C64X_SERVER_SRAM, 0));
+    CHECK(is(c64x_answer_at(answers, 2), C64X_REFUSED_FREEZE, 0, 0));
+    CHECK(done(c64x_answer_at(answers, 3)));
+    CHECK(is(c64x_answer_at(answers, 4), 0, C64X_SERVER_SRAM, 0));
+    CHECK(clean(l1d_line(0)) && chip.record.frozen == 0);
+}
+
 /* Runs, views and calls of each number from 1 on: nothing changes. */
 static void refusals(void)
 {
-    static const uint8_t damaged[] = {12};
+    static const uint8_t damaged[] = {13};
     static const uint8_t one[] = {2};
     uint8_t answers[C64X_ANSWER_BYTES] = {0}, seen[C64X_VIEW_BYTES] = {0};
     c64x_ran ran;
@@ -271,6 +332,14 @@ static void refusals(void)
     CHECK(c64x_chip_view_number(&chip, EXT) == C64X_REFUSED_RECORD && kept());
 
     three_levels();
+    for (unsigned frozen = 2; frozen < 256; frozen++) {
+        chip.record.frozen = (uint8_t)frozen;
+        keep();
+        CHECK(refused(c64x_chip_freeze(&chip, 0), C64X_REFUSED_RECORD));
+        CHECK(refused(c64x_chip_read(&chip, 4, EXT), C64X_REFUSED_RECORD));
+    }
+
+    three_levels();
     keep();
     CHECK(refused(c64x_chip_read(&chip, 3, EXT), C64X_REFUSED_SIZE));
     CHECK(refused(c64x_chip_write(&chip, 4, EXT + 2, 0), C64X_REFUSED_ALIGNMENT));
@@ -287,6 +356,9 @@ static void refusals(void)
     CHECK(refused(c64x_chip_change_mode(&chip, 3), C64X_REFUSED_MODE));
     CHECK(refused(c64x_chip_change_mar(&chip, 130, 1), C64X_REFUSED_MAR));
     CHECK(refused(c64x_chip_change_mar(&chip, 128, 0), C64X_REFUSED_LINE_HELD));
+    CHECK(refused(c64x_chip_freeze(&chip, 2), C64X_REFUSED_FREEZE));
+    CHECK(refused(c64x_chip_freeze(&chip, 256), C64X_REFUSED_FREEZE));
+    CHECK(refused(c64x_chip_freeze(&chip, UINT32_MAX), C64X_REFUSED_FREEZE));
     ran = c64x_chip_run(&chip, damaged, sizeof damaged, answers, sizeof answers);
     CHECK(ran.consumed == 0 && ran.count == 0 && ran.stop == C64X_STOPPED_TRACE && kept());
     ran = c64x_chip_run(&chip, one, sizeof one, answers, sizeof answers - 1);
@@ -358,7 +430,8 @@ static void writing(void)
     static const uint8_t example[] = {0x0B, 0x80, 0x01, 0x01, 0x01, 0x04, 0x80, 0x80, 0x80, 0x80, 0x08, 0x05, 0x00,
                                       0x04, 0x80, 0x80, 0x80, 0x80, 0x08, 0x00, 0x04, 0x80, 0x80, 0x80, 0x80, 0x08,
                                       0x0A, 0x04};
-    static const uint8_t numbers[] = {0x0A, 0xAC, 0x02, 0x0A, 0x7F, 0x04, 0x80, 0x80, 0x80, 0x80, 0x08, 0x00};
+    static const uint8_t numbers[] = {0x0A, 0xAC, 0x02, 0x0A, 0x7F, 0x04,
+                                      0x80, 0x80, 0x80, 0x80, 0x08, 0x00, 0x0C, 0x01};
     static const uint8_t longest[] = {0x01, 0xFF, 0xFF, 0xFF, 0xFF, 0x0F, 0xFF, 0xFF, 0xFF, 0xFF, 0x0F,
                                       0xFF, 0xFF, 0xFF, 0xFF, 0xFF, 0xFF, 0xFF, 0xFF, 0xFF, 0x01};
     uint8_t out[28], before[28];
@@ -376,6 +449,7 @@ static void writing(void)
     CHECK(c64x_trace_put(&writer, C64X_CODE_MODE, 300, 0, 0) == C64X_ACCEPTED);
     CHECK(c64x_trace_put(&writer, C64X_CODE_MODE, 127, 0, 0) == C64X_ACCEPTED);
     CHECK(c64x_trace_put(&writer, C64X_CODE_L2_WRITEBACK_BLOCK, 0x80000000, 0, 0) == C64X_ACCEPTED);
+    CHECK(c64x_trace_put(&writer, C64X_CODE_FREEZE, 1, UINT64_MAX, UINT64_MAX) == C64X_ACCEPTED);
     CHECK(holds(&writer, numbers, sizeof numbers));
     c64x_trace_start(&writer, out, sizeof out);
     CHECK(c64x_trace_put(&writer, C64X_CODE_WRITE, UINT32_MAX, UINT32_MAX, UINT64_MAX) == C64X_ACCEPTED);
@@ -384,15 +458,16 @@ static void writing(void)
     memset(out, 0xEE, sizeof out);
     memset(before, 0xEE, sizeof before);
     c64x_trace_start(&writer, out, 6);
-    CHECK(c64x_trace_put(&writer, 12, 0, 0, 0) == C64X_STOPPED_TRACE);
+    CHECK(c64x_trace_put(&writer, 13, 0, 0, 0) == C64X_STOPPED_TRACE);
     CHECK(c64x_trace_put(&writer, 256, 0, 0, 0) == C64X_STOPPED_TRACE);
+    CHECK(c64x_trace_put(&writer, C64X_CODE_FREEZE, UINT64_C(0x100000000), 0, 0) == C64X_STOPPED_TRACE);
     CHECK(c64x_trace_put(&writer, C64X_CODE_READ, 4, UINT64_C(0x100000000), 0) == C64X_STOPPED_TRACE);
     CHECK(c64x_trace_put(&writer, C64X_CODE_READ, 4, EXT, 0) == C64X_REFUSED_ROOM);
     CHECK(writer.at == 0 && memcmp(out, before, sizeof out) == 0);
     /* 11 comes before 16; a place behind the end leaves no byte */
     writer.at = SIZE_MAX;
     CHECK(c64x_trace_put(&writer, C64X_CODE_L2_WRITEBACK_ALL, 0, 0, 0) == C64X_REFUSED_ROOM);
-    CHECK(c64x_trace_put(&writer, 12, 0, 0, 0) == C64X_STOPPED_TRACE);
+    CHECK(c64x_trace_put(&writer, 13, 0, 0, 0) == C64X_STOPPED_TRACE);
     CHECK(writer.at == SIZE_MAX && memcmp(out, before, sizeof out) == 0);
     /* the last byte of the output is a byte of it */
     writer.at = 5;
@@ -434,6 +509,8 @@ static void texts(void)
     for (unsigned a = 0; a <= 13; a++)
         for (unsigned b = 0; b < a; b++)
             CHECK(strcmp(c64x_number_text(a), c64x_number_text(b)) != 0);
+    for (unsigned a = 0; a < C64X_REFUSED_FREEZE; a++)
+        CHECK(strcmp(c64x_number_text(C64X_REFUSED_FREEZE), c64x_number_text(a)) != 0);
     for (unsigned a = 0; a < C64X_REFUSED_SHORT_RUN; a++)
         CHECK(strcmp(c64x_number_text(C64X_REFUSED_SHORT_RUN), c64x_number_text(a)) != 0);
     for (unsigned a = 0; a <= 5; a++)
@@ -451,6 +528,7 @@ int main(void)
     cases();
     commands();
     l2_commands();
+    frozen();
     refusals();
     short_runs();
     writing();

@@ -9,7 +9,7 @@ use oracle::record::Line;
 use oracle::trace::{decode, ANSWER_BYTES};
 use oracle::Command;
 
-const COMMANDS: [&str; 12] = [
+const COMMANDS: [&str; 13] = [
     "read",
     "write",
     "L2 writeback all",
@@ -22,7 +22,16 @@ const COMMANDS: [&str; 12] = [
     "L1D invalidate all",
     "mode",
     "MAR",
+    "freeze",
 ];
+
+/// What a number says.
+fn refusal(number: u8) -> &'static str {
+    match number {
+        17 => "refused: neither 1, which freezes L1D, nor 0, which thaws it",
+        number => REFUSALS[usize::from(number)],
+    }
+}
 
 const REFUSALS: [&str; 13] = [
     "done",
@@ -85,7 +94,7 @@ fn panel(trace: &[u8]) -> String {
         let (command, length) = decode(&trace[place..]).expect("a whole command");
         place += length;
         let name = COMMANDS[code(&command) as usize];
-        let told = REFUSALS[answer[0] as usize];
+        let told = refusal(answer[0]);
         text += &format!("{:3}  {name:30}  {told}", number + 1);
         if answer[1] != 0 {
             text += &format!(", by {}", SERVERS[answer[1] as usize]);
@@ -96,15 +105,16 @@ fn panel(trace: &[u8]) -> String {
         }
         text += "\n";
     }
-    let stop = if run.stop == 0 { "end" } else { REFUSALS[run.stop as usize] };
+    let stop = if run.stop == 0 { "end" } else { refusal(run.stop) };
     text += &format!("{stop} after {} of {} bytes\n", run.consumed, trace.len());
     let on = |bit: u32| if bit == 1 { "on" } else { "off" };
     let record = &setup.record;
     text += &format!(
-        "L2 mode {}, MAR 128 {}, MAR 129 {}\n",
+        "L2 mode {}, MAR 128 {}, MAR 129 {}, L1D {}\n",
         record.mode,
         on(record.mar128),
-        on(record.mar129)
+        on(record.mar129),
+        if record.frozen == 1 { "frozen" } else { "not frozen" }
     );
     let l1d: Vec<Line> = record.l1d.iter().flat_map(|set| set.lines).collect();
     let l2: Vec<Line> = record.l2.iter().flat_map(|set| set.lines).collect();
@@ -126,7 +136,7 @@ fn panel(trace: &[u8]) -> String {
             );
         }
         number => {
-            text += &format!("behind L1D at 80000000: {}\n", REFUSALS[number as usize]);
+            text += &format!("behind L1D at 80000000: {}\n", refusal(number));
         }
     }
     text
