@@ -61,11 +61,22 @@ const LIST: &[Next] = &[
     Call(Mode { mode: 5 }),
     Call(Mar { number: 130, bit: 1 }),
     Call(Mar { number: 128, bit: 0 }),
+    Call(Freeze { frozen: 2 }),
+    Call(Freeze { frozen: 1 }),
+    Call(Read { size: 1, address: 0x80000080 }),
+    Call(Read { size: 1, address: 0x80000100 }),
+    Call(Read { size: 1, address: 0x80000100 }),
+    Call(Freeze { frozen: 0 }),
+    Call(Read { size: 1, address: 0x80000100 }),
+    Call(Read { size: 1, address: 0x80000100 }),
     View(0x4),
     View(0x80010000),
     Call(Mode { mode: 2 }),
     Call(Mode { mode: 1 }),
-    Run(&[11, 129, 1, 1, 0, 1, 128, 129, 128, 128, 8, 1, 1, 128, 129, 128, 128, 8, 4, 10, 2, 0, 1, 128, 129, 128, 128, 8]),
+    Run(&[
+        11, 129, 1, 1, 0, 1, 128, 129, 128, 128, 8, 1, 1, 128, 129, 128, 128, 8, 4, 10, 2, 0, 1,
+        128, 129, 128, 128, 8, 12, 2,
+    ]),
 ];
 
 fn main() {

@@ -98,8 +98,9 @@ fn input_of(rng: &mut Rng, number: u64) -> Vec<u8> {
         0 => return Vec::new(),
         // One command over and over, across the 4,096 bytes that are read.
         1..=9 => {
-            let command =
-                [&[2u8][..], &[9], &[10, 1], &[0, 4, 0], &[11, 128, 1, 1]][number as usize % 5];
+            let commands: [&[u8]; 6] =
+                [&[2], &[9], &[10, 1], &[0, 4, 0], &[11, 128, 1, 1], &[12, 1, 0, 4, 0, 12, 2]];
+            let command = commands[number as usize % commands.len()];
             return command.iter().copied().cycle().take(4_090 + number as usize).collect();
         }
         10..=15 => {

@@ -42,7 +42,7 @@ pub struct CRecord {
     pub mode: u8,
     pub mar128: u8,
     pub mar129: u8,
-    padding: u8,
+    pub frozen: u8,
     pub l1d: [CL1dSet; 128],
     pub l2: [CL2Set; 512],
 }
@@ -88,7 +88,7 @@ const _: () = {
     assert!(size_of::<CRecord>() == RECORD_BYTES && align_of::<CRecord>() == 4);
     assert!(offset_of!(CRecord, extlen) == 4 && offset_of!(CRecord, mode) == 8);
     assert!(offset_of!(CRecord, mar128) == 9 && offset_of!(CRecord, mar129) == 10);
-    assert!(offset_of!(CRecord, padding) == 11);
+    assert!(offset_of!(CRecord, frozen) == 11);
     assert!(offset_of!(CRecord, l1d) == 12 && offset_of!(CRecord, l2) == 2_572);
     assert!(size_of::<CAnswer>() == 16);
     assert!(offset_of!(CAnswer, number) == 8 && offset_of!(CAnswer, server) == 9);
@@ -120,7 +120,8 @@ impl Eq for CL1dSet {}
 impl PartialEq for CRecord {
     fn eq(&self, other: &CRecord) -> bool {
         (self.l2len, self.extlen) == (other.l2len, other.extlen)
-            && (self.mode, self.mar128, self.mar129) == (other.mode, other.mar128, other.mar129)
+            && (self.mode, self.frozen) == (other.mode, other.frozen)
+            && (self.mar128, self.mar129) == (other.mar128, other.mar129)
             && self.l1d == other.l1d
             && self.l2 == other.l2
     }
@@ -138,7 +139,6 @@ impl CRecord {
 
     /// Gives this record the padding of another one.
     pub fn pad_like(&mut self, other: &CRecord) {
-        self.padding = other.padding;
         for (ours, theirs) in self.l1d.iter_mut().zip(&other.l1d) {
             ours.padding = theirs.padding;
             pad_lines_like(&mut ours.lines, &theirs.lines);
@@ -167,7 +167,6 @@ pub fn padding_of(seed: u64) -> Box<CRecord> {
         return record;
     }
     let mut rng = Rng::new(seed);
-    record.padding = rng.next_u32() as u8;
     for set in &mut record.l1d {
         rng.fill(&mut set.padding);
         set.lines.iter_mut().for_each(|line| rng.fill(&mut line.padding));
@@ -239,6 +238,7 @@ calls! {
     c64x_l1d_invalidate_all();
     c64x_change_mode(mode: u32);
     c64x_change_mar(mar: u32, bit: u32);
+    c64x_freeze(frozen: u32);
 }
 
 extern "C" {
@@ -331,6 +331,7 @@ pub fn direct(record: &mut CRecord, command: &Command, lent: Lent) -> CAnswer {
         Command::L1dInvalidateAll => call!(c64x_l1d_invalidate_all()),
         Command::Mode { mode } => call!(c64x_change_mode(mode)),
         Command::Mar { number, bit } => call!(c64x_change_mar(number, bit)),
+        Command::Freeze { frozen } => call!(c64x_freeze(frozen)),
     }
 }
 
@@ -411,8 +412,9 @@ fn l2_set(set: &L2Set) -> CL2Set {
     }
 }
 
-/// The record in C's layout, its padding 0. C has a byte for the mode and for
-/// each MAR bit: the reference model's record must hold no larger numbers there.
+/// The record in C's layout, its padding 0. C has a byte for the mode, for each
+/// MAR bit and for the freeze: the reference model's record must hold no larger
+/// numbers there.
 pub fn record_of(record: &Record) -> Box<CRecord> {
     let byte = |number: u32| u8::try_from(number).expect("C's record has a byte for it");
     Box::new(CRecord {
@@ -421,7 +423,7 @@ pub fn record_of(record: &Record) -> Box<CRecord> {
         mode: byte(record.mode),
         mar128: byte(record.mar128),
         mar129: byte(record.mar129),
-        padding: 0,
+        frozen: byte(record.frozen),
         l1d: std::array::from_fn(|set| l1d_set(&record.l1d[set])),
         l2: std::array::from_fn(|set| l2_set(&record.l2[set])),
     })
@@ -434,6 +436,7 @@ pub fn same_record(ours: &CRecord, theirs: &Record) -> bool {
         && u32::from(ours.mode) == theirs.mode
         && u32::from(ours.mar128) == theirs.mar128
         && u32::from(ours.mar129) == theirs.mar129
+        && u32::from(ours.frozen) == theirs.frozen
         && ours.l1d.iter().zip(&theirs.l1d).all(|(ours, theirs)| *ours == l1d_set(theirs))
         && ours.l2.iter().zip(&theirs.l2).all(|(ours, theirs)| *ours == l2_set(theirs))
 }
@@ -480,6 +483,7 @@ pub fn record_difference(ours: &CRecord, theirs: &CRecord) -> String {
     numbers("mode", ours.mode.into(), theirs.mode.into());
     numbers("mar128", ours.mar128.into(), theirs.mar128.into());
     numbers("mar129", ours.mar129.into(), theirs.mar129.into());
+    numbers("frozen", ours.frozen.into(), theirs.frozen.into());
     for (set, (ours, theirs)) in ours.l1d.iter().zip(&theirs.l1d).enumerate() {
         if ours != theirs {
             let ours = set_words(&ours.lines, &ours.order);
@@ -508,8 +512,8 @@ mod tests {
     use super::{byte_difference, dirty_line, padding_of, record_of, Held};
     use oracle::{Line, Record};
 
-    /// The record's own byte, 2 for each of 128 sets of L1D, 2 for each line.
-    const PADDING_BYTES: usize = 1 + 128 * 2 + (128 * 2 + 512 * 4) * 2;
+    /// 2 for each of 128 sets of L1D, 2 for each line.
+    const PADDING_BYTES: usize = 128 * 2 + (128 * 2 + 512 * 4) * 2;
 
     #[test]
     fn padding_is_no_field() {
@@ -518,7 +522,8 @@ mod tests {
         let other = clean.bytes().iter().zip(random.bytes()).filter(|(a, b)| a != b).count();
         // Of random bytes one in 256 is 0.
         assert!(other <= PADDING_BYTES && other > PADDING_BYTES * 9 / 10, "{other}");
-        assert!(byte_difference(&random, &clean).starts_with("padding byte 11 is"));
+        // Those of the first line of L1D.
+        assert!(byte_difference(&random, &clean).starts_with("padding byte 14 is"));
     }
 
     #[test]

@@ -164,7 +164,7 @@ fn compare(case: &Case, met: &mut Met) -> Result<(), Wrong> {
     let mut theirs = ours.clone();
     let out = AROUND..AROUND + case.length;
     let mut called = load(case, &mut ours[out.clone()]);
-    plant::load(&mut ours[out.clone()], &mut called);
+    plant::load_made(&mut ours[out.clone()], &mut called);
     let expected = load_trace(case.seed, case.e, case.accesses, &mut theirs[out.clone()]);
     met.calls += 1;
     met.loads[[0, 1, 16].iter().position(|&n| n == expected.number).expect("no other")] += 1;

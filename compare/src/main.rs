@@ -33,7 +33,7 @@ compare: the calls of the boundary against the reference model
   --seed S             the seed of all that is random (default 640101)
   --bench-trace PATH   the program bench-trace, to be compared as well
   --section NAME       only this section: records, lists, traces, refusals, views,
-                       short-runs, writing, two-runs, dropped, reaching, load
+                       short-runs, writing, two-runs, dropped, reaching, load, frozen
   --group K            only group K of that section
   --input K            nothing but input K of bench-trace
   --now PATH           a file that says which group is being run
@@ -199,6 +199,25 @@ fn run(arguments: &Arguments) -> Result<bool, String> {
         "loads made: {}, refused with 1: {}, with 16: {}",
         met.loads[0], met.loads[1], met.loads[2]
     );
+    let frozen = &met.frozen;
+    println!(
+        "frozen: hits {}, write hits {}, of clean lines {}; misses by SRAM, L2, external memory \
+         behind it and in mode 0 {:?}, write misses {:?}; dirty lines of L1D spared {}; L2 lines \
+         that left with halves {}, with a dirty one {}",
+        frozen.hits,
+        frozen.write_hits,
+        frozen.dirtied,
+        frozen.misses,
+        frozen.write_misses,
+        frozen.spared,
+        frozen.halves,
+        frozen.dirty_halves
+    );
+    println!(
+        "frozen: mode changes {}, fresh starts {}, records refused {}; in runs accepted {}, \
+         answered with 17 {}; written {}",
+        frozen.modes, frozen.fresh, frozen.refused, frozen.run, frozen.run_refused, frozen.puts
+    );
     let faults = met.possible_faults();
     println!(
         "ill-formed records made: {}; of each fault in each mode: {} at least",
@@ -336,6 +355,7 @@ fn met_everything(met: &Met) -> bool {
         && met.written_back > 500
         && met.puts.iter().all(|&count| count > 1_000)
         && met.two_runs.met_everything()
+        && met.frozen.met_everything()
         && met.loads.iter().all(|&count| count > 500)
         && met.long_runs > 0
         && met.short_runs == 4_681

@@ -8,7 +8,10 @@ use oracle::calls::{fresh_start, look, look_number};
 use oracle::dropped::History;
 use oracle::flat::Flat;
 use oracle::gen::{code, Fault, Setup, FAULTS, LEGAL_MODES, RANGE_BYTES};
-use oracle::geometry::{external_length_is_legal, l2_length_is_legal, EXTERNAL_BASE, L1D_BYTES};
+use oracle::geometry::{
+    external_length_is_legal, l2_length_is_legal, L1d, EXTERNAL_BASE, L1D_BYTES, L2,
+};
+use oracle::machine::{SERVER_EXTERNAL, SERVER_L1D};
 use oracle::short_runs;
 use oracle::trace::{decode, ANSWER_BYTES};
 use oracle::wellformed::is_well_formed;
@@ -16,7 +19,7 @@ use oracle::{Answer, Command, Record, RunResult};
 
 use crate::boundary::{
     self, byte_difference, dirty_line, padding_of, record_difference, record_of, same_record,
-    CAnswer, CRecord, CRunNumber, CShortRun, Held, Lent,
+    CAnswer, CLine, CRecord, CRunNumber, CShortRun, Held, Lent,
 };
 use crate::now;
 use crate::plant;
@@ -32,6 +35,7 @@ pub struct OddByte {
 pub enum OddPlace {
     Mar128,
     Mar129,
+    Frozen,
     L1dValid { set: usize, way: usize },
     L1dDirty { set: usize, way: usize },
     L2Valid { set: usize, way: usize },
@@ -68,7 +72,7 @@ pub enum Op {
 }
 
 /// The numbers that calls give back.
-pub const NUMBERS: [usize; 14] = [0, 1, 2, 3, 4, 5, 6, 7, 8, 9, 10, 11, 12, 18];
+pub const NUMBERS: [usize; 15] = [0, 1, 2, 3, 4, 5, 6, 7, 8, 9, 10, 11, 12, 17, 18];
 
 /// What was met, to see that a comparison was worth running.
 #[derive(Clone, Default, Debug)]
@@ -113,7 +117,51 @@ pub struct Met {
     /// Lists by the length of external memory, see `count_external`.
     pub externals: [u64; 5],
     /// Records made, by fault and by mode; those of no legal mode stand last.
-    pub faults: [[u64; 6]; 25],
+    pub faults: [[u64; 6]; 26],
+    pub frozen: Frozen,
+}
+
+/// What was met while L1D was frozen.
+#[derive(Clone, Default, Debug)]
+pub struct Frozen {
+    /// Read hits and write hits on the way that was not used last: thawed they would
+    /// have changed the order.
+    pub hits: u64,
+    pub write_hits: u64,
+    /// Of these, writes to a clean line, which becomes dirty.
+    pub dirtied: u64,
+    /// Read misses that SRAM, an L2 line that was there, external memory by way of
+    /// L2, and external memory in mode 0 served.
+    pub misses: [u64; 4],
+    /// Of all misses those for which thawed a dirty line would have left L1D.
+    pub spared: u64,
+    /// Read misses for which an L2 line left that had halves in L1D, and a dirty one.
+    pub halves: u64,
+    pub dirty_halves: u64,
+    /// Write misses by the same servers.
+    pub write_misses: [u64; 4],
+    /// Accepted mode changes, and fresh starts, of a frozen L1D.
+    pub modes: u64,
+    pub fresh: u64,
+    /// Records refused with 2 whose number here is neither 0 nor 1.
+    pub refused: u64,
+    /// Freezes in runs that were accepted and that were answered with 17, and those
+    /// that were written.
+    pub run: u64,
+    pub run_refused: u64,
+    pub puts: u64,
+}
+
+impl Frozen {
+    /// Whether everything came up that should.
+    pub fn met_everything(&self) -> bool {
+        let hits = [self.hits, self.write_hits, self.dirtied, self.spared];
+        let halves = [self.halves, self.dirty_halves];
+        let others = [self.modes, self.fresh, self.refused, self.run, self.run_refused, self.puts];
+        let misses = self.misses.iter().chain(&self.write_misses).copied();
+        hits.into_iter().chain(misses).all(|count| count > 200)
+            && halves.into_iter().chain(others).all(|count| count > 50)
+    }
 }
 
 /// What was met in two runs of one list.
@@ -126,8 +174,10 @@ pub struct TwoRuns {
     pub parted: u64,
     pub held: u64,
     /// Pairs of commands by their code, by their number, and by the mode after them.
-    pub codes: [u64; 12],
-    pub numbers: [u64; 11],
+    pub codes: [u64; 13],
+    pub numbers: [u64; 18],
+    /// Accepted reads and writes of a frozen L1D by their server.
+    pub frozen: [u64; 5],
     pub modes: [u64; 8],
 }
 
@@ -137,7 +187,10 @@ impl TwoRuns {
         let counts = [self.data, self.one_byte, self.parted, self.held];
         let modes = LEGAL_MODES.iter().map(|&mode| self.modes[mode as usize]);
         counts.into_iter().chain(modes).all(|count| count > 100)
-            && self.codes.iter().chain(&self.numbers).all(|&count| count > 20)
+            && self.codes.iter().all(|&count| count > 20)
+            // 11 to 16 are no number of a single call.
+            && (0..=10).chain([17]).all(|number| self.numbers[number] > 20)
+            && self.frozen[1..].iter().all(|&count| count > 100)
     }
 }
 
@@ -284,6 +337,7 @@ pub fn odd_byte(record: &mut CRecord, place: OddPlace) -> &mut u8 {
     match place {
         OddPlace::Mar128 => &mut record.mar128,
         OddPlace::Mar129 => &mut record.mar129,
+        OddPlace::Frozen => &mut record.frozen,
         OddPlace::L1dValid { set, way } => &mut record.l1d[set].lines[way].valid,
         OddPlace::L1dDirty { set, way } => &mut record.l1d[set].lines[way].dirty,
         OddPlace::L2Valid { set, way } => &mut record.l2[set].lines[way].valid,
@@ -465,6 +519,7 @@ impl Pair<'_> {
         let (ours, lent) = self.lent();
         let mut called = boundary::fresh(ours, lent);
         plant::fresh(&mut called, &mut self.record, &self.passed);
+        self.met.frozen.fresh += u64::from(self.passed.frozen == 1 && number == 0);
         self.met.calls += 1;
         self.met.numbers[number as usize] += 1;
         expect_answer("answer of a fresh start", answer_of(&called), Answer::refused(number))?;
@@ -500,6 +555,7 @@ impl Pair<'_> {
         let ours = answer_of(&called);
         expect_answer("answer", ours, theirs)?;
         self.count_beside_l2(command);
+        self.count_frozen(command, &theirs);
         if is_global(command, &ours) {
             expect_nothing_dirty("record", &self.record)?;
             self.met.written_back += 1;
@@ -561,6 +617,58 @@ impl Pair<'_> {
         }
     }
 
+    /// What a call met in a frozen L1D.
+    fn count_frozen(&mut self, command: &Command, answer: &Answer) {
+        let (passed, frozen) = (&self.passed, &mut self.met.frozen);
+        frozen.refused += u64::from(passed.frozen > 1 && answer.number == 2);
+        if passed.frozen != 1 || answer.number != 0 {
+            return;
+        }
+        let (address, is_read) = match *command {
+            Command::Read { address, .. } => (address, true),
+            Command::Write { address, .. } => (address, false),
+            Command::Mode { .. } => {
+                frozen.modes += 1;
+                return;
+            }
+            _ => return,
+        };
+        if address >= EXTERNAL_BASE && self.theirs.record.mar_bit(address) == 0 {
+            return;
+        }
+        let set = &passed.l1d[L1d::set_of(address)];
+        if answer.server == SERVER_L1D {
+            let line = L1d::line_address(address);
+            let held = |way: &usize| set.lines[*way].valid == 1 && set.lines[*way].address == line;
+            let Some(way) = (0..L1d::WAYS).find(held) else { return };
+            if usize::from(set.order[0]) != way {
+                *(if is_read { &mut frozen.hits } else { &mut frozen.write_hits }) += 1;
+            }
+            frozen.dirtied += u64::from(!is_read && set.lines[way].dirty == 0);
+            return;
+        }
+        let misses = if is_read { &mut frozen.misses } else { &mut frozen.write_misses };
+        let by_l2 = answer.server == SERVER_EXTERNAL && passed.mode != 0;
+        let server = if answer.server == SERVER_EXTERNAL && !by_l2 { 3 } else { answer.server - 2 };
+        misses[usize::from(server)] += 1;
+        if !is_read {
+            return;
+        }
+        let full = set.lines.iter().all(|line| line.valid == 1);
+        let last = set.lines[usize::from(set.order[1]).min(1)];
+        frozen.spared += u64::from(full && last.dirty == 1);
+        let Some(set) = L2::set_of(passed.mode.into(), address).filter(|_| by_l2) else { return };
+        let ways = passed.l2[set].lines.iter().zip(&self.record.l2[set].lines);
+        let mut left = ways.filter(|(was, now)| was.valid == 1 && was.address != now.address);
+        let Some((left, _)) = left.next() else { return };
+        let lines = passed.l1d.iter().flat_map(|set| &set.lines);
+        let inside =
+            |line: &&CLine| line.valid == 1 && L2::line_address(line.address) == left.address;
+        let halves: Vec<&CLine> = lines.filter(inside).collect();
+        frozen.halves += u64::from(!halves.is_empty());
+        frozen.dirty_halves += u64::from(halves.iter().any(|line| line.dirty == 1));
+    }
+
     /// The record is the expected one; where nothing was accepted, no byte of it
     /// has changed.
     fn expect_record(&mut self, accepted: bool) -> Result<(), Wrong> {
@@ -578,6 +686,9 @@ impl Pair<'_> {
 
     /// What flat memory says of a call's answer.
     fn flat_answer(&mut self, command: &Command, ours: &Answer) -> Result<(), Wrong> {
+        if let Some(flat) = &mut self.flat {
+            plant::flat_freeze(command, flat);
+        }
         let said = self.flat.as_mut().and_then(|flat| flat.apply(command));
         let Some((mut number, mut value)) = said else { return Ok(()) };
         plant::flat_answer(command, &mut number, &mut value);
@@ -630,6 +741,10 @@ impl Pair<'_> {
         }
         self.expect_record(carried_out.iter().any(|(_, answer)| answer.number == 0))?;
         for (command, answer) in &carried_out {
+            if let Command::Freeze { .. } = command {
+                self.met.frozen.run += u64::from(answer.number == 0);
+                self.met.frozen.run_refused += u64::from(answer.number == 17);
+            }
             self.history(command, answer)?;
             self.flat_answer(command, answer)?;
         }

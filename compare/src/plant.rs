@@ -7,8 +7,10 @@ use std::os::unix::process::ExitStatusExt;
 use std::process::{ExitStatus, Output};
 use std::sync::OnceLock;
 
+use oracle::access::load;
 use oracle::dropped::History;
 use oracle::flat::Flat;
+use oracle::gen::RANGE_BYTES;
 use oracle::geometry::{external_offset, sram_size, L1d, EXTERNAL_BASE, L2};
 use oracle::load::Load;
 use oracle::machine::{SERVER_L1D, SERVER_L2};
@@ -97,6 +99,25 @@ enum Plant {
     LoadOrder,
     LoadRun,
     KeptOverL2,
+    FreezeLost,
+    FreezeNumber,
+    FrozenByte,
+    FrozenOrder,
+    FrozenWriteOrder,
+    FrozenClean,
+    FrozenFill,
+    FrozenEmpties,
+    FrozenL2Order,
+    FrozenHalves,
+    FrozenBehind,
+    ModeThaws,
+    FreshFrozen,
+    RunFreeze,
+    RunFreezeNumber,
+    RunThaws,
+    PutFreeze,
+    FlatFreeze,
+    DataFrozen,
     BenchOutput,
     BenchStatus,
 }
@@ -112,7 +133,7 @@ const fn planted(plant: Plant, name: &'static str, about: &'static str) -> Plant
     Planted { plant, name, about }
 }
 
-pub const PLANTS: [Planted; 77] = [
+pub const PLANTS: [Planted; 96] = [
     planted(Plant::ReadValue, "read-value", "a 4-byte read from L2 cache gets 1 more"),
     planted(Plant::ReadOrder, "read-order", "a read hit in L1D turns its set's order around"),
     planted(Plant::WriteNumber, "write-number", "a write refused with 6 gets 5"),
@@ -188,6 +209,29 @@ pub const PLANTS: [Planted; 77] = [
     planted(Plant::LoadOrder, "load-order", "16 comes before 1 where there is no output"),
     planted(Plant::LoadRun, "load-run", "a run over a load refuses its last access"),
     planted(Plant::KeptOverL2, "kept-over-l2", "a byte keeps its value over L2's drop of SRAM"),
+    planted(Plant::FreezeLost, "freeze-lost", "a freeze leaves L1D thawed"),
+    planted(Plant::FreezeNumber, "freeze-number", "a freeze refused with 17 gets 9"),
+    planted(Plant::FrozenByte, "frozen-byte", "a record that keeps neither 0 nor 1 is accepted"),
+    planted(Plant::FrozenOrder, "frozen-order", "a frozen read hit uses its way"),
+    planted(Plant::FrozenWriteOrder, "frozen-write-order", "a frozen write hit uses its way"),
+    planted(Plant::FrozenClean, "frozen-clean", "a frozen write hit leaves its line clean"),
+    planted(Plant::FrozenFill, "frozen-fill", "a frozen read miss fills a way of L1D"),
+    planted(Plant::FrozenEmpties, "frozen-empties", "a frozen read miss empties a way of L1D"),
+    planted(Plant::FrozenL2Order, "frozen-l2-order", "a frozen read miss uses no way of L2"),
+    planted(Plant::FrozenHalves, "frozen-halves", "halves stay in a frozen L1D without their line"),
+    planted(Plant::FrozenBehind, "frozen-behind", "a frozen read miss goes past a line of L2"),
+    planted(Plant::ModeThaws, "mode-thaws", "a mode change thaws L1D"),
+    planted(Plant::FreshFrozen, "fresh-frozen", "a fresh start keeps the freeze"),
+    planted(Plant::RunFreeze, "run-freeze", "a run that begins with a freeze is stopped by 11"),
+    planted(Plant::RunFreezeNumber, "run-freeze-number", "a freeze in a run gets 9 for 17"),
+    planted(Plant::RunThaws, "run-thaws", "a run that ends in a freeze leaves L1D thawed"),
+    planted(Plant::PutFreeze, "put-freeze", "code 12 is refused by the writer with 11"),
+    planted(Plant::FlatFreeze, "flat-freeze", "a freeze changes flat memory"),
+    planted(
+        Plant::DataFrozen,
+        "data-frozen",
+        "..: a frozen hit on an odd value turns an order around",
+    ),
     planted(Plant::BenchOutput, "bench-output", "bench-trace prints a line more after an 8"),
     planted(Plant::BenchStatus, "bench-status", "bench-trace fails after a 7"),
 ];
@@ -326,6 +370,69 @@ fn reached(
     }
 }
 
+/// Uses the way of an L1D set that holds this line, if one does.
+fn use_way(record: &mut CRecord, line: u32) {
+    let set = &mut record.l1d[L1d::set_of(line)];
+    if let Some(way) = set.lines.iter().position(|held| held.valid == 1 && held.address == line) {
+        set.order = [way as u8, 1 - way as u8];
+    }
+}
+
+/// What an access has left in a frozen L1D, and in L2, after it was accepted: mistakes
+/// in what is frozen and what is not.
+fn accessed_frozen(
+    plant: Plant,
+    command: &Command,
+    called: &mut CAnswer,
+    record: &mut CRecord,
+    passed: &CRecord,
+    ext: &[u8],
+) {
+    let (size, address, is_read) = match *command {
+        Command::Read { size, address } => (size, address, true),
+        Command::Write { size, address, .. } => (size, address, false),
+        _ => return,
+    };
+    let mar = if address < EXTERNAL_BASE + RANGE_BYTES { passed.mar128 } else { passed.mar129 };
+    if address >= EXTERNAL_BASE && mar == 0 {
+        return;
+    }
+    let (line, set) = (L1d::line_address(address), L1d::set_of(address));
+    let hit = called.server == SERVER_L1D;
+    let held = &passed.l1d[set].lines;
+    let free = held.iter().position(|line| line.valid == 0);
+    let way = free.unwrap_or(usize::from(passed.l1d[set].order[1]));
+    let l2_set = L2::set_of(passed.mode.into(), address).filter(|_| address >= EXTERNAL_BASE);
+    match plant {
+        Plant::FrozenOrder if hit && is_read => use_way(record, line),
+        Plant::FrozenWriteOrder if hit && !is_read => use_way(record, line),
+        Plant::FrozenClean if hit && !is_read => {
+            for (now, was) in record.l1d[set].lines.iter_mut().zip(held) {
+                now.dirty = was.dirty;
+            }
+        }
+        Plant::FrozenFill if !hit && is_read => {
+            let filled = &mut record.l1d[set].lines[way];
+            (filled.valid, filled.dirty, filled.address) = (1, 0, line);
+            use_way(record, line);
+        }
+        Plant::FrozenEmpties if !hit && is_read => {
+            let emptied = &mut record.l1d[set].lines[way];
+            (emptied.valid, emptied.dirty, emptied.address) = (0, 0, 0);
+        }
+        Plant::FrozenL2Order if !hit && is_read => {
+            if let Some(set) = l2_set {
+                record.l2[set].order = passed.l2[set].order;
+            }
+        }
+        Plant::FrozenHalves if !hit && is_read => record.l1d = passed.l1d,
+        Plant::FrozenBehind if called.server == SERVER_L2 && is_read => {
+            called.value = load(ext, external_offset(address), size);
+        }
+        _ => {}
+    }
+}
+
 /// What a direct call gave back, and the record and the memories after it.
 pub fn direct(
     command: &Command,
@@ -341,7 +448,14 @@ pub fn direct(
         let lent = Lent { l1d: &mut *lent.l1d, l2: &mut *lent.l2, ext: &mut *lent.ext };
         reached(*plant, command, record, passed, lent, before);
     }
+    if accepted && passed.frozen == 1 {
+        accessed_frozen(*plant, command, called, record, passed, lent.ext);
+    }
     match (plant, *command) {
+        (Plant::FreezeLost, Command::Freeze { .. }) if accepted => record.frozen = 0,
+        (Plant::FreezeNumber, Command::Freeze { .. }) if called.number == 17 => called.number = 9,
+        (Plant::FrozenByte, _) if called.number == 2 && passed.frozen > 1 => called.number = 0,
+        (Plant::ModeThaws, Command::Mode { .. }) if accepted => record.frozen = 0,
         (Plant::ReadValue, Command::Read { size: 4, .. }) if called.server == SERVER_L2 => {
             called.value += 1;
         }
@@ -389,6 +503,11 @@ fn ends_globally(trace: &[u8]) -> bool {
     last.is_some_and(|command| is_global(&command))
 }
 
+/// Whether the first command of a trace freezes or thaws L1D.
+fn first_is_freeze(trace: &[u8]) -> bool {
+    matches!(decode(trace), Some((Command::Freeze { .. }, _)))
+}
+
 /// L1D holds the last line of SRAM's first 8 Kbytes, dirty, if there is SRAM.
 fn hold_sram_line(record: &mut CRecord) {
     if sram_size(record.l2len, record.mode.into()) > 0 {
@@ -403,6 +522,7 @@ pub fn fresh(called: &mut CAnswer, record: &mut CRecord, passed: &CRecord) {
         Some(Plant::FreshNumber) if called.number == 1 => called.number = 2,
         Some(Plant::FreshRecord) if called.number == 0 => record.mar129 = 1,
         Some(Plant::FreshKept) if called.number == 1 => *record = *passed,
+        Some(Plant::FreshFrozen) if called.number == 0 && passed.frozen == 1 => record.frozen = 1,
         _ => {}
     }
 }
@@ -418,6 +538,15 @@ pub fn run(run: &mut CRun, answers: &mut [u8], record: &mut CRecord, trace: &[u8
         Some(Plant::RunPadding) if run.stop == 2 => change(Some(record.some_padding())),
         // A code that is a whole command.
         Some(Plant::RunDirty) if run.stop == 0 && trace.last() == Some(&2) => make_dirty(record),
+        Some(Plant::RunFreeze) if run.stop == 0 && first_is_freeze(trace) => run.stop = 11,
+        Some(Plant::RunFreezeNumber) => {
+            let mut numbers =
+                answers[..behind].chunks_mut(ANSWER_BYTES).map(|answer| &mut answer[0]);
+            if let Some(number) = numbers.find(|number| **number == 17) {
+                *number = 9;
+            }
+        }
+        Some(Plant::RunThaws) if run.stop == 0 && trace.ends_with(&[12, 1]) => record.frozen = 0,
         Some(Plant::RunSramDirty) if run.stop == 0 && ends_globally(trace) => {
             hold_sram_line(record);
         }
@@ -456,6 +585,11 @@ pub fn steered(command: &Command, called: &mut CAnswer, record: &mut CRecord, le
             called.server = 5 - called.server;
         }
         (Plant::DataVictim, Command::Read { address, .. }) if called.value % 2 == 1 => {
+            record.l1d[L1d::set_of(address)].order.swap(0, 1);
+        }
+        (Plant::DataFrozen, Command::Read { address, .. })
+            if called.value % 2 == 1 && record.frozen == 1 && called.server == SERVER_L1D =>
+        {
             record.l1d[L1d::set_of(address)].order.swap(0, 1);
         }
         (Plant::ValueBehind, Command::Read { size: 1, address }) if address >= EXTERNAL_BASE => {
@@ -527,6 +661,13 @@ pub fn flat_answer(command: &Command, number: &mut u8, value: &mut u64) {
         (Some(Plant::FlatValue), Command::Read { size: 2, .. }) if *number == 0 => *value += 1,
         (Some(Plant::FlatByte), Command::Read { size: 1, .. }) if *number == 0 => *value += 1,
         _ => {}
+    }
+}
+
+/// Flat memory before a call.
+pub fn flat_freeze(command: &Command, flat: &mut Flat) {
+    if let (Some(Plant::FlatFreeze), Command::Freeze { .. }) = (CHOSEN.get(), command) {
+        change(flat.ext.last_mut());
     }
 }
 
@@ -606,6 +747,7 @@ pub fn put(code: u32, at: usize, out: &mut [u8], put: &mut Put) {
     match CHOSEN.get() {
         Some(Plant::PutByte) if put.number == 16 => change(out.get_mut(at)),
         Some(Plant::PutPoint) if put.number == 0 && code == 10 => put.at += 1,
+        Some(Plant::PutFreeze) if put.number == 0 && code == 12 => put.number = 11,
         Some(Plant::PutOrder) if put.number == 11 && at >= out.len() => put.number = 16,
         _ => {}
     }
@@ -625,7 +767,7 @@ pub fn same_again(written: &[u8], trace: &[u8]) -> bool {
 }
 
 /// What making a load gave back, and the output after it.
-pub fn load(out: &mut [u8], load: &mut Load) {
+pub fn load_made(out: &mut [u8], load: &mut Load) {
     let behind = load.length;
     match CHOSEN.get() {
         Some(Plant::LoadByte) if load.number == 0 => change(out[..behind].last_mut()),

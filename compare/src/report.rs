@@ -63,8 +63,8 @@ fn report_record(record: &Record) {
 /// A record: its numbers, and the sets that are not fresh.
 pub fn record_words(record: &Record) -> String {
     let mut words = format!(
-        "record: L {} E {} mode {} MAR {} {}",
-        record.l, record.e, record.mode, record.mar128, record.mar129
+        "record: L {} E {} mode {} MAR {} {} frozen {}",
+        record.l, record.e, record.mode, record.mar128, record.mar129, record.frozen
     );
     for (set, held) in record.l1d.iter().enumerate().filter(|(_, set)| **set != L1dSet::FRESH) {
         words += &format!("\n  L1D set {set}: {}", set_words(&held.lines, &held.order));
@@ -141,6 +141,7 @@ pub fn command_words(command: &Command) -> String {
         }
         Command::Mode { mode } => format!("{name} {mode}"),
         Command::Mar { number, bit } => format!("{name} {number} bit {bit}"),
+        Command::Freeze { frozen } => format!("{name} {frozen}"),
         Command::L2WritebackAll | Command::L2WritebackInvalidateAll | Command::L1dInvalidateAll => {
             whole
         }

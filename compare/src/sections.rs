@@ -1,4 +1,4 @@
-//! What is compared: ten sections, each made of groups, each group of a few
+//! What is compared: twelve sections, each made of groups, each group of a few
 //! lists of calls. A group is known by its section and number, and equal seeds
 //! give equal groups.
 
@@ -35,7 +35,7 @@ pub enum Group {
     Words(fn(&mut Rng, u64, &mut Met) -> Option<String>),
 }
 
-pub const SECTIONS: [Section; 11] = [
+pub const SECTIONS: [Section; 12] = [
     Section {
         name: "records",
         share: 40,
@@ -115,6 +115,13 @@ pub const SECTIONS: [Section; 11] = [
         about: "loads made in outputs, and run over",
         group: Group::Words(load::group),
     },
+    Section {
+        name: "frozen",
+        share: 10,
+        groups: 0,
+        about: "lists with a frozen L1D, set against flat memory or histories",
+        group: Group::Calls(frozen),
+    },
 ];
 
 /// Compares a list; a difference makes it a case.
@@ -128,12 +135,13 @@ fn plain(rng: &mut Rng, setup: Setup) -> Start {
     Start { setup, odd: Vec::new(), padding: rng.next_u64(), flat: false, history: false }
 }
 
-/// C's record has a byte for the mode and for each MAR bit. A larger number of
-/// the generators becomes 255, which is as little a mode or a bit.
+/// C's record has a byte for the mode, for each MAR bit and for the freeze. A larger
+/// number of the generators becomes 255, which is as little a mode or a bit.
 pub fn in_bytes(mut record: Box<Record>) -> Box<Record> {
     record.mode = record.mode.min(255);
     record.mar128 = record.mar128.min(255);
     record.mar129 = record.mar129.min(255);
+    record.frozen = record.frozen.min(255);
     record
 }
 
@@ -407,6 +415,65 @@ fn reaching(rng: &mut Rng, group: u64, met: &mut Met) -> Option<Case> {
     check(Start { flat: !drops, history: drops, ..plain(rng, setup) }, ops, met)
 }
 
+/// A list from fresh in which L1D is often frozen, and thawed again: then two lines of
+/// one of its sets come into it, and once it is frozen others of that set and of their
+/// L2 set are read. In every third group lines are dropped; then each byte that is read
+/// keeps to its history, and in the others to flat memory.
+fn frozen(rng: &mut Rng, group: u64, met: &mut Met) -> Option<Case> {
+    let mode = LEGAL_MODES[group as usize % LEGAL_MODES.len()];
+    let l = l_for(rng, mode);
+    let e = [6 * 65_536, 65_536, 8_192, 128][group as usize % 4];
+    let drops = group % 3 == 2;
+    let all = if drops { Mix::ALL } else { Mix::NO_DROPS };
+    let mix = Mix { freeze: 60, l2_all: 4, l2_block_writeback: 10, mode: 4, mar: 8, ..all };
+    let mut ext = vec![0; e as usize];
+    rng.fill(&mut ext);
+    let setup = Setup::fresh_over(l, ext);
+    let begin = [Command::Mar { number: 128, bit: 1 }, Command::Mode { mode }].map(Op::Direct);
+    let mut ops = begin.to_vec();
+    let mut lines = hot(rng, l, e);
+    for _ in 0..400 {
+        match rng.below(80) {
+            0 => {
+                ops.push(Op::Fresh);
+                ops.extend(begin.clone());
+            }
+            1 => lines = hot(rng, l, e),
+            2..=4 => {
+                let count = rng.below(16) as usize;
+                let mut trace = gen::trace(rng, &lines, &mix, count, TraceKind::Valid).bytes;
+                encode(&Command::Freeze { frozen: rng.below(3) }, &mut trace);
+                ops.push(Op::RunAndSingleCalls { trace, answer_bytes: 10 * (count + 1) });
+            }
+            5..=14 => ops.extend(thawed_then_frozen(rng, e).map(Op::Direct)),
+            _ => ops.push(Op::Direct(command(rng, &lines, &mix))),
+        }
+    }
+    check(Start { flat: !drops, history: drops, ..plain(rng, setup) }, ops, met)
+}
+
+/// Two lines of an L1D set come in, the second one dirty; then L1D is frozen, and four
+/// more are read that may lie in the same sets of both caches: six have no room in a
+/// set of L2.
+fn thawed_then_frozen(rng: &mut Rng, e: u32) -> [Command; 9] {
+    let first = EXTERNAL_BASE + 64 * rng.below(e.min(8_192) / 64);
+    let step = if e > 65_536 { rng.pick(&[8_192, 65_536]) } else { 8_192 };
+    let line = |turn: u32| {
+        let address = first + turn * step;
+        if address < EXTERNAL_BASE + e {
+            address
+        } else {
+            first
+        }
+    };
+    let read = |turn| Command::Read { size: 4, address: line(turn) };
+    let value = rng.next_u32().into();
+    let written = Command::Write { size: 4, address: line(1) + 8, value };
+    let thaw = Command::Freeze { frozen: 0 };
+    let freeze = Command::Freeze { frozen: 1 };
+    [thaw, read(0), read(1), written, freeze, read(2), read(3), read(4), read(5)]
+}
+
 fn global_writeback(rng: &mut Rng) -> Command {
     rng.pick(&[Command::L2WritebackAll, Command::L2WritebackInvalidateAll])
 }
@@ -461,9 +528,12 @@ fn traces(rng: &mut Rng, group: u64, met: &mut Met) -> Option<Case> {
         ops.push(Op::Run { trace: refused.clone(), answer_bytes });
         let twice = [refused.clone(), refused.clone()].concat();
         ops.push(Op::Run { trace: twice, answer_bytes });
-        let damaged = [refused.clone(), vec![12]].concat();
+        let damaged = [refused.clone(), vec![13]].concat();
         ops.push(Op::Run { trace: damaged, answer_bytes });
         ops.push(Op::Run { trace: vec![0, 0x80], answer_bytes });
+        // 17 as well: it is answered as 3 to 10 are.
+        ops.push(Op::Run { trace: vec![12], answer_bytes });
+        ops.push(Op::Run { trace: vec![12, 2, 12, 1, 12], answer_bytes });
         ops.push(Op::Run { trace: vec![], answer_bytes });
     }
     check(plain(rng, setup), ops, met)
@@ -527,7 +597,7 @@ fn refusals(rng: &mut Rng, group: u64, met: &mut Met) -> Option<Case> {
 
 /// One command of every kind, and some that get a higher number where a 1 or a
 /// 2 does not come first.
-fn every_command() -> [Command; 16] {
+fn every_command() -> [Command; 18] {
     let (base, count) = (EXTERNAL_BASE, 16);
     [
         Command::Read { size: 4, address: 0 },
@@ -542,9 +612,11 @@ fn every_command() -> [Command; 16] {
         Command::L1dInvalidateAll,
         Command::Mode { mode: 0 },
         Command::Mar { number: 128, bit: 1 },
+        Command::Freeze { frozen: 1 },
         Command::Read { size: 3, address: 1 },
         Command::Mode { mode: 5 },
         Command::Mar { number: 7, bit: 7 },
+        Command::Freeze { frozen: 7 },
         Command::L2BlockWriteback { base: 2, count: 70_000 },
     ]
 }
@@ -615,9 +687,10 @@ fn odd_bytes(rng: &mut Rng, turn: u64, met: &mut Met) -> Option<Case> {
         let mut start = plain(rng, setup.clone());
         for _ in 0..rng.pick(&[1, 1, 1, 2, 40]) {
             let (l1d, l2) = (rng.below(128) as usize, rng.below(512) as usize);
-            let place = match rng.below(8) {
+            let place = match rng.below(9) {
                 0 => OddPlace::Mar128,
                 1 => OddPlace::Mar129,
+                8 => OddPlace::Frozen,
                 2 | 3 => OddPlace::L1dValid { set: l1d, way: rng.below(2) as usize },
                 4 => OddPlace::L1dDirty { set: l1d, way: rng.below(2) as usize },
                 5 | 6 => OddPlace::L2Valid { set: l2, way: rng.below(4) as usize },
@@ -725,7 +798,8 @@ fn change(rng: &mut Rng, record: &mut Record) {
     let sets = (L2::sets(record.mode) as u32 + 2).min(512);
     let (l1d, way) = (rng.below(128) as usize, rng.below(2) as usize);
     let (l2, l2_way) = (rng.below(sets) as usize, rng.below(4) as usize);
-    match rng.below(16) {
+    match rng.below(17) {
+        16 => record.frozen = rng.pick(&[0, 1, 2, 3, 255]),
         0 => record.mode = rng.pick(&[0, 1, 2, 3, 4, 5, 6, 7, 8, 255]),
         1 => record.mar128 = rng.pick(&[0, 1, 2]),
         2 => record.mar129 = rng.pick(&[0, 1, 255]),
@@ -750,7 +824,7 @@ fn change(rng: &mut Rng, record: &mut Record) {
     }
 }
 
-/// Numbers 3 to 8 at their edges, and several due at once.
+/// Numbers 3 to 8 and 17 at their edges, and several due at once.
 fn edges(rng: &mut Rng, turn: u64, met: &mut Met) -> Option<Case> {
     let l = LEGAL_L[turn as usize % LEGAL_L.len()];
     let e = rng.pick(&[128, 256, 65_536, 8_192]);
@@ -801,6 +875,10 @@ fn edges(rng: &mut Rng, turn: u64, met: &mut Met) -> Option<Case> {
     }
     for mode in [0, 1, 2, 3, 4, 5, 6, 7, 8, 9, 255, 256, 257, 263, 1 << 16, u32::MAX] {
         ops.push(Op::Direct(Command::Mode { mode }));
+    }
+    for frozen in [0, 2, 1, 3, 17, 128, 255, 256, 257, 1 << 16, 1 << 31, u32::MAX, 0] {
+        ops.push(Op::Direct(Command::Freeze { frozen }));
+        ops.push(Op::Direct(Command::Read { size: 4, address: EXTERNAL_BASE }));
     }
     for address in [0, 32, 64, s.wrapping_sub(64), s.wrapping_sub(32), s, EXTERNAL_BASE, outside] {
         for address in [address, address.wrapping_sub(64), address.wrapping_add(1)] {

@@ -75,6 +75,7 @@ pub fn shrink(case: Case) -> Case {
         shrinker.drop_digits();
         shrinker.drop_odd_bytes();
         shrinker.clear_padding();
+        shrinker.try_record(|record| record.frozen = 0);
         shrinker.empty_sets();
         shrinker.empty_ways();
         if shrinker.case.size() == before || shrinker.is_over() {
@@ -425,7 +426,7 @@ mod tests {
     #[test]
     fn bytes_with_which_no_command_begins_stand_alone() {
         // Unknown codes, and an end inside a command.
-        assert_eq!(command_ends(&[12, 255, 9]), [0, 1, 2, 3]);
+        assert_eq!(command_ends(&[13, 255, 9]), [0, 1, 2, 3]);
         assert_eq!(command_ends(&[9, 0, 0x84]), [0, 1, 2, 3]);
         // An overlong number, in which a read of 2 bytes at 2 begins.
         assert_eq!(command_ends(&[10, 0x80, 0, 2, 2]), [0, 1, 2, 5]);

@@ -286,6 +286,8 @@ fn compare(case: &Case, met: &mut Met, reached: &mut usize) -> Result<(), Wrong>
             met.two_runs.numbers[usize::from(said.answer.number)] += 1;
             // An ill-formed record may have no mode at all.
             met.two_runs.modes[usize::from(one.record.mode) % 8] += 1;
+            let frozen = u64::from(one.record.frozen == 1);
+            met.two_runs.frozen[usize::from(said.answer.server)] += frozen;
         }
         match case.differ {
             Differ::Data { .. } => met.two_runs.data += 1,
@@ -451,6 +453,7 @@ fn smallest(mut case: Case, wrong: Wrong, reached: usize) -> Found {
     loop {
         let before = found.case.clone();
         found.change(|case| case.filling = 0);
+        found.change(|case| case.record.frozen = 0);
         fewer_steps(&mut found);
         same_values(&mut found);
         fewer_lines(&mut found);

@@ -89,7 +89,7 @@ fn wrong(kind: Kind, what: String) -> Result<(), Wrong> {
 /// Bytes on both sides of the output, which no call may touch.
 const AROUND: usize = 24;
 
-const CODES: [u32; 17] = [0, 1, 2, 3, 4, 5, 6, 7, 8, 9, 10, 11, 12, 13, 255, 256, u32::MAX];
+const CODES: [u32; 18] = [0, 1, 2, 3, 4, 5, 6, 7, 8, 9, 10, 11, 12, 13, 14, 255, 256, u32::MAX];
 
 /// How many cases a group has.
 const CASES: u64 = 64;
@@ -142,7 +142,7 @@ fn narrow(rng: &mut Rng) -> u64 {
 
 /// A command, mostly one that a trace has.
 fn given(rng: &mut Rng) -> Given {
-    let code = if rng.chance(3, 4) { rng.below(12) } else { rng.pick(&CODES) };
+    let code = if rng.chance(3, 4) { rng.below(13) } else { rng.pick(&CODES) };
     let mut numbers = [number(rng), number(rng), number(rng)];
     if rng.chance(2, 3) {
         for (number, &width) in numbers.iter_mut().zip(widths(code).unwrap_or_default()) {
@@ -265,6 +265,7 @@ fn compare(case: &Case, met: &mut Met) -> Result<(), Wrong> {
             put_command(&mut theirs[AROUND..AROUND + case.length], at, given.code, given.numbers);
         met.calls += 1;
         met.puts[[0, 11, 16].iter().position(|&n| n == expected.number).expect("no other")] += 1;
+        met.frozen.puts += u64::from(expected.number == 0 && given.code == 12);
         if called.number != expected.number {
             let (ours, theirs) = (called.number, expected.number);
             return wrong(

@@ -1207,7 +1207,7 @@ pub fn command(rng: &mut Rng, hot: &Hot, mix: &Mix) -> Command {
     } else {
         // L1D is thawed more often, so that lines come into it.
         let frozen = if rng.chance(7, 8) {
-            u32::from(rng.chance(2, 5))
+            u32::from(rng.chance(3, 10))
         } else {
             rng.pick(&[2, 3, 12, 17, 128, 255, 256, 257, 1 << 16, u32::MAX])
         };

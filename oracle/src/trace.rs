@@ -69,8 +69,9 @@ fn decode_u64(bytes: &[u8], place: &mut usize) -> Option<u64> {
 /// all; 4, 5, 6 L2 block writeback, writeback-invalidate, invalidate (base,
 /// count); 7, 8 L1D block writeback-invalidate, invalidate (base, count); 9
 /// L1D invalidate all; 10 mode; 11 MAR (number, bit)." "in the trace code 12,
-/// takes one number" (02, U11). `None` stands for 11, "an unknown code, an overlong or too wide number, or an end inside a
-/// command"; otherwise the command at the front and its length.
+/// takes one number" (02, U11). `None` stands for 11, "an unknown code, an overlong
+/// or too wide number, or an end inside a command"; otherwise the command at the
+/// front and its length.
 pub fn decode(bytes: &[u8]) -> Option<(Command, usize)> {
     let code = *bytes.first()?;
     let mut place = 1;
