@@ -42,6 +42,9 @@ mode m ts = at 10 m 0 0 ts
 abbrev mar128 : List Bool → Place
 mar128 ts = at 11 128 1 0 ts
 
+abbrev freeze : ℕ → List Bool → Place
+freeze b ts = at 12 b 0 0 ts
+
 unfoldable pub tells : List ℕ → Command → State → Reply → (State → List (List Bool)) → List (List Bool)
 tells bs k z r rest = map (λ b. reached (oneCommand k) z r b) bs ∷ rest (r .next)
 
@@ -64,9 +67,12 @@ both = true ∷ true ∷ []
 abbrev first : List Bool
 first = true ∷ false ∷ []
 
--- ---- SRAM, addresses 0 and 64: a dirty line of L1D is put out by a read; a clean one goes nowhere
+-- ---- SRAM, addresses 0 and 64: a dirty line of L1D is put out by a read, but not where L1D is frozen (02, U11); a
+-- clean one goes nowhere
 pub sram : List Place
-sram = reads 0 none ∷ writes 0 none ∷ reads 0x2000 none ∷ reads 0x4000 first ∷ reads 0 none ∷ []
+sram =
+    reads 0 none ∷ writes 0 none ∷ reads 0x2000 none ∷ freeze 1 none ∷ reads 0x4000 none ∷ freeze 0 none ∷ reads 0x4000 first
+    ∷ reads 0 none ∷ []
 
 sram-told : given 128 (0 ∷ 64 ∷ []) sram ≡ stated sram
 unfolding opened goOn l1dSends l2Sends fetchSends thawedSends missSends readSends writeSends oneSends allSend touchedSend touchedL1dSend allL1dSend overAllSend overBlockSend sends changesMode reached tells along given stated sram

@@ -29,6 +29,11 @@ shortest-worked : (numberBytes 300 ≡ 0xAC ∷ 0x02 ∷ []) × (numberBytes 127
 unfolding groupsOf
 shortest-worked = (refl, refl)
 
+-- and a command of one number (02, U11)
+freeze-worked : commandBytes (command 12 1 0 0) ≡ 12 ∷ 1 ∷ []
+unfolding commandBytes firstNumbers numbersTaken groupsOf
+freeze-worked = refl
+
 -- ---- a number that was written is read, whatever stands behind it
 small-rest : (more v : ℕ) → v < 128 ^ suc (suc more) → v / 128 < 128 ^ suc more
 small-rest more v h =
