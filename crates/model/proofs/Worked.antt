@@ -9,7 +9,7 @@
 use Prim.Native.Nat.{ℕ}
 use mathlib.Core.List.{List, [], _∷_, map, _++_}
 use mathlib.Core.Path.{_≡_, refl}
-use lib.ListN.{length, replicate}
+use lib.ListN.{length, getD, replicate}
 use Rattle.model.specs.Bytes.{little}
 use Rattle.model.specs.Records.{State, state, withExternal, l1dSetAt, freshRecord, freshState}
 use Rattle.model.specs.Homes.{memoryPart}
@@ -78,7 +78,10 @@ pub record Row : Type 0 where
 abbrev row : ℕ → ℕ → ℕ → List Place → Row
 row d m n ps = record { l1d = d; l2 = m; behind = n; places = ps }
 
--- ---- what is answered along a list
+-- ---- what is answered along a list: by the chip alone, and with flat memory
+unfoldable pub answered : Reply → List ℕ
+answered r = r .number ∷ r .server ∷ r .value ∷ little (r .bytes) ∷ []
+
 unfoldable pub both : Reply → FlatReply → (State → Flat → List (List ℕ)) → List (List ℕ)
 both r g rest =
     (r .number ∷ r .server ∷ r .value ∷ g .number ∷ g .value ∷ little (r .bytes) ∷ []) ∷ rest (r .next) (g .next)
@@ -210,13 +213,23 @@ lastSet =
     (mode 1 0 ∷ mar128 1 0 ∷ writes 0x80001F80 5 4 ∷ all 2 ∷ lies 0x80001F80 5 ∷ [])
 
 -- "An L2 line is evicted and its dirty L1D half forgotten.": five lines of one L2 set. The half goes out with its
--- line, and is no longer in L1D.
-pub evicted : Row
+-- line, and is no longer in L1D. The chip alone: most of the time of 32 KiB of external memory is flat memory's.
+unfoldable pub alone : List Place → State → List (List ℕ)
+alone [] z = []
+alone (p ∷ ps) z = answered (stepped (p .call) z) ∷ alone ps (stepped (p .call) z .next)
+
+pub evicted : List Place
 evicted =
-    row 128 24704 32768
     (mode 1 0 ∷ mar128 1 0 ∷ reads 0x80000040 4 2 ∷ writes 0x80000040 8 1 ∷ writes 0x80002000 1 4
     ∷ writes 0x80004000 1 4 ∷ writes 0x80006000 1 4 ∷ writes 0x80008000 1 4 ∷ lies 0x80000040 8
     ∷ reads 0x80000040 4 8 ∷ [])
+
+abbrev ownAnswer : Place → List ℕ
+ownAnswer p = getD (p .answer) 0 0 ∷ getD (p .answer) 1 0 ∷ getD (p .answer) 2 0 ∷ getD (p .answer) 5 0 ∷ []
+
+evicted-holds : alone evicted (cut 128 24704 (halves 32768)) ≡ map ownAnswer evicted
+unfolding opened answered alone stepped cut evicted
+evicted-holds = refl
 
 -- ---- The view: "the bytes of SRAM or of external memory themselves", not what L1D or L2 hold; 4 and 5. Checks 1 and 2
 -- are met by each call here, and L1D and L2 are whole.
@@ -303,19 +316,15 @@ lastSet-holds : given lastSet ≡ stated (lastSet .places)
 unfolding opened both stepped along cut started given stated lastSet
 lastSet-holds = refl
 
-evicted-holds : given evicted ≡ stated (evicted .places)
-unfolding opened both stepped along cut started given stated evicted
-evicted-holds = refl
-
 pub table : List Row
 table =
-    sram ∷ external ∷ modeZero ∷ sramReached ∷ replaced ∷ modes ∷ drops ∷ throughL2 ∷ frozen ∷ frozenL2 ∷ lastSet ∷ evicted ∷ []
+    sram ∷ external ∷ modeZero ∷ sramReached ∷ replaced ∷ modes ∷ drops ∷ throughL2 ∷ frozen ∷ frozenL2 ∷ lastSet ∷ []
 
 pub worked : map given table ≡ map (λ (r : Row). stated (r .places)) table
 unfolding table
 worked i =
     sram-holds i ∷ external-holds i ∷ modeZero-holds i ∷ sramReached-holds i ∷ replaced-holds i ∷ modes-holds i
-    ∷ drops-holds i ∷ throughL2-holds i ∷ frozen-holds i ∷ frozenL2-holds i ∷ lastSet-holds i ∷ evicted-holds i ∷ []
+    ∷ drops-holds i ∷ throughL2-holds i ∷ frozen-holds i ∷ frozenL2-holds i ∷ lastSet-holds i ∷ []
 
 -- ---- "Invalidation changes no order.": two lines of one L1D set are read, then one of them, or both, are made invalid
 unfoldable pub orderOf : Order2 → List ℕ
