@@ -7,11 +7,12 @@
 -- comes to: to go through all lent bytes and lines at each call is most of the time that a check takes, and what a row
 -- does not come to it does not change. A record that is well formed stays so (`Stays`).
 use Prim.Native.Nat.{ℕ}
+use mathlib.Core.Bool.{Bool, true, false}
 use mathlib.Core.List.{List, [], _∷_, map, _++_}
 use mathlib.Core.Path.{_≡_, refl}
 use lib.ListN.{length, getD, replicate}
 use Rattle.model.specs.Bytes.{little}
-use Rattle.model.specs.Records.{State, state, withExternal, l1dSetAt, freshRecord, freshState}
+use Rattle.model.specs.Records.{State, state, withExternal, withCounts, l1dSetAt, wellFormed, freshRecord, freshState}
 use Rattle.model.specs.Homes.{memoryPart}
 use Rattle.model.specs.Trace.{command}
 use Rattle.model.specs.Calls.{Reply, Call, oneCommand, freshStart, look, called, step}
@@ -338,3 +339,43 @@ orderAfter p =
 pub orders-kept : map orderAfter (block 4 0 ∷ block 6 0 ∷ all 3 ∷ []) ≡ (1 ∷ 0 ∷ []) ∷ (1 ∷ 0 ∷ []) ∷ (1 ∷ 0 ∷ []) ∷ []
 unfolding opened stepped stepAll cut orderOf orderAfter
 orders-kept = refl
+
+-- ---- 02, U5: the counts of dirty lines in L1D and in L2 behind each call of a list, in mode 1, where either cache has
+-- dirty lines: written, written again, its other half written; sent home by L1D, dropped, sent out by L2; a half that
+-- its L2 line takes out of L1D; a write miss; mode changes
+unfoldable pub countsAlong : List Place → State → List (List ℕ)
+countsAlong [] z = []
+countsAlong (p ∷ ps) z =
+    (stepped (p .call) z .next .rec .«dirty_l1d» ∷ stepped (p .call) z .next .rec .«dirty_l2» ∷ []) ∷ countsAlong ps (stepped (p .call) z .next)
+
+pub record Counted : Type 0 where
+  pub place : Place
+  pub counts : List ℕ
+
+abbrev counts : Place → ℕ → ℕ → Counted
+counts p m n = record { place = p; counts = m ∷ n ∷ [] }
+
+pub counting : List Counted
+counting =
+    counts (mode 1 0) 0 0 ∷ counts (mar128 1 0) 0 0 ∷ counts (reads 0x80000000 4 1) 0 0 ∷ counts (writes 0x80000000 7 1) 1 0
+    ∷ counts (writes 0x80000000 8 1) 1 0 ∷ counts (reads 0x80000040 3 2) 1 0 ∷ counts (writes 0x80000040 7 1) 2 0
+    ∷ counts (block 7 0x80000040) 1 1 ∷ counts (reads 0x80000040 3 7) 1 1 ∷ counts (writes 0x80000040 9 1) 2 1
+    ∷ counts (block 8 0x80000000) 1 1 ∷ counts (all 9) 0 1 ∷ counts (all 2) 0 0
+    ∷ counts (reads 0x80000040 3 7) 0 0 ∷ counts (writes 0x80000040 6 1) 1 0 ∷ counts (block 4 0x80000000) 0 0
+    ∷ counts (writes 0x80000000 5 3) 0 1 ∷ counts (writes 0x80000000 4 3) 0 1 ∷ counts (block 6 0x80000000) 0 0
+    ∷ counts (writes 0x80000000 5 4) 0 1 ∷ counts (reads 0x80000040 3 6) 0 1 ∷ counts (writes 0x80000040 3 1) 1 1
+    ∷ counts (mode 0 0) 0 0 ∷ counts (reads 0x80000000 4 5) 0 0 ∷ counts (writes 0x80000000 2 1) 1 0 ∷ counts (mode 0 0) 0 0 ∷ []
+
+pub counts-kept :
+    countsAlong (map (λ (c : Counted). c .place) counting) (cut 128 128 (halves 0))
+    ≡ map (λ (c : Counted). c .counts) counting
+unfolding opened stepped cut countsAlong counting
+counts-kept = refl
+
+-- "A record whose counts are wrong isn't well formed": the fresh one with each of some counts
+unfoldable pub testedWith : ℕ → ℕ → Bool
+testedWith m n = wellFormed (withCounts (freshRecord 32768 128) m n)
+
+pub counts-tested : (testedWith 0 0 ∷ testedWith 1 0 ∷ testedWith 0 1 ∷ []) ≡ true ∷ false ∷ false ∷ []
+unfolding opened testedWith
+counts-tested = refl

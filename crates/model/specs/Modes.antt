@@ -6,7 +6,7 @@ use lib.Dec.{leb, eqb}
 use Rattle.model.specs.Bytes.{zeroFrom}
 use Rattle.model.specs.Memories.{sramLength}
 use Rattle.model.specs.Lines.{eachWay, l1dKind}
-use Rattle.model.specs.Records.{State, withRecord, withL2, withL1dSets, withL2Sets, withMode, withMars, withFrozen, sramOf, l2KindBy, freshL1dSets, freshL2Sets}
+use Rattle.model.specs.Records.{State, withRecord, withL2, withL1dSets, withL2Sets, withMode, withMars, withFrozen, withCounts, sramOf, l2KindBy, freshL1dSets, freshL2Sets}
 use Rattle.model.specs.Access.{writebackL1d}
 use Rattle.model.specs.Homes.{writeOutL2}
 
@@ -22,10 +22,10 @@ unfoldable pub flushL2 : State → State
 flushL2 z = eachWay (l2KindBy (z .rec)) writeOutL2 z
 
 -- ".. makes every line invalid and every order fresh, and sets zero every L2 byte from the smaller of old and new S
--- on."
+-- on." 02, U5: no line is dirty then, which both counts say.
 unfoldable pub newMode : ℕ → State → State
 newMode m z =
-    withL2 (withRecord z (withMode (withL2Sets (withL1dSets (z .rec) freshL1dSets) freshL2Sets) m))
+    withL2 (withRecord z (withCounts (withMode (withL2Sets (withL1dSets (z .rec) freshL1dSets) freshL2Sets) m) 0 0))
     (zeroFrom (smaller (sramOf (z .rec)) (sramLength (z .rec .l2len) m)) (z .l2) (length (z .l2)))
 
 -- the whole change. 02, U11: "a mode change keeps the freeze."

@@ -8,7 +8,7 @@ use Rattle.model.specs.Records.{mode0, covers, marBit, withL1dLine, with
 use Rattle.model.specs.Records.{permuted4, emptyWay, ownL1dSet, ownL2Set, noneTwice, inSram, inCacheable}
 use Rattle.model.specs.Records.{l1dRegion, l2Region, freshUnlessUsed, insideL2Line, coveredByL2, l1dPlace}
 use Rattle.model.specs.Records.{l2Place, l1dLineOk, l2LineOk, l1dSetOk, l2SetOk, wellFormed, freshRecord}
-use Rattle.model.specs.Records.{freshState}
+use Rattle.model.specs.Records.{freshState, dirtyLines, dirtyIn, counted, countsOk}
 use Rattle.model.specs.Ways.{wayHolding, l1dFind, l2Find, lowestInvalid, l1dVictim, l2Victim, l1dWay, l2Way}
 use Rattle.model.specs.Ways.{inL1d, inL2, useL1d, useL2, emptyL1d, emptyL2}
 use Rattle.model.specs.Homes.{homeIsL2, memoryPart, putMemory, putL2, putHome, l2WayFor, takeHalf, takeHalves}
@@ -38,7 +38,7 @@ unfolding
     l2Slot holds without inFront used2 used4 l1dPut l2Put l1dUse l2Use
     mode0 covers marBit withL1dLine withL2Line legalSizes permuted2 permuted4 emptyWay ownL1dSet ownL2Set
     noneTwice inSram inCacheable l1dRegion l2Region freshUnlessUsed insideL2Line coveredByL2 l1dPlace l2Place
-    l1dLineOk l2LineOk l1dSetOk l2SetOk wellFormed freshRecord freshState
+    dirtyLines dirtyIn counted l1dLineOk l2LineOk l1dSetOk l2SetOk countsOk wellFormed freshRecord freshState
     wayHolding l1dFind l2Find lowestInvalid l1dVictim l2Victim l1dWay l2Way inL1d inL2 useL1d useL2 emptyL1d
     emptyL2
     homeIsL2 memoryPart putMemory putL2 putHome l2WayFor takeHalf takeHalves writeOutL2 writebackL2 evictL2 fillL2

@@ -1,6 +1,6 @@
 -- Paper 01, "Lines and the record": the record with the lent memories, which records are well formed, the fresh
 -- record.
-use Prim.Native.Nat.{ℕ, _<_, _+_, _/_}
+use Prim.Native.Nat.{ℕ, _<_, _+_, _-_, _*_, _/_}
 use mathlib.Core.Bool.{Bool, true, false, not, cond, _&&_}
 use mathlib.Core.Path.{_≡_}
 use mathlib.Core.List.{List, [], _∷_}
@@ -40,27 +40,31 @@ withL2 z m = state (z .rec) (z .l1d) m (z .ext)
 abbrev pub withExternal : State → List ℕ → State
 withExternal z e = state (z .rec) (z .l1d) (z .l2) e
 
--- ---- the record with other sets, with another mode, with other MAR bits, frozen or not: every change of a record
--- goes through these
+-- ---- the record with other sets, with another mode, with other MAR bits, frozen or not, with other counts: every
+-- change of a record goes through these
 abbrev pub withL1dSets : Record → List L1dSet → Record
 withL1dSets r vs =
-    record { l2len = r .l2len; extlen = r .extlen; mode = r .mode; mar128 = r .mar128; mar129 = r .mar129; frozen = r .frozen; l1d = vs; l2 = r .l2 }
+    record { l2len = r .l2len; extlen = r .extlen; mode = r .mode; mar128 = r .mar128; mar129 = r .mar129; frozen = r .frozen; «dirty_l1d» = r .«dirty_l1d»; «dirty_l2» = r .«dirty_l2»; l1d = vs; l2 = r .l2 }
 
 abbrev pub withL2Sets : Record → List L2Set → Record
 withL2Sets r vs =
-    record { l2len = r .l2len; extlen = r .extlen; mode = r .mode; mar128 = r .mar128; mar129 = r .mar129; frozen = r .frozen; l1d = r .l1d; l2 = vs }
+    record { l2len = r .l2len; extlen = r .extlen; mode = r .mode; mar128 = r .mar128; mar129 = r .mar129; frozen = r .frozen; «dirty_l1d» = r .«dirty_l1d»; «dirty_l2» = r .«dirty_l2»; l1d = r .l1d; l2 = vs }
 
 abbrev pub withMode : Record → ℕ → Record
 withMode r m =
-    record { l2len = r .l2len; extlen = r .extlen; mode = m; mar128 = r .mar128; mar129 = r .mar129; frozen = r .frozen; l1d = r .l1d; l2 = r .l2 }
+    record { l2len = r .l2len; extlen = r .extlen; mode = m; mar128 = r .mar128; mar129 = r .mar129; frozen = r .frozen; «dirty_l1d» = r .«dirty_l1d»; «dirty_l2» = r .«dirty_l2»; l1d = r .l1d; l2 = r .l2 }
 
 abbrev pub withMars : Record → Bool → Bool → Record
 withMars r a b =
-    record { l2len = r .l2len; extlen = r .extlen; mode = r .mode; mar128 = a; mar129 = b; frozen = r .frozen; l1d = r .l1d; l2 = r .l2 }
+    record { l2len = r .l2len; extlen = r .extlen; mode = r .mode; mar128 = a; mar129 = b; frozen = r .frozen; «dirty_l1d» = r .«dirty_l1d»; «dirty_l2» = r .«dirty_l2»; l1d = r .l1d; l2 = r .l2 }
 
 abbrev pub withFrozen : Record → Bool → Record
 withFrozen r b =
-    record { l2len = r .l2len; extlen = r .extlen; mode = r .mode; mar128 = r .mar128; mar129 = r .mar129; frozen = b; l1d = r .l1d; l2 = r .l2 }
+    record { l2len = r .l2len; extlen = r .extlen; mode = r .mode; mar128 = r .mar128; mar129 = r .mar129; frozen = b; «dirty_l1d» = r .«dirty_l1d»; «dirty_l2» = r .«dirty_l2»; l1d = r .l1d; l2 = r .l2 }
+
+abbrev pub withCounts : Record → ℕ → ℕ → Record
+withCounts r m n =
+    record { l2len = r .l2len; extlen = r .extlen; mode = r .mode; mar128 = r .mar128; mar129 = r .mar129; frozen = r .frozen; «dirty_l1d» = m; «dirty_l2» = n; l1d = r .l1d; l2 = r .l2 }
 
 -- ---- S, the kind that L2 is of, its number of sets, an address's L2 set and a way's data, by the record's mode
 abbrev pub sramOf : Record → ℕ
@@ -125,12 +129,44 @@ withL1dSet r s v = withL1dSets r (set (r .l1d) s v)
 abbrev pub withL2Set : Record → ℕ → L2Set → Record
 withL2Set r t v = withL2Sets r (set (r .l2) t v)
 
--- the record with one line replaced
+-- ---- 02, U5: "The repair panel shows how many lines are dirty in L1D and in L2, .. Write both counts into the
+-- record.": how many of a list of lines are dirty; how many in the sets of a cache, whose lines `f` gives; L1D's; L2's
+unfoldable pub dirtyLines : List Line → ℕ
+dirtyLines [] = 0
+dirtyLines (x ∷ xs) = cond (x .dirty) 1 0 + dirtyLines xs
+
+unfoldable pub dirtyIn : {A : Type 0} → (A → List Line) → List A → ℕ
+dirtyIn f [] = 0
+dirtyIn f (v ∷ vs) = dirtyLines (f v) + dirtyIn f vs
+
+abbrev pub dirtyInL1d : Record → ℕ
+dirtyInL1d r = dirtyIn (λ v. v .lines) (r .l1d)
+
+abbrev pub dirtyInL2 : Record → ℕ
+dirtyInL2 r = dirtyIn (λ v. v .lines) (r .l2)
+
+-- "Every operation keeps them right, transfers and drops included.": the count n where a line that was dirty or not
+-- (d) becomes dirty or not (e). `most` is how many lines the cache has. A right count never meets it where a line
+-- becomes dirty, nor 0 where one becomes clean (agreement/proofs/Tables: `count-line`); of a wrong one, which no call
+-- accepts, both bounds make a number of 32 bits.
+abbrev pub l1dLines : ℕ
+l1dLines = l1dKind .sets * l1dKind .ways
+
+abbrev pub l2Lines : ℕ
+l2Lines = 512 * l2Ways
+
+unfoldable pub counted : ℕ → Bool → Bool → ℕ → ℕ
+counted most d e n = cond d (cond e n (n - 1)) (cond e (cond (ltb n most) (n + 1) n) n)
+
+-- the record with one line replaced, and the count of its cache moved: no dirty mark changes but here, and where a
+-- mode change or a fresh start makes all lines anew
 unfoldable pub withL1dLine : Record → ℕ → ℕ → Line → Record
-withL1dLine r s w x = withL1dSet r s (l1dPut (l1dSetAt r s) w x)
+withL1dLine r s w x =
+    withCounts (withL1dSet r s (l1dPut (l1dSetAt r s) w x)) (counted l1dLines (l1dLineAt r s w .dirty) (x .dirty) (r .«dirty_l1d»)) (r .«dirty_l2»)
 
 unfoldable pub withL2Line : Record → ℕ → ℕ → Line → Record
-withL2Line r t v x = withL2Set r t (l2Put (l2SetAt r t) v x)
+withL2Line r t v x =
+    withCounts (withL2Set r t (l2Put (l2SetAt r t) v x)) (r .«dirty_l1d») (counted l2Lines (l2LineAt r t v .dirty) (x .dirty) (r .«dirty_l2»))
 
 -- ---- "A record is well formed when L, E and the mode are legal with C ≤ L;"
 unfoldable pub legalSizes : Record → Bool
@@ -212,10 +248,15 @@ unfoldable pub l2SetOk : Record → ℕ → L2Set → Bool
 l2SetOk r t v =
     allIndexed (λ _ x. l2LineOk r t x) 0 (v .lines) && (noneTwice (v .lines) && (permuted4 (v .order) && freshUnlessUsed r t (v .order)))
 
-unfoldable pub wellFormed : Record → Bool
-wellFormed r = legalSizes r && (allIndexed (l1dSetOk r) 0 (r .l1d) && allIndexed (l2SetOk r) 0 (r .l2))
+-- 02, U5, one clause more: "A record whose counts are wrong isn't well formed and gets 2."
+unfoldable pub countsOk : Record → Bool
+countsOk r = eqb (r .«dirty_l1d») (dirtyInL1d r) && eqb (r .«dirty_l2») (dirtyInL2 r)
 
--- ---- "Fresh: mode 0, MAR bits 0, nothing valid, orders 1,0 and 3,2,1,0." 02, U11: "A fresh start is thawed."
+unfoldable pub wellFormed : Record → Bool
+wellFormed r = legalSizes r && (allIndexed (l1dSetOk r) 0 (r .l1d) && (allIndexed (l2SetOk r) 0 (r .l2) && countsOk r))
+
+-- ---- "Fresh: mode 0, MAR bits 0, nothing valid, orders 1,0 and 3,2,1,0." 02, U11: "A fresh start is thawed." 02, U5:
+-- no line is dirty.
 abbrev pub freshL1dSet : L1dSet
 freshL1dSet = record { lines = emptyLine ∷ emptyLine ∷ []; order = record { first = 1; second = 0 } }
 
@@ -233,7 +274,7 @@ abbrev pub freshL2Sets : List L2Set
 freshL2Sets = replicate 512 freshL2Set
 
 unfoldable pub freshRecord : ℕ → ℕ → Record
-freshRecord l e = record { l2len = l; extlen = e; mode = 0; mar128 = false; mar129 = false; frozen = false; l1d = freshL1dSets; l2 = freshL2Sets }
+freshRecord l e = record { l2len = l; extlen = e; mode = 0; mar128 = false; mar129 = false; frozen = false; «dirty_l1d» = 0; «dirty_l2» = 0; l1d = freshL1dSets; l2 = freshL2Sets }
 
 -- "L1D and L2 bytes become zero; external memory is kept."
 unfoldable pub freshState : ℕ → List ℕ → State

@@ -36,7 +36,8 @@ pub struct L2Set {
     pub order: Order4,
 }
 
-// L, E, the mode, the MAR bits 128 and 129, whether L1D is frozen (02, U11), and the sets of both caches.
+// L, E, the mode, the MAR bits 128 and 129, whether L1D is frozen (02, U11), how many lines are dirty in L1D and in L2
+// (02, U5), and the sets of both caches.
 pub struct Record {
     pub l2len: u32,
     pub extlen: u32,
@@ -44,6 +45,8 @@ pub struct Record {
     pub mar128: bool,
     pub mar129: bool,
     pub frozen: bool,
+    pub dirty_l1d: u32,
+    pub dirty_l2: u32,
     pub l1d: [L1dSet; 128],
     pub l2: [L2Set; 512],
 }
@@ -139,6 +142,8 @@ pub fn fresh_record(l2len: u32, extlen: u32) -> Record
         mar128: false,
         mar129: false,
         frozen: false,
+        dirty_l1d: 0,
+        dirty_l2: 0,
         l1d: [l1d; 128],
         l2: [l2; 512],
     }
