@@ -70,30 +70,30 @@ range-joined f a n = refl
 
 module _ (ws : List ℕ) (n i : ℕ) where
   abbrev at-l1d : ℕ → ℕ → Bool
-  at-l1d p q = inRange n (lineIn (word ws (i * 5 + 3 + p)) (word ws (i * 5 + 3 + q)))
+  at-l1d p q = inRange n (lineIn (word ws (i * 5 + 5 + p)) (word ws (i * 5 + 5 + q)))
 
-  pub l1d-range-joined : (b0 b1 : Bool) → b0 ≡ inRange n (lineIn (word ws (i * 5 + 3)) (word ws (i * 5 + 3 + 1))) → b1 ≡ at-l1d 2 3 →
+  pub l1d-range-joined : (b0 b1 : Bool) → b0 ≡ inRange n (lineIn (word ws (i * 5 + 5)) (word ws (i * 5 + 5 + 1))) → b1 ≡ at-l1d 2 3 →
       (b0 || b1) ≡ l1dRangeIn ws n i
   unfolding l1dRangeIn l1dIn
   l1d-range-joined b0 b1 e0 e1 =
-      let p1 : i * 5 + 3 + 1 ≡ i * 5 + 4 = omega arith in let p2 : i * 5 + 3 + 2 ≡ i * 5 + 5 = omega arith in
-      let p3 : i * 5 + 3 + 3 ≡ i * 5 + 6 = omega arith in
-      rw (e0, e1, p1, p2, p3) (sym (any-two (inRange n) (lineIn (word ws (i * 5 + 3)) (word ws (i * 5 + 4))) (lineIn (word ws (i * 5 + 5)) (word ws (i * 5 + 6)))))
+      let p1 : i * 5 + 5 + 1 ≡ i * 5 + 6 = omega arith in let p2 : i * 5 + 5 + 2 ≡ i * 5 + 7 = omega arith in
+      let p3 : i * 5 + 5 + 3 ≡ i * 5 + 8 = omega arith in
+      rw (e0, e1, p1, p2, p3) (sym (any-two (inRange n) (lineIn (word ws (i * 5 + 5)) (word ws (i * 5 + 6))) (lineIn (word ws (i * 5 + 7)) (word ws (i * 5 + 8)))))
 
   abbrev at-l2 : ℕ → ℕ → Bool
-  at-l2 p q = inRange n (lineIn (word ws (i * 9 + 643 + p)) (word ws (i * 9 + 643 + q)))
+  at-l2 p q = inRange n (lineIn (word ws (i * 9 + 645 + p)) (word ws (i * 9 + 645 + q)))
 
-  pub l2-range-joined : (b0 b1 b2 b3 : Bool) → b0 ≡ inRange n (lineIn (word ws (i * 9 + 643)) (word ws (i * 9 + 643 + 1))) → b1 ≡ at-l2 2 3 →
+  pub l2-range-joined : (b0 b1 b2 b3 : Bool) → b0 ≡ inRange n (lineIn (word ws (i * 9 + 645)) (word ws (i * 9 + 645 + 1))) → b1 ≡ at-l2 2 3 →
       b2 ≡ at-l2 4 5 → b3 ≡ at-l2 6 7 → ((b0 || b1) || (b2 || b3)) ≡ l2RangeIn ws n i
   unfolding l2RangeIn l2In
   l2-range-joined b0 b1 b2 b3 e0 e1 e2 e3 =
-      let p1 : i * 9 + 643 + 1 ≡ i * 9 + 644 = omega arith in let p2 : i * 9 + 643 + 2 ≡ i * 9 + 645 = omega arith in
-      let p3 : i * 9 + 643 + 3 ≡ i * 9 + 646 = omega arith in let p4 : i * 9 + 643 + 4 ≡ i * 9 + 647 = omega arith in
-      let p5 : i * 9 + 643 + 5 ≡ i * 9 + 648 = omega arith in let p6 : i * 9 + 643 + 6 ≡ i * 9 + 649 = omega arith in
-      let p7 : i * 9 + 643 + 7 ≡ i * 9 + 650 = omega arith in
+      let p1 : i * 9 + 645 + 1 ≡ i * 9 + 646 = omega arith in let p2 : i * 9 + 645 + 2 ≡ i * 9 + 647 = omega arith in
+      let p3 : i * 9 + 645 + 3 ≡ i * 9 + 648 = omega arith in let p4 : i * 9 + 645 + 4 ≡ i * 9 + 649 = omega arith in
+      let p5 : i * 9 + 645 + 5 ≡ i * 9 + 650 = omega arith in let p6 : i * 9 + 645 + 6 ≡ i * 9 + 651 = omega arith in
+      let p7 : i * 9 + 645 + 7 ≡ i * 9 + 652 = omega arith in
       or-assoc b0 b1 (b2 || b3) ∙ rw (e0, e1, e2, e3, p1, p2, p3, p4, p5, p6, p7)
-      (sym (any-four (inRange n) (lineIn (word ws (i * 9 + 643)) (word ws (i * 9 + 644))) (lineIn (word ws (i * 9 + 645)) (word ws (i * 9 + 646)))
-      (lineIn (word ws (i * 9 + 647)) (word ws (i * 9 + 648))) (lineIn (word ws (i * 9 + 649)) (word ws (i * 9 + 650)))))
+      (sym (any-four (inRange n) (lineIn (word ws (i * 9 + 645)) (word ws (i * 9 + 646))) (lineIn (word ws (i * 9 + 647)) (word ws (i * 9 + 648)))
+      (lineIn (word ws (i * 9 + 649)) (word ws (i * 9 + 650))) (lineIn (word ws (i * 9 + 651)) (word ws (i * 9 + 652)))))
 
 -- ---- a loop that looks for a set up to n
 module _ (p : ℕ → Bool) (i n : ℕ) (w : Bool) (e : someFrom p i (n - i) ≡ w) where

@@ -1,5 +1,5 @@
 -- Laws of the definitions, which callers cite in place of their text: choices and tests, parts of a memory and bytes
--- stored in it, numbers due, MAR bits, the order of use, the way that is chosen, mode 0, the lines that a block
+-- stored in it, numbers due, MAR bits, the order of use, the way that is chosen, counts, mode 0, the lines that a block
 -- touches, replies. No definition of paper 01 stands here.
 use Prim.Native.Nat.{ℕ, zero, suc, _<_, _≤_, _%_, _/_, _+_, _*_, _-_}
 use mathlib.Core.Bool.{Bool, true, false, cond, _&&_}
@@ -11,12 +11,12 @@ use native.Mathlib.Nat.{add-sub-of-le, eq-of-mul-eq-mul-right, mul-le-mul-right,
 use lib.ListN.{length, getD, take, drop, length-append, length-take, length-drop, take-append-drop, List·getD-append, length-map}
 use lib.Seq.{getD-take, getD-drop, getD-append-add, length-take-le}
 use lib.Dec.{ltb, leb, eqb}
-use borrow.Author.Tests.{ltb-true, ltb-false, leb-true, le-leb, lt-leb, eqb-true, eqb-false, eq-eqb, ne-eqb}
+use borrow.Author.Tests.{ltb-true, ltb-false, lt-ltb, le-ltb, leb-true, le-leb, lt-leb, eqb-true, eqb-false, eq-eqb, ne-eqb}
 use Rattle.model.specs.Basics.{each}
 use Rattle.model.specs.Bytes.{splice, part, stored, littleBytes}
 use Rattle.model.specs.Memories.{externalBase, cacheSize, isMode}
 use Rattle.model.specs.Lines.{Permutation2, Permutation4, inFront, without, used2, used4, l1dGet, l2Get}
-use Rattle.model.specs.Records.{State, l2SetsOf, mode0, covers, marBit}
+use Rattle.model.specs.Records.{State, l2SetsOf, mode0, covers, marBit, counted}
 use Rattle.model.specs.Ways.{lowestInvalid, l1dVictim, l2Victim}
 use Rattle.model.specs.Modes.{smaller}
 use Rattle.model.specs.Refusals.{lowestDue, unless, lentDue}
@@ -238,6 +238,25 @@ l1d-victim v p = let h = p .below2 in let e : v .order .second % 2 ≡ v .order 
 pub l2-victim : (v : L2Set) → Permutation4 (v .order) → l2Victim v ≡ lowestInvalid (l2Get v) 4 0 (v .order .fourth)
 unfolding l2Victim
 l2-victim v p = let h = p .below4 in let e : v .order .fourth % 4 ≡ v .order .fourth = omega arith in rw e refl
+
+-- ---- the count of dirty lines by cases: a line that stays dirty or clean, one that becomes clean, one that becomes
+-- dirty
+module _ (most n : ℕ) (d e : Bool) where
+  pub counted-same : d ≡ e → counted most d e n ≡ n
+  unfolding counted
+  counted-same q = rw q (bool e (λ t. rw t refl) (λ t. rw t refl))
+
+  pub counted-less : d ≡ true → e ≡ false → counted most d e n ≡ n - 1
+  unfolding counted
+  counted-less q r = rw (q, r) refl
+
+  pub counted-more : d ≡ false → e ≡ true → n < most → counted most d e n ≡ n + 1
+  unfolding counted
+  counted-more q r h = rw (q, r, lt-ltb n most h) refl
+
+  pub counted-full : d ≡ false → e ≡ true → most ≤ n → counted most d e n ≡ n
+  unfolding counted
+  counted-full q r h = rw (q, r, le-ltb n most h) refl
 
 -- ---- L2 has no sets in mode 0, and some in every other
 mode0-of : (m : ℕ) → cond (isMode m) (eqb m 0) true ≡ eqb (cacheSize m / 512) 0

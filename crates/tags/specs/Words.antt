@@ -1,5 +1,5 @@
--- The record that lent words stand for: L, E, then mode, MAR bits and freeze in one word; five words for a set of L1D, nine
--- for a set of L2. Every law about single words ends here: what stands above speaks of `recordIn` and the definitions
+-- The record that lent words stand for: L, E, then mode, MAR bits and freeze in one word, the counts of dirty lines in
+-- L1D and in L2; five words for a set of L1D, nine for a set of L2. Every law about single words ends here: what stands above speaks of `recordIn` and the definitions
 -- of crate model alone.
 use Prim.Native.Nat.{ℕ, zero, suc, _+_, _*_, _/_, _%_, _≤_, _<_}
 use mathlib.Core.Bool.{Bool, true, false, cond, _&&_, _||_}
@@ -13,7 +13,7 @@ use lib.ListN.{length, getD, set, length-set}
 use lib.Seq.{getD-set-same, getD-set-other}
 use lib.Dec.{eqb, ltb}
 use Rattle.model.specs.Lines.{l1dPut, l2Put, l1dUse, l2Use, l1dGet, l2Get, used2, used4}
-use Rattle.model.specs.Records.{State, state, noL1dSet, noL2Set, l1dSetAt, l2SetAt, withL1dSet, withL2Set, withL1dLine, withL2Line}
+use Rattle.model.specs.Records.{State, state, noL1dSet, noL2Set, l1dSetAt, l2SetAt, l1dLineAt, l2LineAt, withL1dSet, withL2Set, withCounts, l1dLines, l2Lines, counted, withL1dLine, withL2Line}
 use Rattle.model.specs.declared.Line.{Line}
 use Rattle.model.specs.declared.Order2.{Order2}
 use Rattle.model.specs.declared.Order4.{Order4}
@@ -23,9 +23,9 @@ use Rattle.model.specs.declared.Record.{Record}
 use Rattle.lists.specs.Listed.{listed, listed-get, listed-same, listed-few, listed-set}
 
 -- ---- words
--- how many words a record has: three at the head, five for each of 128 sets, nine for each of 512
+-- how many words a record has: five at the head, five for each of 128 sets, nine for each of 512
 abbrev pub recordWords : ℕ
-recordWords = 5251
+recordWords = 5253
 
 abbrev pub word : List ℕ → ℕ → ℕ
 word ws p = getD ws p 0
@@ -44,16 +44,16 @@ order4In o = record { first = o % 256; second = o / 256 % 256; third = o / 65536
 unfoldable pub l1dIn : List ℕ → ℕ → L1dSet
 l1dIn ws i =
     record {
-      lines = lineIn (word ws (i * 5 + 3)) (word ws (i * 5 + 4)) ∷ lineIn (word ws (i * 5 + 5)) (word ws (i * 5 + 6)) ∷ [];
-      order = order2In (word ws (i * 5 + 7));
+      lines = lineIn (word ws (i * 5 + 5)) (word ws (i * 5 + 6)) ∷ lineIn (word ws (i * 5 + 7)) (word ws (i * 5 + 8)) ∷ [];
+      order = order2In (word ws (i * 5 + 9));
     }
 
 unfoldable pub l2In : List ℕ → ℕ → L2Set
 l2In ws j =
     record {
-      lines = lineIn (word ws (j * 9 + 643)) (word ws (j * 9 + 644)) ∷ lineIn (word ws (j * 9 + 645)) (word ws (j * 9 + 646))
-          ∷ lineIn (word ws (j * 9 + 647)) (word ws (j * 9 + 648)) ∷ lineIn (word ws (j * 9 + 649)) (word ws (j * 9 + 650)) ∷ [];
-      order = order4In (word ws (j * 9 + 651));
+      lines = lineIn (word ws (j * 9 + 645)) (word ws (j * 9 + 646)) ∷ lineIn (word ws (j * 9 + 647)) (word ws (j * 9 + 648))
+          ∷ lineIn (word ws (j * 9 + 649)) (word ws (j * 9 + 650)) ∷ lineIn (word ws (j * 9 + 651)) (word ws (j * 9 + 652)) ∷ [];
+      order = order4In (word ws (j * 9 + 653));
     }
 
 -- The mode, in the word that has the MAR bits and the freeze too. Where a byte of these is no bool it is read as 4,
@@ -73,6 +73,8 @@ recordIn ws =
       mar128 = eqb (word ws 2 / 256 % 2) 1;
       mar129 = eqb (word ws 2 / 65536 % 2) 1;
       frozen = eqb (word ws 2 / 16777216 % 2) 1;
+      «dirty_l1d» = word ws 3;
+      «dirty_l2» = word ws 4;
       l1d = listed (l1dIn ws) 0 128;
       l2 = listed (l2In ws) 0 512;
     }
@@ -95,32 +97,33 @@ pub record Only (ws vs : List ℕ) (p q : ℕ) : Type 0 where
   pub low : (n : ℕ) → n < p → word vs n ≡ word ws n
   pub high : (n : ℕ) → q ≤ n → word vs n ≡ word ws n
 
-pub same-l1d : (ws vs : List ℕ) (j : ℕ) → ((n : ℕ) → j * 5 + 3 ≤ n → n < j * 5 + 8 → word vs n ≡ word ws n) → l1dIn vs j ≡ l1dIn ws j
+pub same-l1d : (ws vs : List ℕ) (j : ℕ) → ((n : ℕ) → j * 5 + 5 ≤ n → n < j * 5 + 10 → word vs n ≡ word ws n) → l1dIn vs j ≡ l1dIn ws j
 unfolding l1dIn
 same-l1d ws vs j h =
-    let a = h (j * 5 + 3) (omega arith) (omega arith) in let b = h (j * 5 + 4) (omega arith) (omega arith) in
-    let c = h (j * 5 + 5) (omega arith) (omega arith) in let d = h (j * 5 + 6) (omega arith) (omega arith) in
-    let e = h (j * 5 + 7) (omega arith) (omega arith) in
+    let a = h (j * 5 + 5) (omega arith) (omega arith) in let b = h (j * 5 + 6) (omega arith) (omega arith) in
+    let c = h (j * 5 + 7) (omega arith) (omega arith) in let d = h (j * 5 + 8) (omega arith) (omega arith) in
+    let e = h (j * 5 + 9) (omega arith) (omega arith) in
     λ t. record { lines = lineIn (a t) (b t) ∷ lineIn (c t) (d t) ∷ []; order = order2In (e t) }
 
-pub same-l2 : (ws vs : List ℕ) (j : ℕ) → ((n : ℕ) → j * 9 + 643 ≤ n → n < j * 9 + 652 → word vs n ≡ word ws n) → l2In vs j ≡ l2In ws j
+pub same-l2 : (ws vs : List ℕ) (j : ℕ) → ((n : ℕ) → j * 9 + 645 ≤ n → n < j * 9 + 654 → word vs n ≡ word ws n) → l2In vs j ≡ l2In ws j
 unfolding l2In
 same-l2 ws vs j h =
-    let a = h (j * 9 + 643) (omega arith) (omega arith) in let b = h (j * 9 + 644) (omega arith) (omega arith) in
-    let c = h (j * 9 + 645) (omega arith) (omega arith) in let d = h (j * 9 + 646) (omega arith) (omega arith) in
-    let e = h (j * 9 + 647) (omega arith) (omega arith) in let f = h (j * 9 + 648) (omega arith) (omega arith) in
-    let g = h (j * 9 + 649) (omega arith) (omega arith) in let k = h (j * 9 + 650) (omega arith) (omega arith) in
-    let o = h (j * 9 + 651) (omega arith) (omega arith) in
+    let a = h (j * 9 + 645) (omega arith) (omega arith) in let b = h (j * 9 + 646) (omega arith) (omega arith) in
+    let c = h (j * 9 + 647) (omega arith) (omega arith) in let d = h (j * 9 + 648) (omega arith) (omega arith) in
+    let e = h (j * 9 + 649) (omega arith) (omega arith) in let f = h (j * 9 + 650) (omega arith) (omega arith) in
+    let g = h (j * 9 + 651) (omega arith) (omega arith) in let k = h (j * 9 + 652) (omega arith) (omega arith) in
+    let o = h (j * 9 + 653) (omega arith) (omega arith) in
     λ t. record {
       lines = lineIn (a t) (b t) ∷ lineIn (c t) (d t) ∷ lineIn (e t) (f t) ∷ lineIn (g t) (k t) ∷ [];
       order = order4In (o t);
     }
 
 -- the words of one set are others: that set of the record is another
-pub one-l1d : (ws vs : List ℕ) (i : ℕ) → i < 128 → Only ws vs (i * 5 + 3) (i * 5 + 8) → recordIn vs ≡ withL1dSet (recordIn ws) i (l1dIn vs i)
+pub one-l1d : (ws vs : List ℕ) (i : ℕ) → i < 128 → Only ws vs (i * 5 + 5) (i * 5 + 10) → recordIn vs ≡ withL1dSet (recordIn ws) i (l1dIn vs i)
 unfolding recordIn
 one-l1d ws vs i h o =
     let a = o .low 0 (omega arith) in let b = o .low 1 (omega arith) in let c = o .low 2 (omega arith) in
+    let m = o .low 3 (omega arith) in let n = o .low 4 (omega arith) in
     let other : (j : ℕ) → j ≢ 0 + i → l1dIn vs j ≡ l1dIn ws j = λ j n. same-l1d ws vs j (λ m p q. apart j n m p q) in
     let z : 0 + i ≡ i = omega arith in
     let d = listed-set (l1dIn ws) (l1dIn vs) 0 128 i h other ∙ ap (λ (x : ℕ). set (listed (l1dIn ws) 0 128) i (l1dIn vs x)) z in
@@ -132,19 +135,22 @@ one-l1d ws vs i h o =
       mar128 = eqb (c t / 256 % 2) 1;
       mar129 = eqb (c t / 65536 % 2) 1;
       frozen = eqb (c t / 16777216 % 2) 1;
+      «dirty_l1d» = m t;
+      «dirty_l2» = n t;
       l1d = d t;
       l2 = e t;
     }
   where
-    apart : (j : ℕ) → j ≢ 0 + i → (m : ℕ) → j * 5 + 3 ≤ m → m < j * 5 + 8 → word vs m ≡ word ws m
+    apart : (j : ℕ) → j ≢ 0 + i → (m : ℕ) → j * 5 + 5 ≤ m → m < j * 5 + 10 → word vs m ≡ word ws m
     apart j n m p q =
-        bool (ltb m (i * 5 + 3)) (λ t. o .low m (ltb-true m (i * 5 + 3) t))
-        (λ t. let l = ltb-false m (i * 5 + 3) t in let w : i ≢ j = λ x. n (sym x ∙ omega arith) in o .high m (omega arith))
+        bool (ltb m (i * 5 + 5)) (λ t. o .low m (ltb-true m (i * 5 + 5) t))
+        (λ t. let l = ltb-false m (i * 5 + 5) t in let w : i ≢ j = λ x. n (sym x ∙ omega arith) in o .high m (omega arith))
 
-pub one-l2 : (ws vs : List ℕ) (i : ℕ) → i < 512 → Only ws vs (i * 9 + 643) (i * 9 + 652) → recordIn vs ≡ withL2Set (recordIn ws) i (l2In vs i)
+pub one-l2 : (ws vs : List ℕ) (i : ℕ) → i < 512 → Only ws vs (i * 9 + 645) (i * 9 + 654) → recordIn vs ≡ withL2Set (recordIn ws) i (l2In vs i)
 unfolding recordIn
 one-l2 ws vs i h o =
     let a = o .low 0 (omega arith) in let b = o .low 1 (omega arith) in let c = o .low 2 (omega arith) in
+    let m = o .low 3 (omega arith) in let n = o .low 4 (omega arith) in
     let other : (j : ℕ) → j ≢ 0 + i → l2In vs j ≡ l2In ws j = λ j n. same-l2 ws vs j (λ m p q. apart j n m p q) in
     let z : 0 + i ≡ i = omega arith in
     let d = listed-set (l2In ws) (l2In vs) 0 512 i h other ∙ ap (λ (x : ℕ). set (listed (l2In ws) 0 512) i (l2In vs x)) z in
@@ -156,14 +162,16 @@ one-l2 ws vs i h o =
       mar128 = eqb (c t / 256 % 2) 1;
       mar129 = eqb (c t / 65536 % 2) 1;
       frozen = eqb (c t / 16777216 % 2) 1;
+      «dirty_l1d» = m t;
+      «dirty_l2» = n t;
       l1d = e t;
       l2 = d t;
     }
   where
-    apart : (j : ℕ) → j ≢ 0 + i → (m : ℕ) → j * 9 + 643 ≤ m → m < j * 9 + 652 → word vs m ≡ word ws m
+    apart : (j : ℕ) → j ≢ 0 + i → (m : ℕ) → j * 9 + 645 ≤ m → m < j * 9 + 654 → word vs m ≡ word ws m
     apart j n m p q =
-        bool (ltb m (i * 9 + 643)) (λ t. o .low m (ltb-true m (i * 9 + 643) t))
-        (λ t. let l = ltb-false m (i * 9 + 643) t in let w : i ≢ j = λ x. n (sym x ∙ omega arith) in o .high m (omega arith))
+        bool (ltb m (i * 9 + 645)) (λ t. o .low m (ltb-true m (i * 9 + 645) t))
+        (λ t. let l = ltb-false m (i * 9 + 645) t in let w : i ≢ j = λ x. n (sym x ∙ omega arith) in o .high m (omega arith))
 
 -- ---- one line
 two-ways {ℓ} : (P : ℕ → Type ℓ) → P 0 → P 1 → (w : ℕ) → w < 2 → P w
@@ -180,27 +188,27 @@ four-ways P a b c d (suc (suc (suc (suc w)))) h = absurd (omega arith)
 
 -- where its two words are
 abbrev pub l1dPlaceOf : ℕ → ℕ → ℕ
-l1dPlaceOf i w = i * 5 + w * 2 + 3
+l1dPlaceOf i w = i * 5 + w * 2 + 5
 
 abbrev pub l2PlaceOf : ℕ → ℕ → ℕ
-l2PlaceOf j v = j * 9 + v * 2 + 643
+l2PlaceOf j v = j * 9 + v * 2 + 645
 
 pub l1d-line-in : (ws : List ℕ) (i w : ℕ) → w < 2 → lineIn (word ws (l1dPlaceOf i w)) (word ws (l1dPlaceOf i w + 1)) ≡ l1dGet (l1dIn ws i) w
 unfolding l1dIn
 l1d-line-in ws i w h =
     two-ways (λ (w : ℕ). lineIn (word ws (l1dPlaceOf i w)) (word ws (l1dPlaceOf i w + 1)) ≡ l1dGet (l1dIn ws i) w)
-    (let a : i * 5 + 0 * 2 + 3 ≡ i * 5 + 3 = omega arith in let b : i * 5 + 0 * 2 + 3 + 1 ≡ i * 5 + 4 = omega arith in λ t. lineIn (word ws (a t)) (word ws (b t)))
-    (let a : i * 5 + 1 * 2 + 3 ≡ i * 5 + 5 = omega arith in let b : i * 5 + 1 * 2 + 3 + 1 ≡ i * 5 + 6 = omega arith in λ t. lineIn (word ws (a t)) (word ws (b t)))
+    (let a : i * 5 + 0 * 2 + 5 ≡ i * 5 + 5 = omega arith in let b : i * 5 + 0 * 2 + 5 + 1 ≡ i * 5 + 6 = omega arith in λ t. lineIn (word ws (a t)) (word ws (b t)))
+    (let a : i * 5 + 1 * 2 + 5 ≡ i * 5 + 7 = omega arith in let b : i * 5 + 1 * 2 + 5 + 1 ≡ i * 5 + 8 = omega arith in λ t. lineIn (word ws (a t)) (word ws (b t)))
     w h
 
 pub l2-line-in : (ws : List ℕ) (j v : ℕ) → v < 4 → lineIn (word ws (l2PlaceOf j v)) (word ws (l2PlaceOf j v + 1)) ≡ l2Get (l2In ws j) v
 unfolding l2In
 l2-line-in ws j v h =
     four-ways (λ (v : ℕ). lineIn (word ws (l2PlaceOf j v)) (word ws (l2PlaceOf j v + 1)) ≡ l2Get (l2In ws j) v)
-    (let a : j * 9 + 0 * 2 + 643 ≡ j * 9 + 643 = omega arith in let b : j * 9 + 0 * 2 + 643 + 1 ≡ j * 9 + 644 = omega arith in λ t. lineIn (word ws (a t)) (word ws (b t)))
-    (let a : j * 9 + 1 * 2 + 643 ≡ j * 9 + 645 = omega arith in let b : j * 9 + 1 * 2 + 643 + 1 ≡ j * 9 + 646 = omega arith in λ t. lineIn (word ws (a t)) (word ws (b t)))
-    (let a : j * 9 + 2 * 2 + 643 ≡ j * 9 + 647 = omega arith in let b : j * 9 + 2 * 2 + 643 + 1 ≡ j * 9 + 648 = omega arith in λ t. lineIn (word ws (a t)) (word ws (b t)))
-    (let a : j * 9 + 3 * 2 + 643 ≡ j * 9 + 649 = omega arith in let b : j * 9 + 3 * 2 + 643 + 1 ≡ j * 9 + 650 = omega arith in λ t. lineIn (word ws (a t)) (word ws (b t)))
+    (let a : j * 9 + 0 * 2 + 645 ≡ j * 9 + 645 = omega arith in let b : j * 9 + 0 * 2 + 645 + 1 ≡ j * 9 + 646 = omega arith in λ t. lineIn (word ws (a t)) (word ws (b t)))
+    (let a : j * 9 + 1 * 2 + 645 ≡ j * 9 + 647 = omega arith in let b : j * 9 + 1 * 2 + 645 + 1 ≡ j * 9 + 648 = omega arith in λ t. lineIn (word ws (a t)) (word ws (b t)))
+    (let a : j * 9 + 2 * 2 + 645 ≡ j * 9 + 649 = omega arith in let b : j * 9 + 2 * 2 + 645 + 1 ≡ j * 9 + 650 = omega arith in λ t. lineIn (word ws (a t)) (word ws (b t)))
+    (let a : j * 9 + 3 * 2 + 645 ≡ j * 9 + 651 = omega arith in let b : j * 9 + 3 * 2 + 645 + 1 ≡ j * 9 + 652 = omega arith in λ t. lineIn (word ws (a t)) (word ws (b t)))
     v h
 
 pub l1d-line-at : (ws : List ℕ) (i w : ℕ) → i < 128 → w < 2 →
@@ -227,17 +235,17 @@ put-l1d-in : (ws : List ℕ) (i w f a : ℕ) → length ws ≡ recordWords → i
 unfolding l1dIn l1dPut
 put-l1d-in ws i w f a n h k =
     two-ways (λ (w : ℕ). l1dIn (set (set ws (l1dPlaceOf i w) f) (l1dPlaceOf i w + 1) a) i ≡ l1dPut (l1dIn ws i) w (lineIn f a))
-    (let e3 : word (set (set ws (i * 5 + 0 * 2 + 3) f) (i * 5 + 0 * 2 + 3 + 1) a) (i * 5 + 3) ≡ f = (let x : i * 5 + 3 ≡ i * 5 + 0 * 2 + 3 = omega arith in ap (word (set (set ws (i * 5 + 0 * 2 + 3) f) (i * 5 + 0 * 2 + 3 + 1) a)) x) ∙ first-set ws (i * 5 + 0 * 2 + 3) f a (omega arith) in
-    let e4 : word (set (set ws (i * 5 + 0 * 2 + 3) f) (i * 5 + 0 * 2 + 3 + 1) a) (i * 5 + 4) ≡ a = (let x : i * 5 + 4 ≡ i * 5 + 0 * 2 + 3 + 1 = omega arith in ap (word (set (set ws (i * 5 + 0 * 2 + 3) f) (i * 5 + 0 * 2 + 3 + 1) a)) x) ∙ second-set ws (i * 5 + 0 * 2 + 3) f a (omega arith) in
-    let e5 = two-set ws (i * 5 + 0 * 2 + 3) f a (i * 5 + 5) (omega arith) (omega arith) in
-    let e6 = two-set ws (i * 5 + 0 * 2 + 3) f a (i * 5 + 6) (omega arith) (omega arith) in
-    let e7 = two-set ws (i * 5 + 0 * 2 + 3) f a (i * 5 + 7) (omega arith) (omega arith) in
+    (let e3 : word (set (set ws (i * 5 + 0 * 2 + 5) f) (i * 5 + 0 * 2 + 5 + 1) a) (i * 5 + 5) ≡ f = (let x : i * 5 + 5 ≡ i * 5 + 0 * 2 + 5 = omega arith in ap (word (set (set ws (i * 5 + 0 * 2 + 5) f) (i * 5 + 0 * 2 + 5 + 1) a)) x) ∙ first-set ws (i * 5 + 0 * 2 + 5) f a (omega arith) in
+    let e4 : word (set (set ws (i * 5 + 0 * 2 + 5) f) (i * 5 + 0 * 2 + 5 + 1) a) (i * 5 + 6) ≡ a = (let x : i * 5 + 6 ≡ i * 5 + 0 * 2 + 5 + 1 = omega arith in ap (word (set (set ws (i * 5 + 0 * 2 + 5) f) (i * 5 + 0 * 2 + 5 + 1) a)) x) ∙ second-set ws (i * 5 + 0 * 2 + 5) f a (omega arith) in
+    let e5 = two-set ws (i * 5 + 0 * 2 + 5) f a (i * 5 + 7) (omega arith) (omega arith) in
+    let e6 = two-set ws (i * 5 + 0 * 2 + 5) f a (i * 5 + 8) (omega arith) (omega arith) in
+    let e7 = two-set ws (i * 5 + 0 * 2 + 5) f a (i * 5 + 9) (omega arith) (omega arith) in
     λ t. record { lines = lineIn (e3 t) (e4 t) ∷ lineIn (e5 t) (e6 t) ∷ []; order = order2In (e7 t) })
-    (let e3 = two-set ws (i * 5 + 1 * 2 + 3) f a (i * 5 + 3) (omega arith) (omega arith) in
-    let e4 = two-set ws (i * 5 + 1 * 2 + 3) f a (i * 5 + 4) (omega arith) (omega arith) in
-    let e5 : word (set (set ws (i * 5 + 1 * 2 + 3) f) (i * 5 + 1 * 2 + 3 + 1) a) (i * 5 + 5) ≡ f = (let x : i * 5 + 5 ≡ i * 5 + 1 * 2 + 3 = omega arith in ap (word (set (set ws (i * 5 + 1 * 2 + 3) f) (i * 5 + 1 * 2 + 3 + 1) a)) x) ∙ first-set ws (i * 5 + 1 * 2 + 3) f a (omega arith) in
-    let e6 : word (set (set ws (i * 5 + 1 * 2 + 3) f) (i * 5 + 1 * 2 + 3 + 1) a) (i * 5 + 6) ≡ a = (let x : i * 5 + 6 ≡ i * 5 + 1 * 2 + 3 + 1 = omega arith in ap (word (set (set ws (i * 5 + 1 * 2 + 3) f) (i * 5 + 1 * 2 + 3 + 1) a)) x) ∙ second-set ws (i * 5 + 1 * 2 + 3) f a (omega arith) in
-    let e7 = two-set ws (i * 5 + 1 * 2 + 3) f a (i * 5 + 7) (omega arith) (omega arith) in
+    (let e3 = two-set ws (i * 5 + 1 * 2 + 5) f a (i * 5 + 5) (omega arith) (omega arith) in
+    let e4 = two-set ws (i * 5 + 1 * 2 + 5) f a (i * 5 + 6) (omega arith) (omega arith) in
+    let e5 : word (set (set ws (i * 5 + 1 * 2 + 5) f) (i * 5 + 1 * 2 + 5 + 1) a) (i * 5 + 7) ≡ f = (let x : i * 5 + 7 ≡ i * 5 + 1 * 2 + 5 = omega arith in ap (word (set (set ws (i * 5 + 1 * 2 + 5) f) (i * 5 + 1 * 2 + 5 + 1) a)) x) ∙ first-set ws (i * 5 + 1 * 2 + 5) f a (omega arith) in
+    let e6 : word (set (set ws (i * 5 + 1 * 2 + 5) f) (i * 5 + 1 * 2 + 5 + 1) a) (i * 5 + 8) ≡ a = (let x : i * 5 + 8 ≡ i * 5 + 1 * 2 + 5 + 1 = omega arith in ap (word (set (set ws (i * 5 + 1 * 2 + 5) f) (i * 5 + 1 * 2 + 5 + 1) a)) x) ∙ second-set ws (i * 5 + 1 * 2 + 5) f a (omega arith) in
+    let e7 = two-set ws (i * 5 + 1 * 2 + 5) f a (i * 5 + 9) (omega arith) (omega arith) in
     λ t. record { lines = lineIn (e3 t) (e4 t) ∷ lineIn (e5 t) (e6 t) ∷ []; order = order2In (e7 t) })
     w k
 
@@ -246,52 +254,52 @@ put-l2-in : (ws : List ℕ) (j v f a : ℕ) → length ws ≡ recordWords → j 
 unfolding l2In l2Put
 put-l2-in ws j v f a n h k =
     four-ways (λ (v : ℕ). l2In (set (set ws (l2PlaceOf j v) f) (l2PlaceOf j v + 1) a) j ≡ l2Put (l2In ws j) v (lineIn f a))
-    (let e0 : word (set (set ws (j * 9 + 0 * 2 + 643) f) (j * 9 + 0 * 2 + 643 + 1) a) (j * 9 + 643) ≡ f = (let x : j * 9 + 643 ≡ j * 9 + 0 * 2 + 643 = omega arith in ap (word (set (set ws (j * 9 + 0 * 2 + 643) f) (j * 9 + 0 * 2 + 643 + 1) a)) x) ∙ first-set ws (j * 9 + 0 * 2 + 643) f a (omega arith) in
-    let e1 : word (set (set ws (j * 9 + 0 * 2 + 643) f) (j * 9 + 0 * 2 + 643 + 1) a) (j * 9 + 644) ≡ a = (let x : j * 9 + 644 ≡ j * 9 + 0 * 2 + 643 + 1 = omega arith in ap (word (set (set ws (j * 9 + 0 * 2 + 643) f) (j * 9 + 0 * 2 + 643 + 1) a)) x) ∙ second-set ws (j * 9 + 0 * 2 + 643) f a (omega arith) in
-    let e2 = two-set ws (j * 9 + 0 * 2 + 643) f a (j * 9 + 645) (omega arith) (omega arith) in
-    let e3 = two-set ws (j * 9 + 0 * 2 + 643) f a (j * 9 + 646) (omega arith) (omega arith) in
-    let e4 = two-set ws (j * 9 + 0 * 2 + 643) f a (j * 9 + 647) (omega arith) (omega arith) in
-    let e5 = two-set ws (j * 9 + 0 * 2 + 643) f a (j * 9 + 648) (omega arith) (omega arith) in
-    let e6 = two-set ws (j * 9 + 0 * 2 + 643) f a (j * 9 + 649) (omega arith) (omega arith) in
-    let e7 = two-set ws (j * 9 + 0 * 2 + 643) f a (j * 9 + 650) (omega arith) (omega arith) in
-    let e8 = two-set ws (j * 9 + 0 * 2 + 643) f a (j * 9 + 651) (omega arith) (omega arith) in
+    (let e0 : word (set (set ws (j * 9 + 0 * 2 + 645) f) (j * 9 + 0 * 2 + 645 + 1) a) (j * 9 + 645) ≡ f = (let x : j * 9 + 645 ≡ j * 9 + 0 * 2 + 645 = omega arith in ap (word (set (set ws (j * 9 + 0 * 2 + 645) f) (j * 9 + 0 * 2 + 645 + 1) a)) x) ∙ first-set ws (j * 9 + 0 * 2 + 645) f a (omega arith) in
+    let e1 : word (set (set ws (j * 9 + 0 * 2 + 645) f) (j * 9 + 0 * 2 + 645 + 1) a) (j * 9 + 646) ≡ a = (let x : j * 9 + 646 ≡ j * 9 + 0 * 2 + 645 + 1 = omega arith in ap (word (set (set ws (j * 9 + 0 * 2 + 645) f) (j * 9 + 0 * 2 + 645 + 1) a)) x) ∙ second-set ws (j * 9 + 0 * 2 + 645) f a (omega arith) in
+    let e2 = two-set ws (j * 9 + 0 * 2 + 645) f a (j * 9 + 647) (omega arith) (omega arith) in
+    let e3 = two-set ws (j * 9 + 0 * 2 + 645) f a (j * 9 + 648) (omega arith) (omega arith) in
+    let e4 = two-set ws (j * 9 + 0 * 2 + 645) f a (j * 9 + 649) (omega arith) (omega arith) in
+    let e5 = two-set ws (j * 9 + 0 * 2 + 645) f a (j * 9 + 650) (omega arith) (omega arith) in
+    let e6 = two-set ws (j * 9 + 0 * 2 + 645) f a (j * 9 + 651) (omega arith) (omega arith) in
+    let e7 = two-set ws (j * 9 + 0 * 2 + 645) f a (j * 9 + 652) (omega arith) (omega arith) in
+    let e8 = two-set ws (j * 9 + 0 * 2 + 645) f a (j * 9 + 653) (omega arith) (omega arith) in
     λ t. record { lines = lineIn (e0 t) (e1 t) ∷ lineIn (e2 t) (e3 t) ∷ lineIn (e4 t) (e5 t) ∷ lineIn (e6 t) (e7 t) ∷ []; order = order4In (e8 t) })
-    (let e0 = two-set ws (j * 9 + 1 * 2 + 643) f a (j * 9 + 643) (omega arith) (omega arith) in
-    let e1 = two-set ws (j * 9 + 1 * 2 + 643) f a (j * 9 + 644) (omega arith) (omega arith) in
-    let e2 : word (set (set ws (j * 9 + 1 * 2 + 643) f) (j * 9 + 1 * 2 + 643 + 1) a) (j * 9 + 645) ≡ f = (let x : j * 9 + 645 ≡ j * 9 + 1 * 2 + 643 = omega arith in ap (word (set (set ws (j * 9 + 1 * 2 + 643) f) (j * 9 + 1 * 2 + 643 + 1) a)) x) ∙ first-set ws (j * 9 + 1 * 2 + 643) f a (omega arith) in
-    let e3 : word (set (set ws (j * 9 + 1 * 2 + 643) f) (j * 9 + 1 * 2 + 643 + 1) a) (j * 9 + 646) ≡ a = (let x : j * 9 + 646 ≡ j * 9 + 1 * 2 + 643 + 1 = omega arith in ap (word (set (set ws (j * 9 + 1 * 2 + 643) f) (j * 9 + 1 * 2 + 643 + 1) a)) x) ∙ second-set ws (j * 9 + 1 * 2 + 643) f a (omega arith) in
-    let e4 = two-set ws (j * 9 + 1 * 2 + 643) f a (j * 9 + 647) (omega arith) (omega arith) in
-    let e5 = two-set ws (j * 9 + 1 * 2 + 643) f a (j * 9 + 648) (omega arith) (omega arith) in
-    let e6 = two-set ws (j * 9 + 1 * 2 + 643) f a (j * 9 + 649) (omega arith) (omega arith) in
-    let e7 = two-set ws (j * 9 + 1 * 2 + 643) f a (j * 9 + 650) (omega arith) (omega arith) in
-    let e8 = two-set ws (j * 9 + 1 * 2 + 643) f a (j * 9 + 651) (omega arith) (omega arith) in
+    (let e0 = two-set ws (j * 9 + 1 * 2 + 645) f a (j * 9 + 645) (omega arith) (omega arith) in
+    let e1 = two-set ws (j * 9 + 1 * 2 + 645) f a (j * 9 + 646) (omega arith) (omega arith) in
+    let e2 : word (set (set ws (j * 9 + 1 * 2 + 645) f) (j * 9 + 1 * 2 + 645 + 1) a) (j * 9 + 647) ≡ f = (let x : j * 9 + 647 ≡ j * 9 + 1 * 2 + 645 = omega arith in ap (word (set (set ws (j * 9 + 1 * 2 + 645) f) (j * 9 + 1 * 2 + 645 + 1) a)) x) ∙ first-set ws (j * 9 + 1 * 2 + 645) f a (omega arith) in
+    let e3 : word (set (set ws (j * 9 + 1 * 2 + 645) f) (j * 9 + 1 * 2 + 645 + 1) a) (j * 9 + 648) ≡ a = (let x : j * 9 + 648 ≡ j * 9 + 1 * 2 + 645 + 1 = omega arith in ap (word (set (set ws (j * 9 + 1 * 2 + 645) f) (j * 9 + 1 * 2 + 645 + 1) a)) x) ∙ second-set ws (j * 9 + 1 * 2 + 645) f a (omega arith) in
+    let e4 = two-set ws (j * 9 + 1 * 2 + 645) f a (j * 9 + 649) (omega arith) (omega arith) in
+    let e5 = two-set ws (j * 9 + 1 * 2 + 645) f a (j * 9 + 650) (omega arith) (omega arith) in
+    let e6 = two-set ws (j * 9 + 1 * 2 + 645) f a (j * 9 + 651) (omega arith) (omega arith) in
+    let e7 = two-set ws (j * 9 + 1 * 2 + 645) f a (j * 9 + 652) (omega arith) (omega arith) in
+    let e8 = two-set ws (j * 9 + 1 * 2 + 645) f a (j * 9 + 653) (omega arith) (omega arith) in
     λ t. record { lines = lineIn (e0 t) (e1 t) ∷ lineIn (e2 t) (e3 t) ∷ lineIn (e4 t) (e5 t) ∷ lineIn (e6 t) (e7 t) ∷ []; order = order4In (e8 t) })
-    (let e0 = two-set ws (j * 9 + 2 * 2 + 643) f a (j * 9 + 643) (omega arith) (omega arith) in
-    let e1 = two-set ws (j * 9 + 2 * 2 + 643) f a (j * 9 + 644) (omega arith) (omega arith) in
-    let e2 = two-set ws (j * 9 + 2 * 2 + 643) f a (j * 9 + 645) (omega arith) (omega arith) in
-    let e3 = two-set ws (j * 9 + 2 * 2 + 643) f a (j * 9 + 646) (omega arith) (omega arith) in
-    let e4 : word (set (set ws (j * 9 + 2 * 2 + 643) f) (j * 9 + 2 * 2 + 643 + 1) a) (j * 9 + 647) ≡ f = (let x : j * 9 + 647 ≡ j * 9 + 2 * 2 + 643 = omega arith in ap (word (set (set ws (j * 9 + 2 * 2 + 643) f) (j * 9 + 2 * 2 + 643 + 1) a)) x) ∙ first-set ws (j * 9 + 2 * 2 + 643) f a (omega arith) in
-    let e5 : word (set (set ws (j * 9 + 2 * 2 + 643) f) (j * 9 + 2 * 2 + 643 + 1) a) (j * 9 + 648) ≡ a = (let x : j * 9 + 648 ≡ j * 9 + 2 * 2 + 643 + 1 = omega arith in ap (word (set (set ws (j * 9 + 2 * 2 + 643) f) (j * 9 + 2 * 2 + 643 + 1) a)) x) ∙ second-set ws (j * 9 + 2 * 2 + 643) f a (omega arith) in
-    let e6 = two-set ws (j * 9 + 2 * 2 + 643) f a (j * 9 + 649) (omega arith) (omega arith) in
-    let e7 = two-set ws (j * 9 + 2 * 2 + 643) f a (j * 9 + 650) (omega arith) (omega arith) in
-    let e8 = two-set ws (j * 9 + 2 * 2 + 643) f a (j * 9 + 651) (omega arith) (omega arith) in
+    (let e0 = two-set ws (j * 9 + 2 * 2 + 645) f a (j * 9 + 645) (omega arith) (omega arith) in
+    let e1 = two-set ws (j * 9 + 2 * 2 + 645) f a (j * 9 + 646) (omega arith) (omega arith) in
+    let e2 = two-set ws (j * 9 + 2 * 2 + 645) f a (j * 9 + 647) (omega arith) (omega arith) in
+    let e3 = two-set ws (j * 9 + 2 * 2 + 645) f a (j * 9 + 648) (omega arith) (omega arith) in
+    let e4 : word (set (set ws (j * 9 + 2 * 2 + 645) f) (j * 9 + 2 * 2 + 645 + 1) a) (j * 9 + 649) ≡ f = (let x : j * 9 + 649 ≡ j * 9 + 2 * 2 + 645 = omega arith in ap (word (set (set ws (j * 9 + 2 * 2 + 645) f) (j * 9 + 2 * 2 + 645 + 1) a)) x) ∙ first-set ws (j * 9 + 2 * 2 + 645) f a (omega arith) in
+    let e5 : word (set (set ws (j * 9 + 2 * 2 + 645) f) (j * 9 + 2 * 2 + 645 + 1) a) (j * 9 + 650) ≡ a = (let x : j * 9 + 650 ≡ j * 9 + 2 * 2 + 645 + 1 = omega arith in ap (word (set (set ws (j * 9 + 2 * 2 + 645) f) (j * 9 + 2 * 2 + 645 + 1) a)) x) ∙ second-set ws (j * 9 + 2 * 2 + 645) f a (omega arith) in
+    let e6 = two-set ws (j * 9 + 2 * 2 + 645) f a (j * 9 + 651) (omega arith) (omega arith) in
+    let e7 = two-set ws (j * 9 + 2 * 2 + 645) f a (j * 9 + 652) (omega arith) (omega arith) in
+    let e8 = two-set ws (j * 9 + 2 * 2 + 645) f a (j * 9 + 653) (omega arith) (omega arith) in
     λ t. record { lines = lineIn (e0 t) (e1 t) ∷ lineIn (e2 t) (e3 t) ∷ lineIn (e4 t) (e5 t) ∷ lineIn (e6 t) (e7 t) ∷ []; order = order4In (e8 t) })
-    (let e0 = two-set ws (j * 9 + 3 * 2 + 643) f a (j * 9 + 643) (omega arith) (omega arith) in
-    let e1 = two-set ws (j * 9 + 3 * 2 + 643) f a (j * 9 + 644) (omega arith) (omega arith) in
-    let e2 = two-set ws (j * 9 + 3 * 2 + 643) f a (j * 9 + 645) (omega arith) (omega arith) in
-    let e3 = two-set ws (j * 9 + 3 * 2 + 643) f a (j * 9 + 646) (omega arith) (omega arith) in
-    let e4 = two-set ws (j * 9 + 3 * 2 + 643) f a (j * 9 + 647) (omega arith) (omega arith) in
-    let e5 = two-set ws (j * 9 + 3 * 2 + 643) f a (j * 9 + 648) (omega arith) (omega arith) in
-    let e6 : word (set (set ws (j * 9 + 3 * 2 + 643) f) (j * 9 + 3 * 2 + 643 + 1) a) (j * 9 + 649) ≡ f = (let x : j * 9 + 649 ≡ j * 9 + 3 * 2 + 643 = omega arith in ap (word (set (set ws (j * 9 + 3 * 2 + 643) f) (j * 9 + 3 * 2 + 643 + 1) a)) x) ∙ first-set ws (j * 9 + 3 * 2 + 643) f a (omega arith) in
-    let e7 : word (set (set ws (j * 9 + 3 * 2 + 643) f) (j * 9 + 3 * 2 + 643 + 1) a) (j * 9 + 650) ≡ a = (let x : j * 9 + 650 ≡ j * 9 + 3 * 2 + 643 + 1 = omega arith in ap (word (set (set ws (j * 9 + 3 * 2 + 643) f) (j * 9 + 3 * 2 + 643 + 1) a)) x) ∙ second-set ws (j * 9 + 3 * 2 + 643) f a (omega arith) in
-    let e8 = two-set ws (j * 9 + 3 * 2 + 643) f a (j * 9 + 651) (omega arith) (omega arith) in
+    (let e0 = two-set ws (j * 9 + 3 * 2 + 645) f a (j * 9 + 645) (omega arith) (omega arith) in
+    let e1 = two-set ws (j * 9 + 3 * 2 + 645) f a (j * 9 + 646) (omega arith) (omega arith) in
+    let e2 = two-set ws (j * 9 + 3 * 2 + 645) f a (j * 9 + 647) (omega arith) (omega arith) in
+    let e3 = two-set ws (j * 9 + 3 * 2 + 645) f a (j * 9 + 648) (omega arith) (omega arith) in
+    let e4 = two-set ws (j * 9 + 3 * 2 + 645) f a (j * 9 + 649) (omega arith) (omega arith) in
+    let e5 = two-set ws (j * 9 + 3 * 2 + 645) f a (j * 9 + 650) (omega arith) (omega arith) in
+    let e6 : word (set (set ws (j * 9 + 3 * 2 + 645) f) (j * 9 + 3 * 2 + 645 + 1) a) (j * 9 + 651) ≡ f = (let x : j * 9 + 651 ≡ j * 9 + 3 * 2 + 645 = omega arith in ap (word (set (set ws (j * 9 + 3 * 2 + 645) f) (j * 9 + 3 * 2 + 645 + 1) a)) x) ∙ first-set ws (j * 9 + 3 * 2 + 645) f a (omega arith) in
+    let e7 : word (set (set ws (j * 9 + 3 * 2 + 645) f) (j * 9 + 3 * 2 + 645 + 1) a) (j * 9 + 652) ≡ a = (let x : j * 9 + 652 ≡ j * 9 + 3 * 2 + 645 + 1 = omega arith in ap (word (set (set ws (j * 9 + 3 * 2 + 645) f) (j * 9 + 3 * 2 + 645 + 1) a)) x) ∙ second-set ws (j * 9 + 3 * 2 + 645) f a (omega arith) in
+    let e8 = two-set ws (j * 9 + 3 * 2 + 645) f a (j * 9 + 653) (omega arith) (omega arith) in
     λ t. record { lines = lineIn (e0 t) (e1 t) ∷ lineIn (e2 t) (e3 t) ∷ lineIn (e4 t) (e5 t) ∷ lineIn (e6 t) (e7 t) ∷ []; order = order4In (e8 t) })
     v k
 
-pub put-l1d : (ws : List ℕ) (i w f a : ℕ) → length ws ≡ recordWords → i < 128 → w < 2 →
-    recordIn (set (set ws (l1dPlaceOf i w) f) (l1dPlaceOf i w + 1) a) ≡ withL1dLine (recordIn ws) i w (lineIn f a)
-unfolding withL1dLine
-put-l1d ws i w f a n h k =
+-- both but for the count of dirty lines
+pub put-l1d-set : (ws : List ℕ) (i w f a : ℕ) → length ws ≡ recordWords → i < 128 → w < 2 →
+    recordIn (set (set ws (l1dPlaceOf i w) f) (l1dPlaceOf i w + 1) a) ≡ withL1dSet (recordIn ws) i (l1dPut (l1dSetAt (recordIn ws) i) w (lineIn f a))
+put-l1d-set ws i w f a n h k =
     one-l1d ws (set (set ws (l1dPlaceOf i w) f) (l1dPlaceOf i w + 1) a) i h
     (record {
       low = λ q l. two-set ws (l1dPlaceOf i w) f a q (omega arith) (omega arith);
@@ -299,10 +307,9 @@ put-l1d ws i w f a n h k =
     })
     ∙ ap (withL1dSet (recordIn ws) i) (put-l1d-in ws i w f a n h k ∙ ap (λ (s : L1dSet). l1dPut s w (lineIn f a)) (sym (l1d-at ws i h)))
 
-pub put-l2 : (ws : List ℕ) (j v f a : ℕ) → length ws ≡ recordWords → j < 512 → v < 4 →
-    recordIn (set (set ws (l2PlaceOf j v) f) (l2PlaceOf j v + 1) a) ≡ withL2Line (recordIn ws) j v (lineIn f a)
-unfolding withL2Line
-put-l2 ws j v f a n h k =
+pub put-l2-set : (ws : List ℕ) (j v f a : ℕ) → length ws ≡ recordWords → j < 512 → v < 4 →
+    recordIn (set (set ws (l2PlaceOf j v) f) (l2PlaceOf j v + 1) a) ≡ withL2Set (recordIn ws) j (l2Put (l2SetAt (recordIn ws) j) v (lineIn f a))
+put-l2-set ws j v f a n h k =
     one-l2 ws (set (set ws (l2PlaceOf j v) f) (l2PlaceOf j v + 1) a) j h
     (record {
       low = λ q l. two-set ws (l2PlaceOf j v) f a q (omega arith) (omega arith);
@@ -310,55 +317,138 @@ put-l2 ws j v f a n h k =
     })
     ∙ ap (withL2Set (recordIn ws) j) (put-l2-in ws j v f a n h k ∙ ap (λ (s : L2Set). l2Put s v (lineIn f a)) (sym (l2-at ws j h)))
 
+-- ---- the counts of dirty lines
+-- words of the head alone are others: the sets stay
+pub same-sets : (ws vs : List ℕ) → ((n : ℕ) → 5 ≤ n → word vs n ≡ word ws n) → (recordIn vs .l1d ≡ recordIn ws .l1d) × (recordIn vs .l2 ≡ recordIn ws .l2)
+unfolding recordIn
+same-sets ws vs h = (
+  listed-same (l1dIn vs) (l1dIn ws) 0 128 (λ j _. same-l1d ws vs j (λ m p q. h m (omega arith))),
+  listed-same (l2In vs) (l2In ws) 0 512 (λ j _. same-l2 ws vs j (λ m p q. h m (omega arith))),
+)
+
+pub count-l1d : (ws : List ℕ) (n : ℕ) → length ws ≡ recordWords → recordIn (set ws 3 n) ≡ withCounts (recordIn ws) n (recordIn ws .«dirty_l2»)
+unfolding recordIn
+count-l1d ws n l =
+    let o : (q : ℕ) → q ≢ 3 → word (set ws 3 n) q ≡ word ws q = λ q k. getD-set-other ws 3 q n 0 k in
+    let a = o 0 (omega arith) in let b = o 1 (omega arith) in let c = o 2 (omega arith) in let m = getD-set-same ws 3 n 0 (omega arith) in
+    let k = o 4 (omega arith) in let z = same-sets ws (set ws 3 n) (λ q g. o q (omega arith)) in
+    λ t. record {
+      l2len = a t;
+      extlen = b t;
+      mode = modeIn (c t);
+      mar128 = eqb (c t / 256 % 2) 1;
+      mar129 = eqb (c t / 65536 % 2) 1;
+      frozen = eqb (c t / 16777216 % 2) 1;
+      «dirty_l1d» = m t;
+      «dirty_l2» = k t;
+      l1d = z .0 t;
+      l2 = z .1 t;
+    }
+
+pub count-l2 : (ws : List ℕ) (n : ℕ) → length ws ≡ recordWords → recordIn (set ws 4 n) ≡ withCounts (recordIn ws) (recordIn ws .«dirty_l1d») n
+unfolding recordIn
+count-l2 ws n l =
+    let o : (q : ℕ) → q ≢ 4 → word (set ws 4 n) q ≡ word ws q = λ q k. getD-set-other ws 4 q n 0 k in
+    let a = o 0 (omega arith) in let b = o 1 (omega arith) in let c = o 2 (omega arith) in let m = getD-set-same ws 4 n 0 (omega arith) in
+    let k = o 3 (omega arith) in let z = same-sets ws (set ws 4 n) (λ q g. o q (omega arith)) in
+    λ t. record {
+      l2len = a t;
+      extlen = b t;
+      mode = modeIn (c t);
+      mar128 = eqb (c t / 256 % 2) 1;
+      mar129 = eqb (c t / 65536 % 2) 1;
+      frozen = eqb (c t / 16777216 % 2) 1;
+      «dirty_l1d» = k t;
+      «dirty_l2» = m t;
+      l1d = z .0 t;
+      l2 = z .1 t;
+    }
+
+-- a count that stays what it is
+set-self : (ws : List ℕ) (i : ℕ) → set ws i (word ws i) ≡ ws
+set-self [] i = refl
+set-self (x ∷ ws) zero = refl
+set-self (x ∷ ws) (suc i) = ap (λ (vs : List ℕ). x ∷ vs) (set-self ws i)
+
+pub count-stays : (ws : List ℕ) (i n : ℕ) → n ≡ word ws i → ws ≡ set ws i n
+count-stays ws i n e = sym (ap (set ws i) e ∙ set-self ws i)
+
+-- a line is put where y was, and its count moved: the words us behind the one, vs behind both
+pub put-l1d : (ws us vs : List ℕ) (i w f : ℕ) (x y : Line) → length ws ≡ recordWords → i < 128 → w < 2 → lineIn f (x .address) ≡ x →
+    y ≡ l1dLineAt (recordIn ws) i w → us ≡ set (set ws (l1dPlaceOf i w) f) (l1dPlaceOf i w + 1) (x .address) →
+    vs ≡ set us 3 (counted l1dLines (y .dirty) (x .dirty) (word us 3)) → recordIn vs ≡ withL1dLine (recordIn ws) i w x
+unfolding withL1dLine recordIn
+put-l1d ws us vs i w f x y n h k e g p q =
+    let c : word us 3 ≡ word ws 3 = rw p (two-set ws (l1dPlaceOf i w) f (x .address) 3 (omega arith) (omega arith)) in
+    let l : length us ≡ recordWords = rw p (simp length-set n) in
+    let s : recordIn us ≡ withL1dSet (recordIn ws) i (l1dPut (l1dSetAt (recordIn ws) i) w x) =
+    ap recordIn p ∙ put-l1d-set ws i w f (x .address) n h k ∙ ap (λ (o : Line). withL1dSet (recordIn ws) i (l1dPut (l1dSetAt (recordIn ws) i) w o)) e in
+    let m : counted l1dLines (y .dirty) (x .dirty) (word us 3) ≡ counted l1dLines (l1dLineAt (recordIn ws) i w .dirty) (x .dirty) (word ws 3) =
+    λ t. counted l1dLines (g t .dirty) (x .dirty) (c t) in
+    ap recordIn q ∙ count-l1d us (counted l1dLines (y .dirty) (x .dirty) (word us 3)) l ∙ (λ t. withCounts (s t) (m t) (s t .«dirty_l2»))
+
+pub put-l2 : (ws us vs : List ℕ) (j v f : ℕ) (x y : Line) → length ws ≡ recordWords → j < 512 → v < 4 → lineIn f (x .address) ≡ x →
+    y ≡ l2LineAt (recordIn ws) j v → us ≡ set (set ws (l2PlaceOf j v) f) (l2PlaceOf j v + 1) (x .address) →
+    vs ≡ set us 4 (counted l2Lines (y .dirty) (x .dirty) (word us 4)) → recordIn vs ≡ withL2Line (recordIn ws) j v x
+unfolding withL2Line recordIn
+put-l2 ws us vs j v f x y n h k e g p q =
+    let c : word us 4 ≡ word ws 4 = rw p (two-set ws (l2PlaceOf j v) f (x .address) 4 (omega arith) (omega arith)) in
+    let l : length us ≡ recordWords = rw p (simp length-set n) in
+    let s : recordIn us ≡ withL2Set (recordIn ws) j (l2Put (l2SetAt (recordIn ws) j) v x) =
+    ap recordIn p ∙ put-l2-set ws j v f (x .address) n h k ∙ ap (λ (o : Line). withL2Set (recordIn ws) j (l2Put (l2SetAt (recordIn ws) j) v o)) e in
+    let m : counted l2Lines (y .dirty) (x .dirty) (word us 4) ≡ counted l2Lines (l2LineAt (recordIn ws) j v .dirty) (x .dirty) (word ws 4) =
+    λ t. counted l2Lines (g t .dirty) (x .dirty) (c t) in
+    ap recordIn q ∙ count-l2 us (counted l2Lines (y .dirty) (x .dirty) (word us 4)) l ∙ (λ t. withCounts (s t) (s t .«dirty_l1d») (m t))
+
 -- a line by its mark
 pub line-is : (x : Line) (f : ℕ) → (eqb (f % 65536) 1 || eqb (f % 65536) 257) ≡ x .valid → ltb 1 (f % 65536) ≡ x .dirty → lineIn f (x .address) ≡ x
 unfolding lineIn
 line-is x f v d = λ t. record { valid = v t; dirty = d t; address = x .address }
 
 -- ---- the order of a set
-pub l1d-order-at : (ws : List ℕ) (i : ℕ) → i < 128 → l1dSetAt (recordIn ws) i .order ≡ order2In (word ws (i * 5 + 7))
+pub l1d-order-at : (ws : List ℕ) (i : ℕ) → i < 128 → l1dSetAt (recordIn ws) i .order ≡ order2In (word ws (i * 5 + 9))
 unfolding l1dIn
 l1d-order-at ws i h = ap (λ (s : L1dSet). s .order) (l1d-at ws i h)
 
-pub l2-order-at : (ws : List ℕ) (j : ℕ) → j < 512 → l2SetAt (recordIn ws) j .order ≡ order4In (word ws (j * 9 + 651))
+pub l2-order-at : (ws : List ℕ) (j : ℕ) → j < 512 → l2SetAt (recordIn ws) j .order ≡ order4In (word ws (j * 9 + 653))
 unfolding l2In
 l2-order-at ws j h = ap (λ (s : L2Set). s .order) (l2-at ws j h)
 
 -- a word is stored that stands for the order once way w was used: the set of the record has that way used
-use-l1d-in : (ws : List ℕ) (i w o : ℕ) → length ws ≡ recordWords → i < 128 → order2In o ≡ used2 (order2In (word ws (i * 5 + 7))) w →
-    l1dIn (set ws (i * 5 + 7) o) i ≡ l1dUse (l1dIn ws i) w
+use-l1d-in : (ws : List ℕ) (i w o : ℕ) → length ws ≡ recordWords → i < 128 → order2In o ≡ used2 (order2In (word ws (i * 5 + 9))) w →
+    l1dIn (set ws (i * 5 + 9) o) i ≡ l1dUse (l1dIn ws i) w
 unfolding l1dIn l1dUse
 use-l1d-in ws i w o n h e =
-    let e3 = getD-set-other ws (i * 5 + 7) (i * 5 + 3) o 0 (omega arith) in let e4 = getD-set-other ws (i * 5 + 7) (i * 5 + 4) o 0 (omega arith) in
-    let e5 = getD-set-other ws (i * 5 + 7) (i * 5 + 5) o 0 (omega arith) in let e6 = getD-set-other ws (i * 5 + 7) (i * 5 + 6) o 0 (omega arith) in
-    let e7 : order2In (word (set ws (i * 5 + 7) o) (i * 5 + 7)) ≡ used2 (order2In (word ws (i * 5 + 7))) w =
-    ap order2In (getD-set-same ws (i * 5 + 7) o 0 (omega arith)) ∙ e in
+    let e3 = getD-set-other ws (i * 5 + 9) (i * 5 + 5) o 0 (omega arith) in let e4 = getD-set-other ws (i * 5 + 9) (i * 5 + 6) o 0 (omega arith) in
+    let e5 = getD-set-other ws (i * 5 + 9) (i * 5 + 7) o 0 (omega arith) in let e6 = getD-set-other ws (i * 5 + 9) (i * 5 + 8) o 0 (omega arith) in
+    let e7 : order2In (word (set ws (i * 5 + 9) o) (i * 5 + 9)) ≡ used2 (order2In (word ws (i * 5 + 9))) w =
+    ap order2In (getD-set-same ws (i * 5 + 9) o 0 (omega arith)) ∙ e in
     λ t. record { lines = lineIn (e3 t) (e4 t) ∷ lineIn (e5 t) (e6 t) ∷ []; order = e7 t }
 
-use-l2-in : (ws : List ℕ) (j v o : ℕ) → length ws ≡ recordWords → j < 512 → order4In o ≡ used4 (order4In (word ws (j * 9 + 651))) v →
-    l2In (set ws (j * 9 + 651) o) j ≡ l2Use (l2In ws j) v
+use-l2-in : (ws : List ℕ) (j v o : ℕ) → length ws ≡ recordWords → j < 512 → order4In o ≡ used4 (order4In (word ws (j * 9 + 653))) v →
+    l2In (set ws (j * 9 + 653) o) j ≡ l2Use (l2In ws j) v
 unfolding l2In l2Use
 use-l2-in ws j v o n h e =
-    let e0 = getD-set-other ws (j * 9 + 651) (j * 9 + 643) o 0 (omega arith) in let e1 = getD-set-other ws (j * 9 + 651) (j * 9 + 644) o 0 (omega arith) in
-    let e2 = getD-set-other ws (j * 9 + 651) (j * 9 + 645) o 0 (omega arith) in let e3 = getD-set-other ws (j * 9 + 651) (j * 9 + 646) o 0 (omega arith) in
-    let e4 = getD-set-other ws (j * 9 + 651) (j * 9 + 647) o 0 (omega arith) in let e5 = getD-set-other ws (j * 9 + 651) (j * 9 + 648) o 0 (omega arith) in
-    let e6 = getD-set-other ws (j * 9 + 651) (j * 9 + 649) o 0 (omega arith) in let e7 = getD-set-other ws (j * 9 + 651) (j * 9 + 650) o 0 (omega arith) in
-    let e8 : order4In (word (set ws (j * 9 + 651) o) (j * 9 + 651)) ≡ used4 (order4In (word ws (j * 9 + 651))) v =
-    ap order4In (getD-set-same ws (j * 9 + 651) o 0 (omega arith)) ∙ e in
+    let e0 = getD-set-other ws (j * 9 + 653) (j * 9 + 645) o 0 (omega arith) in let e1 = getD-set-other ws (j * 9 + 653) (j * 9 + 646) o 0 (omega arith) in
+    let e2 = getD-set-other ws (j * 9 + 653) (j * 9 + 647) o 0 (omega arith) in let e3 = getD-set-other ws (j * 9 + 653) (j * 9 + 648) o 0 (omega arith) in
+    let e4 = getD-set-other ws (j * 9 + 653) (j * 9 + 649) o 0 (omega arith) in let e5 = getD-set-other ws (j * 9 + 653) (j * 9 + 650) o 0 (omega arith) in
+    let e6 = getD-set-other ws (j * 9 + 653) (j * 9 + 651) o 0 (omega arith) in let e7 = getD-set-other ws (j * 9 + 653) (j * 9 + 652) o 0 (omega arith) in
+    let e8 : order4In (word (set ws (j * 9 + 653) o) (j * 9 + 653)) ≡ used4 (order4In (word ws (j * 9 + 653))) v =
+    ap order4In (getD-set-same ws (j * 9 + 653) o 0 (omega arith)) ∙ e in
     λ t. record { lines = lineIn (e0 t) (e1 t) ∷ lineIn (e2 t) (e3 t) ∷ lineIn (e4 t) (e5 t) ∷ lineIn (e6 t) (e7 t) ∷ []; order = e8 t }
 
-pub use-l1d : (ws : List ℕ) (i w o : ℕ) → length ws ≡ recordWords → i < 128 → order2In o ≡ used2 (order2In (word ws (i * 5 + 7))) w →
-    recordIn (set ws (i * 5 + 7) o) ≡ withL1dSet (recordIn ws) i (l1dUse (l1dSetAt (recordIn ws) i) w)
+pub use-l1d : (ws : List ℕ) (i w o : ℕ) → length ws ≡ recordWords → i < 128 → order2In o ≡ used2 (order2In (word ws (i * 5 + 9))) w →
+    recordIn (set ws (i * 5 + 9) o) ≡ withL1dSet (recordIn ws) i (l1dUse (l1dSetAt (recordIn ws) i) w)
 use-l1d ws i w o n h e =
-    one-l1d ws (set ws (i * 5 + 7) o) i h
-    (record { low = λ q l. getD-set-other ws (i * 5 + 7) q o 0 (omega arith); high = λ q l. getD-set-other ws (i * 5 + 7) q o 0 (omega arith) })
+    one-l1d ws (set ws (i * 5 + 9) o) i h
+    (record { low = λ q l. getD-set-other ws (i * 5 + 9) q o 0 (omega arith); high = λ q l. getD-set-other ws (i * 5 + 9) q o 0 (omega arith) })
     ∙ ap (withL1dSet (recordIn ws) i) (use-l1d-in ws i w o n h e ∙ ap (λ (s : L1dSet). l1dUse s w) (sym (l1d-at ws i h)))
 
-pub use-l2 : (ws : List ℕ) (j v o : ℕ) → length ws ≡ recordWords → j < 512 → order4In o ≡ used4 (order4In (word ws (j * 9 + 651))) v →
-    recordIn (set ws (j * 9 + 651) o) ≡ withL2Set (recordIn ws) j (l2Use (l2SetAt (recordIn ws) j) v)
+pub use-l2 : (ws : List ℕ) (j v o : ℕ) → length ws ≡ recordWords → j < 512 → order4In o ≡ used4 (order4In (word ws (j * 9 + 653))) v →
+    recordIn (set ws (j * 9 + 653) o) ≡ withL2Set (recordIn ws) j (l2Use (l2SetAt (recordIn ws) j) v)
 use-l2 ws j v o n h e =
-    one-l2 ws (set ws (j * 9 + 651) o) j h
-    (record { low = λ q l. getD-set-other ws (j * 9 + 651) q o 0 (omega arith); high = λ q l. getD-set-other ws (j * 9 + 651) q o 0 (omega arith) })
+    one-l2 ws (set ws (j * 9 + 653) o) j h
+    (record { low = λ q l. getD-set-other ws (j * 9 + 653) q o 0 (omega arith); high = λ q l. getD-set-other ws (j * 9 + 653) q o 0 (omega arith) })
     ∙ ap (withL2Set (recordIn ws) j) (use-l2-in ws j v o n h e ∙ ap (λ (s : L2Set). l2Use s v) (sym (l2-at ws j h)))
 
 -- the word of an order
@@ -384,7 +474,7 @@ order4-is o a b c d =
     let y₂ = ap (λ (n : ℕ). n % 256) y ∙ y₁ in let z₂ = ap (λ (n : ℕ). n % 256) z ∙ z₁ in let u₂ = ap (λ (n : ℕ). n % 256) u ∙ u₁ in
     λ t. record { first = x t; second = y₂ t; third = z₂ t; fourth = u₂ t }
 
--- ---- the first three words
+-- ---- the first five words
 pub l2len-in : (ws : List ℕ) → word ws 0 ≡ recordIn ws .l2len
 unfolding recordIn
 l2len-in ws = refl
@@ -416,3 +506,11 @@ mar129-in ws = refl
 pub frozen-in : (ws : List ℕ) → eqb (word ws 2 / 16777216 % 2) 1 ≡ recordIn ws .frozen
 unfolding recordIn
 frozen-in ws = refl
+
+pub dirty-l1d-in : (ws : List ℕ) → word ws 3 ≡ recordIn ws .«dirty_l1d»
+unfolding recordIn
+dirty-l1d-in ws = refl
+
+pub dirty-l2-in : (ws : List ℕ) → word ws 4 ≡ recordIn ws .«dirty_l2»
+unfolding recordIn
+dirty-l2-in ws = refl

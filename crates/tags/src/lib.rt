@@ -1,13 +1,13 @@
-// The record in words that can be lent, as C lays it out: L, E, mode, MAR bits and freeze; five words for a set of L1D (mark
-// and address of two lines, the order), nine for a set of L2. A mark is 0, or 1 for a clean and 257 for a dirty line:
+// The record in words that can be lent, as C lays it out: L, E, mode, MAR bits and freeze, the counts of dirty lines;
+// five words for a set of L1D (mark and address of two lines, the order), nine for a set of L2. A mark is 0, or 1 for a clean and 257 for a dirty line:
 // the bytes valid and dirty. Each function says what it does to the record that the words stand for.
 ghost use mathlib.Core.Path.{_≡_};
 ghost use Prim.Native.Nat.{_%_, _/_, _<_, _≤_};
-ghost use lib.ListN.{length};
+ghost use lib.ListN.{length, set};
 ghost use Rattle.model.specs.Ways.{l1dFind, l2Find, l1dVictim, l2Victim};
 ghost use Rattle.model.specs.Lines.{l1dUse, l2Use};
-ghost use Rattle.model.specs.Records.{l1dSetAt, l1dLineAt, l2LineAt, l2SetAt, withL1dSet, withL2Set, withL1dLine, withL2Line};
-ghost use Rattle.tags.specs.Words.{recordWords, lineIn, order2In, order4In, recordIn};
+ghost use Rattle.model.specs.Records.{l1dSetAt, l1dLineAt, l2LineAt, l2SetAt, withL1dSet, withL2Set, counted, withL1dLine, withL2Line};
+ghost use Rattle.tags.specs.Words.{recordWords, word, lineIn, order2In, order4In, recordIn};
 use geometry::L1d;
 use geometry::L2;
 use model::Line;
@@ -15,8 +15,17 @@ use model::Order2;
 use model::Order4;
 
 // ---- where the words of a line and of an order stand
-// L; E; the mode, the two MAR bits and the freeze, a byte each.
-pub const HEAD: usize = 3;
+// L; E; the mode, the two MAR bits and the freeze, a byte each; how many lines are dirty in L1D and in L2.
+pub const HEAD: usize = 5;
+
+pub const L1D_COUNT: usize = 3;
+
+pub const L2_COUNT: usize = 4;
+
+// How many lines each cache has, which no count passes.
+pub const L1D_LINES: u32 = (L1d::SETS * L1d::WAYS) as u32;
+
+pub const L2_LINES: u32 = (L2::SETS * L2::WAYS) as u32;
 
 // A line has two words, its mark and its address; a set has its lines and a word for the order.
 pub const L1D_SET: usize = L1d::WAYS * 2 + 1;
@@ -75,22 +84,53 @@ pub fn l2_line(tags: &[u32], j: usize, v: usize) -> Line
     line_of(tags[p], tags[p + 1])
 }
 
+// The word `at` counts the dirty lines of a cache of `most` lines, one of which was dirty or not and now is or not. A
+// line that stays as it was stores nothing.
+pub fn count(tags: &mut [u32], at: usize, most: u32, was: bool, is: bool)
+    requires { ⌜ at < length (now tags) ⌝ }
+    ensures { λ _. ⌜ now (tags .exit) ≡ set (now (tags .entry)) at (counted most was is (word (now (tags .entry)) at)) ⌝ }
+{
+    if was {
+        if is {
+            return;
+        }
+        let n = tags[at];
+        if n == 0 {
+            return;
+        }
+        tags[at] = n - 1;
+        return;
+    }
+    if !is {
+        return;
+    }
+    let n = tags[at];
+    if most <= n {
+        return;
+    }
+    tags[at] = n + 1;
+}
+
 pub fn l1d_put(tags: &mut [u32], i: usize, w: usize, x: Line)
     requires { ⌜ ((i < 128) × (w < 2)) × (length (now tags) ≡ recordWords) ⌝ }
     ensures { λ _. ⌜ recordIn (now (tags .exit)) ≡ withL1dLine (recordIn (now (tags .entry))) i w x ⌝ }
 {
+    let y = l1d_line(tags, i, w);
     let p = i * L1D_SET + w * 2 + HEAD;
     tags[p] = mark_of(x);
     tags[p + 1] = x.address;
+    count(tags, L1D_COUNT, L1D_LINES, y.dirty, x.dirty);
 }
 
 pub fn l2_put(tags: &mut [u32], j: usize, v: usize, x: Line)
     requires { ⌜ ((j < 512) × (v < 4)) × (length (now tags) ≡ recordWords) ⌝ }
     ensures { λ _. ⌜ recordIn (now (tags .exit)) ≡ withL2Line (recordIn (now (tags .entry))) j v x ⌝ }
 {
+    let y = l2_line(tags, j, v);
     let p = j * L2_SET + v * 2 + L2_FROM;
     tags[p] = mark_of(x);
     tags[p + 1] = x.address;
+    count(tags, L2_COUNT, L2_LINES, y.dirty, x.dirty);
 }
 
 pub fn l1d_find(tags: &[u32], i: usize, b: u32) -> usize

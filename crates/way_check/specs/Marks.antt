@@ -198,24 +198,24 @@ l2-above r t a e =
 
 -- ---- the four ways of an L2 set
 pub covers-joined : (ws : List ℕ) (j b : ℕ) → j < 512 → (b0 b1 b2 b3 : Bool) →
-    b0 ≡ holds (lineIn (word ws (j * 9 + 643)) (word ws (j * 9 + 643 + 1))) b → b1 ≡ holds (lineIn (word ws (j * 9 + 643 + 2)) (word ws (j * 9 + 643 + 3))) b →
-    b2 ≡ holds (lineIn (word ws (j * 9 + 643 + 4)) (word ws (j * 9 + 643 + 5))) b → b3 ≡ holds (lineIn (word ws (j * 9 + 643 + 6)) (word ws (j * 9 + 643 + 7))) b →
+    b0 ≡ holds (lineIn (word ws (j * 9 + 645)) (word ws (j * 9 + 645 + 1))) b → b1 ≡ holds (lineIn (word ws (j * 9 + 645 + 2)) (word ws (j * 9 + 645 + 3))) b →
+    b2 ≡ holds (lineIn (word ws (j * 9 + 645 + 4)) (word ws (j * 9 + 645 + 5))) b → b3 ≡ holds (lineIn (word ws (j * 9 + 645 + 6)) (word ws (j * 9 + 645 + 7))) b →
     ((b0 || b1) || (b2 || b3)) ≡ anyOf (λ y. holds y b) (l2SetAt (recordIn ws) j .lines)
 unfolding l2In
 covers-joined ws j b h b0 b1 b2 b3 e0 e1 e2 e3 =
     rw (l2-at ws j h)
-    (rw (any-four (λ (y : Line). holds y b) (lineIn (word ws (j * 9 + 643)) (word ws (j * 9 + 644))) (lineIn (word ws (j * 9 + 645)) (word ws (j * 9 + 646)))
-    (lineIn (word ws (j * 9 + 647)) (word ws (j * 9 + 648))) (lineIn (word ws (j * 9 + 649)) (word ws (j * 9 + 650))))
+    (rw (any-four (λ (y : Line). holds y b) (lineIn (word ws (j * 9 + 645)) (word ws (j * 9 + 646))) (lineIn (word ws (j * 9 + 647)) (word ws (j * 9 + 648)))
+    (lineIn (word ws (j * 9 + 649)) (word ws (j * 9 + 650))) (lineIn (word ws (j * 9 + 651)) (word ws (j * 9 + 652))))
     (or-assoc b0 b1 (b2 || b3) ∙ (λ t. (at0 t || (at1 t || (at2 t || at3 t))))))
   where
-    at0 : b0 ≡ holds (lineIn (word ws (j * 9 + 643)) (word ws (j * 9 + 644))) b
-    at0 = let q : j * 9 + 643 + 1 ≡ j * 9 + 644 = omega arith in e0 ∙ rw q refl
+    at0 : b0 ≡ holds (lineIn (word ws (j * 9 + 645)) (word ws (j * 9 + 646))) b
+    at0 = let q : j * 9 + 645 + 1 ≡ j * 9 + 646 = omega arith in e0 ∙ rw q refl
 
-    at1 : b1 ≡ holds (lineIn (word ws (j * 9 + 645)) (word ws (j * 9 + 646))) b
-    at1 = let p : j * 9 + 643 + 2 ≡ j * 9 + 645 = omega arith in let q : j * 9 + 643 + 3 ≡ j * 9 + 646 = omega arith in e1 ∙ rw (p, q) refl
+    at1 : b1 ≡ holds (lineIn (word ws (j * 9 + 647)) (word ws (j * 9 + 648))) b
+    at1 = let p : j * 9 + 645 + 2 ≡ j * 9 + 647 = omega arith in let q : j * 9 + 645 + 3 ≡ j * 9 + 648 = omega arith in e1 ∙ rw (p, q) refl
 
-    at2 : b2 ≡ holds (lineIn (word ws (j * 9 + 647)) (word ws (j * 9 + 648))) b
-    at2 = let p : j * 9 + 643 + 4 ≡ j * 9 + 647 = omega arith in let q : j * 9 + 643 + 5 ≡ j * 9 + 648 = omega arith in e2 ∙ rw (p, q) refl
+    at2 : b2 ≡ holds (lineIn (word ws (j * 9 + 649)) (word ws (j * 9 + 650))) b
+    at2 = let p : j * 9 + 645 + 4 ≡ j * 9 + 649 = omega arith in let q : j * 9 + 645 + 5 ≡ j * 9 + 650 = omega arith in e2 ∙ rw (p, q) refl
 
-    at3 : b3 ≡ holds (lineIn (word ws (j * 9 + 649)) (word ws (j * 9 + 650))) b
-    at3 = let p : j * 9 + 643 + 6 ≡ j * 9 + 649 = omega arith in let q : j * 9 + 643 + 7 ≡ j * 9 + 650 = omega arith in e3 ∙ rw (p, q) refl
+    at3 : b3 ≡ holds (lineIn (word ws (j * 9 + 651)) (word ws (j * 9 + 652))) b
+    at3 = let p : j * 9 + 645 + 6 ≡ j * 9 + 651 = omega arith in let q : j * 9 + 645 + 7 ≡ j * 9 + 652 = omega arith in e3 ∙ rw (p, q) refl
