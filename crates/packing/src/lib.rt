@@ -4,7 +4,7 @@
 ghost use mathlib.Core.Path.{_≡_};
 ghost use Prim.Native.Nat.{_<_};
 ghost use lib.ListN.{length, replicate};
-ghost use Rattle.model.specs.Records.{freshRecord, freshL1dSet, freshL2Set, withL1dSet, withL2Set};
+ghost use Rattle.model.specs.Records.{freshRecord, freshL1dSet, freshL2Set, withL1dSet, withL2Set, withCounts};
 ghost use Rattle.tags.specs.Words.{recordWords, l1dIn, l2In, recordIn};
 ghost use Rattle.lists.specs.Listed.{listed};
 ghost use Rattle.packing.specs.Packed.{bitOf, l1dOrdered, l2Ordered, withSizes, withModes, withL1d, withL2, renewed};
@@ -89,6 +89,8 @@ pub fn unpack(tags: &[u32]) -> Record
         mar128: m / 256 % 2 == 1,
         mar129: m / 65536 % 2 == 1,
         frozen: m / 16777216 % 2 == 1,
+        dirty_l1d: tags[tags::L1D_COUNT],
+        dirty_l2: tags[tags::L2_COUNT],
         l1d: l1d,
         l2: l2,
     }
@@ -118,6 +120,15 @@ pub fn put_modes(tags: &mut [u32], mode: u8, mar128: bool, mar129: bool, frozen:
     tags[2] = mode as u32 + bit(mar128) * 256 + bit(mar129) * 65536 + bit(frozen) * 16777216;
 }
 
+// The counts of dirty lines.
+fn put_counts(tags: &mut [u32], l1d: u32, l2: u32)
+    requires { ⌜ length (now tags) ≡ recordWords ⌝ }
+    ensures { λ _. ⌜ recordIn (now (tags .exit)) ≡ withCounts (recordIn (now (tags .entry))) l1d l2 ⌝ }
+{
+    tags[tags::L1D_COUNT] = l1d;
+    tags[tags::L2_COUNT] = l2;
+}
+
 fn put_l1d_order(tags: &mut [u32], i: usize, o: Order2)
     requires { ⌜ (i < 128) × (length (now tags) ≡ recordWords) ⌝ }
     ensures { λ _. ⌜ recordIn (now (tags .exit)) ≡ l1dOrdered (recordIn (now (tags .entry))) i o ⌝ }
@@ -136,8 +147,8 @@ fn put_l1d_set(tags: &mut [u32], i: usize, v: L1dSet)
     requires { ⌜ (i < 128) × (length (now tags) ≡ recordWords) ⌝ }
     ensures { λ _. ⌜ recordIn (now (tags .exit)) ≡ withL1dSet (recordIn (now (tags .entry))) i v ⌝ }
 {
-    tags::l1d_put(tags, i, 0, v.lines[0]);
-    tags::l1d_put(tags, i, 1, v.lines[1]);
+    tags::l1d_store(tags, i, 0, v.lines[0]);
+    tags::l1d_store(tags, i, 1, v.lines[1]);
     put_l1d_order(tags, i, v.order);
 }
 
@@ -145,10 +156,10 @@ fn put_l2_set(tags: &mut [u32], j: usize, v: L2Set)
     requires { ⌜ (j < 512) × (length (now tags) ≡ recordWords) ⌝ }
     ensures { λ _. ⌜ recordIn (now (tags .exit)) ≡ withL2Set (recordIn (now (tags .entry))) j v ⌝ }
 {
-    tags::l2_put(tags, j, 0, v.lines[0]);
-    tags::l2_put(tags, j, 1, v.lines[1]);
-    tags::l2_put(tags, j, 2, v.lines[2]);
-    tags::l2_put(tags, j, 3, v.lines[3]);
+    tags::l2_store(tags, j, 0, v.lines[0]);
+    tags::l2_store(tags, j, 1, v.lines[1]);
+    tags::l2_store(tags, j, 2, v.lines[2]);
+    tags::l2_store(tags, j, 3, v.lines[3]);
     put_l2_order(tags, j, v.order);
 }
 
@@ -178,6 +189,7 @@ pub fn pack(r: Record, tags: &mut [u32])
     let l2 = r.l2;
     put_sizes(tags, r.l2len, r.extlen);
     put_modes(tags, r.mode, r.mar128, r.mar129, r.frozen);
+    put_counts(tags, r.dirty_l1d, r.dirty_l2);
     put_l1d(tags, l1d);
     put_l2(tags, l2);
 }
@@ -229,12 +241,13 @@ fn fresh_l2(tags: &mut [u32])
     }
 }
 
-// Everything fresh but L and E, with another mode, other MAR bits and another freeze.
+// Everything fresh but L and E, no line dirty, with another mode, other MAR bits and another freeze.
 pub fn renew(tags: &mut [u32], mode: u8, mar128: bool, mar129: bool, frozen: bool)
     requires { ⌜ length (now tags) ≡ recordWords ⌝ }
     ensures { λ _. ⌜ recordIn (now (tags .exit)) ≡ renewed (recordIn (now (tags .entry))) mode mar128 mar129 frozen ⌝ }
 {
     put_modes(tags, mode, mar128, mar129, frozen);
+    put_counts(tags, 0, 0);
     fresh_l1d(tags);
     fresh_l2(tags);
 }

@@ -43,19 +43,19 @@ order-2 o =
 -- ---- a set of L1D: its ways with their marks, no line twice, the order
 module _ (ws : List ℕ) (i : ℕ) where
   abbrev m0 : ℕ
-  m0 = word ws (i * 5 + 3)
+  m0 = word ws (i * 5 + 5)
 
   abbrev a0 : ℕ
-  a0 = word ws (i * 5 + 3 + 1)
+  a0 = word ws (i * 5 + 5 + 1)
 
   abbrev m1 : ℕ
-  m1 = word ws (i * 5 + 3 + 2)
+  m1 = word ws (i * 5 + 5 + 2)
 
   abbrev a1 : ℕ
-  a1 = word ws (i * 5 + 3 + 3)
+  a1 = word ws (i * 5 + 5 + 3)
 
   abbrev o1 : ℕ
-  o1 = word ws (i * 5 + 3 + 4)
+  o1 = word ws (i * 5 + 5 + 4)
 
   -- the two lines as the code reads them
   abbrev x0 : Line
@@ -67,8 +67,8 @@ module _ (ws : List ℕ) (i : ℕ) where
   l1d-read : l1dIn ws i ≡ record { lines = x0 ∷ x1 ∷ []; order = order2In o1 }
   unfolding l1dIn
   l1d-read =
-      let p : i * 5 + 4 ≡ i * 5 + 3 + 1 = omega arith in let q : i * 5 + 5 ≡ i * 5 + 3 + 2 = omega arith in
-      let r : i * 5 + 6 ≡ i * 5 + 3 + 3 = omega arith in let s : i * 5 + 7 ≡ i * 5 + 3 + 4 = omega arith in
+      let p : i * 5 + 6 ≡ i * 5 + 5 + 1 = omega arith in let q : i * 5 + 7 ≡ i * 5 + 5 + 2 = omega arith in
+      let r : i * 5 + 8 ≡ i * 5 + 5 + 3 = omega arith in let s : i * 5 + 9 ≡ i * 5 + 5 + 4 = omega arith in
       rw (p, q, r, s) refl
 
   -- as the code tests it
@@ -180,31 +180,31 @@ fresh-way f a = go (lineIn f a .valid) ∙
 
 module _ (ws : List ℕ) (j : ℕ) where
   abbrev w0 : ℕ
-  w0 = word ws (j * 9 + 643)
+  w0 = word ws (j * 9 + 645)
 
   abbrev w1 : ℕ
-  w1 = word ws (j * 9 + 643 + 1)
+  w1 = word ws (j * 9 + 645 + 1)
 
   abbrev w2 : ℕ
-  w2 = word ws (j * 9 + 643 + 2)
+  w2 = word ws (j * 9 + 645 + 2)
 
   abbrev w3 : ℕ
-  w3 = word ws (j * 9 + 643 + 3)
+  w3 = word ws (j * 9 + 645 + 3)
 
   abbrev w4 : ℕ
-  w4 = word ws (j * 9 + 643 + 4)
+  w4 = word ws (j * 9 + 645 + 4)
 
   abbrev w5 : ℕ
-  w5 = word ws (j * 9 + 643 + 5)
+  w5 = word ws (j * 9 + 645 + 5)
 
   abbrev w6 : ℕ
-  w6 = word ws (j * 9 + 643 + 6)
+  w6 = word ws (j * 9 + 645 + 6)
 
   abbrev w7 : ℕ
-  w7 = word ws (j * 9 + 643 + 7)
+  w7 = word ws (j * 9 + 645 + 7)
 
   abbrev w8 : ℕ
-  w8 = word ws (j * 9 + 643 + 8)
+  w8 = word ws (j * 9 + 645 + 8)
 
   abbrev rec : Record
   rec = recordIn ws
@@ -216,10 +216,10 @@ module _ (ws : List ℕ) (j : ℕ) where
   l2-read : l2In ws j ≡ read
   unfolding l2In order4In
   l2-read =
-      let p1 : j * 9 + 644 ≡ j * 9 + 643 + 1 = omega arith in let p2 : j * 9 + 645 ≡ j * 9 + 643 + 2 = omega arith in
-      let p3 : j * 9 + 646 ≡ j * 9 + 643 + 3 = omega arith in let p4 : j * 9 + 647 ≡ j * 9 + 643 + 4 = omega arith in
-      let p5 : j * 9 + 648 ≡ j * 9 + 643 + 5 = omega arith in let p6 : j * 9 + 649 ≡ j * 9 + 643 + 6 = omega arith in
-      let p7 : j * 9 + 650 ≡ j * 9 + 643 + 7 = omega arith in let p8 : j * 9 + 651 ≡ j * 9 + 643 + 8 = omega arith in
+      let p1 : j * 9 + 646 ≡ j * 9 + 645 + 1 = omega arith in let p2 : j * 9 + 647 ≡ j * 9 + 645 + 2 = omega arith in
+      let p3 : j * 9 + 648 ≡ j * 9 + 645 + 3 = omega arith in let p4 : j * 9 + 649 ≡ j * 9 + 645 + 4 = omega arith in
+      let p5 : j * 9 + 650 ≡ j * 9 + 645 + 5 = omega arith in let p6 : j * 9 + 651 ≡ j * 9 + 645 + 6 = omega arith in
+      let p7 : j * 9 + 652 ≡ j * 9 + 645 + 7 = omega arith in let p8 : j * 9 + 653 ≡ j * 9 + 645 + 8 = omega arith in
       rw (p1, p2, p3, p4, p5, p6, p7, p8) refl
 
   -- ---- not in use

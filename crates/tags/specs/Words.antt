@@ -373,32 +373,34 @@ set-self (x ∷ ws) (suc i) = ap (λ (vs : List ℕ). x ∷ vs) (set-self ws i)
 pub count-stays : (ws : List ℕ) (i n : ℕ) → n ≡ word ws i → ws ≡ set ws i n
 count-stays ws i n e = sym (ap (set ws i) e ∙ set-self ws i)
 
--- a line is put where y was, and its count moved: the words us behind the one, vs behind both
-pub put-l1d : (ws us vs : List ℕ) (i w f : ℕ) (x y : Line) → length ws ≡ recordWords → i < 128 → w < 2 → lineIn f (x .address) ≡ x →
-    y ≡ l1dLineAt (recordIn ws) i w → us ≡ set (set ws (l1dPlaceOf i w) f) (l1dPlaceOf i w + 1) (x .address) →
-    vs ≡ set us 3 (counted l1dLines (y .dirty) (x .dirty) (word us 3)) → recordIn vs ≡ withL1dLine (recordIn ws) i w x
-unfolding withL1dLine recordIn
-put-l1d ws us vs i w f x y n h k e g p q =
-    let c : word us 3 ≡ word ws 3 = rw p (two-set ws (l1dPlaceOf i w) f (x .address) 3 (omega arith) (omega arith)) in
-    let l : length us ≡ recordWords = rw p (simp length-set n) in
-    let s : recordIn us ≡ withL1dSet (recordIn ws) i (l1dPut (l1dSetAt (recordIn ws) i) w x) =
-    ap recordIn p ∙ put-l1d-set ws i w f (x .address) n h k ∙ ap (λ (o : Line). withL1dSet (recordIn ws) i (l1dPut (l1dSetAt (recordIn ws) i) w o)) e in
-    let m : counted l1dLines (y .dirty) (x .dirty) (word us 3) ≡ counted l1dLines (l1dLineAt (recordIn ws) i w .dirty) (x .dirty) (word ws 3) =
-    λ t. counted l1dLines (g t .dirty) (x .dirty) (c t) in
-    ap recordIn q ∙ count-l1d us (counted l1dLines (y .dirty) (x .dirty) (word us 3)) l ∙ (λ t. withCounts (s t) (m t) (s t .«dirty_l2»))
+pub dirty-l1d-in : (ws : List ℕ) → word ws 3 ≡ recordIn ws .«dirty_l1d»
+unfolding recordIn
+dirty-l1d-in ws = refl
 
-pub put-l2 : (ws us vs : List ℕ) (j v f : ℕ) (x y : Line) → length ws ≡ recordWords → j < 512 → v < 4 → lineIn f (x .address) ≡ x →
-    y ≡ l2LineAt (recordIn ws) j v → us ≡ set (set ws (l2PlaceOf j v) f) (l2PlaceOf j v + 1) (x .address) →
+pub dirty-l2-in : (ws : List ℕ) → word ws 4 ≡ recordIn ws .«dirty_l2»
+unfolding recordIn
+dirty-l2-in ws = refl
+
+-- a line x is put where y was, and its count moved: the words us behind the one, vs behind both
+pub put-l1d : (ws us vs : List ℕ) (i w : ℕ) (x y : Line) → length us ≡ recordWords → y ≡ l1dLineAt (recordIn ws) i w →
+    recordIn us ≡ withL1dSet (recordIn ws) i (l1dPut (l1dSetAt (recordIn ws) i) w x) →
+    vs ≡ set us 3 (counted l1dLines (y .dirty) (x .dirty) (word us 3)) → recordIn vs ≡ withL1dLine (recordIn ws) i w x
+unfolding withL1dLine
+put-l1d ws us vs i w x y n e s q =
+    let m : counted l1dLines (y .dirty) (x .dirty) (recordIn us .«dirty_l1d») ≡ counted l1dLines (l1dLineAt (recordIn ws) i w .dirty) (x .dirty) (recordIn ws .«dirty_l1d») =
+    λ t. counted l1dLines (e t .dirty) (x .dirty) (s t .«dirty_l1d») in
+    ap recordIn (q ∙ ap (λ (k : ℕ). set us 3 (counted l1dLines (y .dirty) (x .dirty) k)) (dirty-l1d-in us))
+    ∙ count-l1d us (counted l1dLines (y .dirty) (x .dirty) (recordIn us .«dirty_l1d»)) n ∙ (λ t. withCounts (s t) (m t) (s t .«dirty_l2»))
+
+pub put-l2 : (ws us vs : List ℕ) (j v : ℕ) (x y : Line) → length us ≡ recordWords → y ≡ l2LineAt (recordIn ws) j v →
+    recordIn us ≡ withL2Set (recordIn ws) j (l2Put (l2SetAt (recordIn ws) j) v x) →
     vs ≡ set us 4 (counted l2Lines (y .dirty) (x .dirty) (word us 4)) → recordIn vs ≡ withL2Line (recordIn ws) j v x
-unfolding withL2Line recordIn
-put-l2 ws us vs j v f x y n h k e g p q =
-    let c : word us 4 ≡ word ws 4 = rw p (two-set ws (l2PlaceOf j v) f (x .address) 4 (omega arith) (omega arith)) in
-    let l : length us ≡ recordWords = rw p (simp length-set n) in
-    let s : recordIn us ≡ withL2Set (recordIn ws) j (l2Put (l2SetAt (recordIn ws) j) v x) =
-    ap recordIn p ∙ put-l2-set ws j v f (x .address) n h k ∙ ap (λ (o : Line). withL2Set (recordIn ws) j (l2Put (l2SetAt (recordIn ws) j) v o)) e in
-    let m : counted l2Lines (y .dirty) (x .dirty) (word us 4) ≡ counted l2Lines (l2LineAt (recordIn ws) j v .dirty) (x .dirty) (word ws 4) =
-    λ t. counted l2Lines (g t .dirty) (x .dirty) (c t) in
-    ap recordIn q ∙ count-l2 us (counted l2Lines (y .dirty) (x .dirty) (word us 4)) l ∙ (λ t. withCounts (s t) (s t .«dirty_l1d») (m t))
+unfolding withL2Line
+put-l2 ws us vs j v x y n e s q =
+    let m : counted l2Lines (y .dirty) (x .dirty) (recordIn us .«dirty_l2») ≡ counted l2Lines (l2LineAt (recordIn ws) j v .dirty) (x .dirty) (recordIn ws .«dirty_l2») =
+    λ t. counted l2Lines (e t .dirty) (x .dirty) (s t .«dirty_l2») in
+    ap recordIn (q ∙ ap (λ (k : ℕ). set us 4 (counted l2Lines (y .dirty) (x .dirty) k)) (dirty-l2-in us))
+    ∙ count-l2 us (counted l2Lines (y .dirty) (x .dirty) (recordIn us .«dirty_l2»)) n ∙ (λ t. withCounts (s t) (s t .«dirty_l1d») (m t))
 
 -- a line by its mark
 pub line-is : (x : Line) (f : ℕ) → (eqb (f % 65536) 1 || eqb (f % 65536) 257) ≡ x .valid → ltb 1 (f % 65536) ≡ x .dirty → lineIn f (x .address) ≡ x
@@ -474,7 +476,7 @@ order4-is o a b c d =
     let y₂ = ap (λ (n : ℕ). n % 256) y ∙ y₁ in let z₂ = ap (λ (n : ℕ). n % 256) z ∙ z₁ in let u₂ = ap (λ (n : ℕ). n % 256) u ∙ u₁ in
     λ t. record { first = x t; second = y₂ t; third = z₂ t; fourth = u₂ t }
 
--- ---- the first five words
+-- ---- the first three words
 pub l2len-in : (ws : List ℕ) → word ws 0 ≡ recordIn ws .l2len
 unfolding recordIn
 l2len-in ws = refl
@@ -506,11 +508,3 @@ mar129-in ws = refl
 pub frozen-in : (ws : List ℕ) → eqb (word ws 2 / 16777216 % 2) 1 ≡ recordIn ws .frozen
 unfolding recordIn
 frozen-in ws = refl
-
-pub dirty-l1d-in : (ws : List ℕ) → word ws 3 ≡ recordIn ws .«dirty_l1d»
-unfolding recordIn
-dirty-l1d-in ws = refl
-
-pub dirty-l2-in : (ws : List ℕ) → word ws 4 ≡ recordIn ws .«dirty_l2»
-unfolding recordIn
-dirty-l2-in ws = refl

@@ -5,7 +5,7 @@ ghost use mathlib.Core.Path.{_≡_};
 ghost use Prim.Native.Nat.{_%_, _/_, _<_, _≤_};
 ghost use lib.ListN.{length, set};
 ghost use Rattle.model.specs.Ways.{l1dFind, l2Find, l1dVictim, l2Victim};
-ghost use Rattle.model.specs.Lines.{l1dUse, l2Use};
+ghost use Rattle.model.specs.Lines.{l1dPut, l2Put, l1dUse, l2Use};
 ghost use Rattle.model.specs.Records.{l1dSetAt, l1dLineAt, l2LineAt, l2SetAt, withL1dSet, withL2Set, counted, withL1dLine, withL2Line};
 ghost use Rattle.tags.specs.Words.{recordWords, word, lineIn, order2In, order4In, recordIn};
 use geometry::L1d;
@@ -84,9 +84,30 @@ pub fn l2_line(tags: &[u32], j: usize, v: usize) -> Line
     line_of(tags[p], tags[p + 1])
 }
 
+// a line is stored, its count left alone
+pub fn l1d_store(tags: &mut [u32], i: usize, w: usize, x: Line)
+    requires { ⌜ ((i < 128) × (w < 2)) × (length (now tags) ≡ recordWords) ⌝ }
+    ensures { λ _. ⌜ recordIn (now (tags .exit))
+        ≡ withL1dSet (recordIn (now (tags .entry))) i (l1dPut (l1dSetAt (recordIn (now (tags .entry))) i) w x) ⌝ }
+{
+    let p = i * L1D_SET + w * 2 + HEAD;
+    tags[p] = mark_of(x);
+    tags[p + 1] = x.address;
+}
+
+pub fn l2_store(tags: &mut [u32], j: usize, v: usize, x: Line)
+    requires { ⌜ ((j < 512) × (v < 4)) × (length (now tags) ≡ recordWords) ⌝ }
+    ensures { λ _. ⌜ recordIn (now (tags .exit))
+        ≡ withL2Set (recordIn (now (tags .entry))) j (l2Put (l2SetAt (recordIn (now (tags .entry))) j) v x) ⌝ }
+{
+    let p = j * L2_SET + v * 2 + L2_FROM;
+    tags[p] = mark_of(x);
+    tags[p + 1] = x.address;
+}
+
 // The word `at` counts the dirty lines of a cache of `most` lines, one of which was dirty or not and now is or not. A
 // line that stays as it was stores nothing.
-pub fn count(tags: &mut [u32], at: usize, most: u32, was: bool, is: bool)
+fn count(tags: &mut [u32], at: usize, most: u32, was: bool, is: bool)
     requires { ⌜ at < length (now tags) ⌝ }
     ensures { λ _. ⌜ now (tags .exit) ≡ set (now (tags .entry)) at (counted most was is (word (now (tags .entry)) at)) ⌝ }
 {
@@ -111,14 +132,13 @@ pub fn count(tags: &mut [u32], at: usize, most: u32, was: bool, is: bool)
     tags[at] = n + 1;
 }
 
+// a line is put in place of another: the one place where a dirty mark changes, and a count with it
 pub fn l1d_put(tags: &mut [u32], i: usize, w: usize, x: Line)
     requires { ⌜ ((i < 128) × (w < 2)) × (length (now tags) ≡ recordWords) ⌝ }
     ensures { λ _. ⌜ recordIn (now (tags .exit)) ≡ withL1dLine (recordIn (now (tags .entry))) i w x ⌝ }
 {
     let y = l1d_line(tags, i, w);
-    let p = i * L1D_SET + w * 2 + HEAD;
-    tags[p] = mark_of(x);
-    tags[p + 1] = x.address;
+    l1d_store(tags, i, w, x);
     count(tags, L1D_COUNT, L1D_LINES, y.dirty, x.dirty);
 }
 
@@ -127,9 +147,7 @@ pub fn l2_put(tags: &mut [u32], j: usize, v: usize, x: Line)
     ensures { λ _. ⌜ recordIn (now (tags .exit)) ≡ withL2Line (recordIn (now (tags .entry))) j v x ⌝ }
 {
     let y = l2_line(tags, j, v);
-    let p = j * L2_SET + v * 2 + L2_FROM;
-    tags[p] = mark_of(x);
-    tags[p + 1] = x.address;
+    l2_store(tags, j, v, x);
     count(tags, L2_COUNT, L2_LINES, y.dirty, x.dirty);
 }
 

@@ -13,86 +13,68 @@ use Rattle.tags.proofs.count.Tie as tie
 use Rattle.tags.proofs.count.Reads as reads
 use Rattle.tags.proofs.count.Lts as lts
 
--- src/lib.rt:90:13
 returns : tie.Need-returns
 returns c =
     let a = c .before .before .args in let ws = a .tags .now in let n = word ws (a .at) in
     count-stays ws (a .at) _ (counted-same (a .most) n (a .was) (a .is) (c .before .if1 .taken ∙ sym (c .if2 .taken)))
 
--- src/lib.rt:92:17
 mul-n : tie.Need-mul-n
 mul-n c = search needs
 
--- src/lib.rt:92:17
 slice-read-n : tie.Need-slice-read-n
 slice-read-n c = search needs
 
--- src/lib.rt:94:13
 returns-2 : tie.Need-returns-2
 returns-2 c =
     let a = c .before .before .before .before .args in let ws = a .tags .now in let n = word ws (a .at) in
     let z : n ≡ 0 = c .if3 .taken in
     count-stays ws (a .at) _ (counted-less (a .most) n (a .was) (a .is) (c .before .before .before .if1 .taken) (c .before .before .if2 .left) ∙ omega arith)
 
--- src/lib.rt:96:20
 sub-tags : tie.Need-sub-tags
 sub-tags c = search needs
 
--- src/lib.rt:96:9
 mul-tags : tie.Need-mul-tags
 mul-tags c = search needs
 
--- src/lib.rt:96:9
 slice-write-tags : tie.Need-slice-write-tags
 slice-write-tags c = search needs
 
--- src/lib.rt:97:9
 same-length : tie.Need-same-length
 same-length c = search needs
 
--- src/lib.rt:97:9
 returns-3 : tie.Need-returns-3
 returns-3 c =
     let a = c .before .before .before .before .args in let ws = a .tags .now in let n = word ws (a .at) in
     ap (set ws (a .at)) (sym (counted-less (a .most) n (a .was) (a .is) (c .before .before .before .if1 .taken) (c .before .before .if2 .left)))
 
--- src/lib.rt:100:9
 returns-4 : tie.Need-returns-4
 returns-4 c =
     let a = c .before .before .args in let ws = a .tags .now in let n = word ws (a .at) in
     count-stays ws (a .at) _ (counted-same (a .most) n (a .was) (a .is) (c .before .if1 .left ∙ sym (not-true (a .is) (c .if4 .taken))))
 
--- src/lib.rt:102:13
 mul-n-2 : tie.Need-mul-n-2
 mul-n-2 c = search needs
 
--- src/lib.rt:102:13
 slice-read-n-2 : tie.Need-slice-read-n-2
 slice-read-n-2 c = search needs
 
--- src/lib.rt:104:9
 returns-5 : tie.Need-returns-5
 returns-5 c =
     let a = c .before .before .before .before .args in let ws = a .tags .now in let n = word ws (a .at) in
     count-stays ws (a .at) _ (counted-full (a .most) n (a .was) (a .is) (c .before .before .before .if1 .left) (not-false (a .is) (c .before .before .if4 .left)) (c .if5 .taken))
 
--- src/lib.rt:106:16
 add-tags : tie.Need-add-tags
 add-tags c = search needs
 
--- src/lib.rt:106:5
 mul-tags-2 : tie.Need-mul-tags-2
 mul-tags-2 c = search needs
 
--- src/lib.rt:106:5
 slice-write-tags-2 : tie.Need-slice-write-tags-2
 slice-write-tags-2 c = search needs
 
--- src/lib.rt:84:1
 same-length-2 : tie.Need-same-length-2
 same-length-2 c = search needs
 
--- src/lib.rt:84:1
 returns-6 : tie.Need-returns-6
 returns-6 c =
     let a = c .before .before .before .before .args in let ws = a .tags .now in let n = word ws (a .at) in
