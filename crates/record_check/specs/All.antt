@@ -1,6 +1,6 @@
 -- All sets, and the words as a whole: how a loop goes over the sets, what it has found at its end, and the number due.
 use Prim.Native.Nat.{ℕ, zero, suc, _+_, _-_, _/_, _%_, _≤_, _<_}
-use mathlib.Core.Bool.{Bool, true, false, _&&_, and-assoc, and-false}
+use mathlib.Core.Bool.{Bool, true, false, _&&_, and-assoc, and-true, and-false}
 use mathlib.Core.List.{List}
 use mathlib.Core.Path.{_≡_, refl, sym, ap, _∙_}
 use native.Mathlib.Omega.{arith}
@@ -9,13 +9,16 @@ use lib.ListN.{length}
 use lib.Dec.{ltb, leb, eqb}
 use Rattle.model.specs.Basics.{allIndexed}
 use Rattle.model.specs.Memories.{legalL2, legalExternal, isMode, cacheSize, sramLength}
-use Rattle.model.specs.Records.{state, legalSizes, wellFormed, l1dSetOk, l2SetOk, sramOf, l2SetsOf}
+use Rattle.model.specs.Records.{state, legalSizes, countsOk, wellFormed, l1dSetOk, l2SetOk, sramOf, l2SetsOf}
 use Rattle.model.specs.Refusals.{lowestDue, unless, lentL1d, lentL2, lentExternal, lentDue}
 use Rattle.model.specs.Laws.{bool, both-true}
 use Rattle.record_check.specs.Idle.{sizes-legal}
 use Rattle.tags.specs.Words.{word, l1dIn, l2In, recordIn, bitsIn, l2len-in, extlen-in, mode-good, mode-bad}
 use Rattle.lists.specs.Listed.{listed}
-use Rattle.record_check.specs.Lent.{allFrom, l1dOkIn, l2OkIn}
+use Rattle.record_check.specs.Lent.{allFrom, dirtyFrom, l1dOkIn, l2OkIn, l1dLinesIn, l2LinesIn, l1dAllIn, l2FirstIn}
+use Rattle.record_check.specs.Counts.{dirty-listed, used-all}
+use Rattle.model.specs.declared.L1dSet.{L1dSet}
+use Rattle.model.specs.declared.L2Set.{L2Set}
 
 -- ---- a loop that goes up to n
 module _ (p : ℕ → Bool) (i n : ℕ) where
@@ -52,6 +55,19 @@ all-parts p k (suc m) n =
     ap (allFrom p k) z ∙ ap (λ (b : Bool). p k && b) (all-parts p (suc k) m n ∙ ap (λ (i : ℕ). allFrom p (suc k) m && allFrom p i n) e)
     ∙ sym (and-assoc (p k) (allFrom p (suc k) m) (allFrom p (k + suc m) n))
 
+-- ---- each count beside its sets; of the count d of all of L2 only where the last sets (v) pass
+reordered : (h a u v c d e : Bool) → (v ≡ true → d ≡ e) → (h && (a && ((u && v) && (c && d)))) ≡ (h && ((a && c) && ((u && e) && v)))
+reordered false a u v c d e f = refl
+reordered true false u v c d e f = refl
+reordered true true u false c d e f = rw (and-false u, and-false (u && e), and-false c) refl
+reordered true true false true c d e f = rw (and-false c) refl
+reordered true true true true c d e f = rw (f refl) (rw (and-true e) refl)
+
+l1d-off : (h a l c d : Bool) → (a && c) ≡ false → (h && (a && (l && (c && d)))) ≡ false
+l1d-off false a l c d e = refl
+l1d-off true false l c d e = refl
+l1d-off true true l c d e = rw (e, and-false l) refl
+
 -- ---- the words
 module _ (ws : List ℕ) where
   l1d-listed : allIndexed (l1dSetOk (recordIn ws)) 0 (recordIn ws .l1d) ≡ allFrom (λ i. l1dSetOk (recordIn ws) i (l1dIn ws i)) 0 128
@@ -62,9 +78,33 @@ module _ (ws : List ℕ) where
   unfolding recordIn
   l2-listed = all-listed (l2SetOk (recordIn ws)) (l2In ws) 0 512
 
-  pub well-in : wellFormed (recordIn ws) ≡ (legalSizes (recordIn ws) && (allFrom (l1dOkIn ws) 0 128 && allFrom (l2OkIn ws) 0 512))
+  counts-listed : countsOk (recordIn ws) ≡ (eqb (word ws 3) (dirtyFrom (l1dLinesIn ws) 0 128) && eqb (word ws 4) (dirtyFrom (l2LinesIn ws) 0 512))
+  unfolding countsOk recordIn
+  counts-listed =
+      let a = dirty-listed (λ (v : L1dSet). v .lines) (l1dIn ws) 0 128 in let b = dirty-listed (λ (v : L2Set). v .lines) (l2In ws) 0 512 in
+      λ t. eqb (word ws 3) (a t) && eqb (word ws 4) (b t)
+
+  well-in : wellFormed (recordIn ws) ≡ (legalSizes (recordIn ws) && (allFrom (l1dOkIn ws) 0 128 && (allFrom (l2OkIn ws) 0 512 &&
+      (eqb (word ws 3) (dirtyFrom (l1dLinesIn ws) 0 128) && eqb (word ws 4) (dirtyFrom (l2LinesIn ws) 0 512)))))
   unfolding wellFormed l1dOkIn l2OkIn
-  well-in = λ t. legalSizes (recordIn ws) && (l1d-listed t && l2-listed t)
+  well-in = λ t. legalSizes (recordIn ws) && (l1d-listed t && (l2-listed t && counts-listed t))
+
+  -- the sets in use with the count of L2, then the others
+  in-parts : (sets : ℕ) → sets ≤ 512 → l2SetsOf (recordIn ws) ≤ sets →
+      wellFormed (recordIn ws) ≡ (legalSizes (recordIn ws) && (l1dAllIn ws && (l2FirstIn ws sets && allFrom (l2OkIn ws) sets (512 - sets))))
+  unfolding l1dAllIn l2FirstIn
+  in-parts sets h l =
+      let s : 512 ≡ sets + (512 - sets) = omega arith in
+      let z : 0 + sets ≡ sets = omega arith in
+      let v = allFrom (l2OkIn ws) sets (512 - sets) in
+      let p : allFrom (l2OkIn ws) 0 512 ≡ (allFrom (l2OkIn ws) 0 sets && v) =
+      ap (allFrom (l2OkIn ws) 0) s ∙ all-parts (l2OkIn ws) 0 sets (512 - sets) ∙ (λ k. allFrom (l2OkIn ws) 0 sets && allFrom (l2OkIn ws) (z k) (512 - sets)) in
+      well-in
+      ∙ ap (λ (b : Bool). legalSizes (recordIn ws) && (allFrom (l1dOkIn ws) 0 128 && (b &&
+      (eqb (word ws 3) (dirtyFrom (l1dLinesIn ws) 0 128) && eqb (word ws 4) (dirtyFrom (l2LinesIn ws) 0 512))))) p
+      ∙ reordered (legalSizes (recordIn ws)) (allFrom (l1dOkIn ws) 0 128) (allFrom (l2OkIn ws) 0 sets) v (eqb (word ws 3) (dirtyFrom (l1dLinesIn ws) 0 128))
+      (eqb (word ws 4) (dirtyFrom (l2LinesIn ws) 0 512)) (eqb (word ws 4) (dirtyFrom (l2LinesIn ws) 0 sets))
+      (λ e. ap (eqb (word ws 4)) (used-all ws sets h l e))
 
   -- S and the number of L2 sets, from the words; b: the rest of the head's test
   module _ (b : Bool) (t : (bitsIn (word ws 2) && b) ≡ true) where
@@ -101,17 +141,17 @@ module _ (ws : List ℕ) where
     pub well-head : head ≡ false → false ≡ wellFormed (recordIn ws)
     well-head t = sym (well-in ∙ rw (sym head-joined ∙ t) refl)
 
-    module _ (t : head ≡ true) (b : Bool) (eb : b ≡ allFrom (l1dOkIn ws) 0 128) where
+    module _ (t : head ≡ true) (b : Bool) (eb : b ≡ l1dAllIn ws) where
       pub well-l1d : b ≡ false → false ≡ wellFormed (recordIn ws)
-      well-l1d f = sym (well-in ∙ rw (sym head-joined ∙ t, sym eb ∙ f) refl)
+      unfolding l1dAllIn
+      well-l1d f =
+          sym (well-in
+          ∙ l1d-off (legalSizes (recordIn ws)) (allFrom (l1dOkIn ws) 0 128) (allFrom (l2OkIn ws) 0 512) (eqb (word ws 3) (dirtyFrom (l1dLinesIn ws) 0 128))
+          (eqb (word ws 4) (dirtyFrom (l2LinesIn ws) 0 512)) (sym eb ∙ f))
 
-      module _ (f : b ≡ true) (sets : ℕ) (h : sets ≤ 512) (u : Bool) (eu : u ≡ allFrom (l2OkIn ws) 0 sets) where
+      module _ (f : b ≡ true) (sets : ℕ) (h : sets ≤ 512) (u : Bool) (eu : u ≡ l2FirstIn ws sets) (es : sets ≡ l2SetsOf (recordIn ws)) where
         left : wellFormed (recordIn ws) ≡ (u && allFrom (l2OkIn ws) sets (512 - sets))
-        left =
-            let s : 512 ≡ sets + (512 - sets) = omega arith in
-            let z : 0 + sets ≡ sets = omega arith in
-            well-in ∙ rw (sym head-joined ∙ t, sym eb ∙ f) refl ∙ ap (allFrom (l2OkIn ws) 0) s ∙ all-parts (l2OkIn ws) 0 sets (512 - sets)
-            ∙ (λ k. sym eu k && allFrom (l2OkIn ws) (z k) (512 - sets))
+        left = in-parts sets h (omega arith) ∙ rw (sym head-joined ∙ t, sym eb ∙ f, ← eu) refl
 
         pub well-used : u ≡ false → false ≡ wellFormed (recordIn ws)
         well-used g = sym (left ∙ rw g refl)

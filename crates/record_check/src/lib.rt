@@ -5,10 +5,10 @@
 ghost use mathlib.Core.Path.{_≡_};
 ghost use Prim.Native.Nat.{_-_, _≤_, _<_};
 ghost use lib.ListN.{length};
-ghost use Rattle.model.specs.Records.{permuted4, wellFormed, sramOf, l2SetsOf};
+ghost use Rattle.model.specs.Records.{dirtyLines, permuted4, wellFormed, sramOf, l2SetsOf};
 ghost use Rattle.model.specs.Refusals.{lentDue};
 ghost use Rattle.tags.specs.Words.{recordWords, recordIn, stateIn};
-ghost use Rattle.record_check.specs.Lent.{allFrom, onceIn, l1dOkIn, l2OkIn};
+ghost use Rattle.record_check.specs.Lent.{allFrom, onceIn, l1dOkIn, l2OkIn, dirtyMark, l1dLinesIn, l2LinesIn, l1dAllIn, l2FirstIn};
 use geometry::L1d;
 use geometry::L2;
 use model::Order4;
@@ -89,31 +89,58 @@ fn l2_idle(tags: &[u32], j: usize) -> bool
     (front & back) & (tags[p + 8] == 66051)
 }
 
-// ---- all sets
+// ---- how many lines of a set are dirty: 1 for the mark f of a dirty line, else 0
+fn dirty(f: u32) -> u32
+    ensures { λ n. ⌜ (n ≡ dirtyMark f) × (n ≤ 1) ⌝ }
+{
+    if 1 < f % 65536 { 1 } else { 0 }
+}
+
+fn l1d_dirty(tags: &[u32], i: usize) -> u32
+    requires { ⌜ (i < 128) × (length (now tags) ≡ recordWords) ⌝ }
+    ensures { λ n. ⌜ (n ≡ dirtyLines (l1dLinesIn (now (tags .entry)) i)) × (n ≤ 2) ⌝ }
+{
+    let p = i * tags::L1D_SET + tags::HEAD;
+    dirty(tags[p]) + dirty(tags[p + 2])
+}
+
+fn l2_dirty(tags: &[u32], j: usize) -> u32
+    requires { ⌜ (j < 512) × (length (now tags) ≡ recordWords) ⌝ }
+    ensures { λ n. ⌜ (n ≡ dirtyLines (l2LinesIn (now (tags .entry)) j)) × (n ≤ 4) ⌝ }
+{
+    let p = j * tags::L2_SET + tags::L2_FROM;
+    dirty(tags[p]) + dirty(tags[p + 2]) + dirty(tags[p + 4]) + dirty(tags[p + 6])
+}
+
+// ---- all sets; the count of dirty lines is the sum over them
 fn l1d_all(tags: &[u32], sram: usize, sets: usize) -> bool
     requires { ⌜ length (now tags) ≡ recordWords ⌝ }
     requires { ⌜ (sram ≡ sramOf (recordIn (now tags))) × (sets ≡ l2SetsOf (recordIn (now tags))) ⌝ }
-    ensures { λ b. ⌜ b ≡ allFrom (l1dOkIn (now (tags .entry))) 0 128 ⌝ }
+    ensures { λ b. ⌜ b ≡ l1dAllIn (now (tags .entry)) ⌝ }
 {
+    let mut n: u32 = 0;
     for i in 0..L1d::SETS {
         if l1d_set(tags, i, sram, sets) {} else {
             return false;
         }
+        n += l1d_dirty(tags, i);
     }
-    true
+    tags[tags::L1D_COUNT] == n
 }
 
 fn l2_used_all(tags: &[u32], sets: usize) -> bool
     requires { ⌜ (sets ≤ 512) × (length (now tags) ≡ recordWords) ⌝ }
     requires { ⌜ sets ≡ l2SetsOf (recordIn (now tags)) ⌝ }
-    ensures { λ b. ⌜ b ≡ allFrom (l2OkIn (now (tags .entry))) 0 sets ⌝ }
+    ensures { λ b. ⌜ b ≡ l2FirstIn (now (tags .entry)) sets ⌝ }
 {
+    let mut n: u32 = 0;
     for j in 0..sets {
         if l2_used(tags, j, sets) {} else {
             return false;
         }
+        n += l2_dirty(tags, j);
     }
-    true
+    tags[tags::L2_COUNT] == n
 }
 
 fn l2_idle_all(tags: &[u32], sets: usize) -> bool

@@ -1,30 +1,50 @@
--- `record_check::l2_used_all` meets its contract: the sets passed so far are in order. Assumes nothing.
-use Rattle.record_check.specs.Lent.{allFrom, l2OkIn}
+-- `record_check::l2_used_all` meets its contract: the sets passed so far are in order, and their dirty lines counted. Assumes
+-- nothing.
+use Rattle.record_check.specs.Lent.{allFrom, dirtyFrom, l2OkIn, l2LinesIn, l2FirstIn}
 use Rattle.record_check.specs.All.{from-next, from-stop, from-end, from-first}
+use Rattle.record_check.specs.Counts.{count-first, count-next, count-end}
+use Rattle.tags.specs.Words.{word}
 use native.Mathlib.Omega.{arith}
-use Prim.Native.Nat.{_≤_, _-_}
-use mathlib.Core.Path.{_≡_, sym, _∙_}
+use lib.Dec.{eqb}
+use Prim.Native.Nat.{_≤_, _-_, _+_, _*_}
+use mathlib.Core.Bool.{Bool, _&&_}
+use mathlib.Core.Path.{_≡_, refl, sym, ap, _∙_}
 use borrow.Author.Needs.{needs}
 use Rattle.record_check.proofs.l2_used_all.Statement.{statement}
 use Rattle.record_check.proofs.l2_used_all.Tie as tie
+use Rattle.record_check.proofs.l2_used_all.Reads as reads
+use Rattle.record_check.proofs.l2_used_all.Lts as lts
+use Rattle.record_check.proofs.l2_dirty.Reads as l2-dirty-reads
+use Rattle.record_check.proofs.l2_used.Reads as l2-used-reads
 
 abbrev Inv-loop : tie.InvT-loop
-Inv-loop tags sets j₀ j = (j ≤ sets) × (allFrom (l2OkIn tags) j (sets - j) ≡ allFrom (l2OkIn tags) 0 sets)
+Inv-loop tags sets n₀ j₀ n j =
+    ((j ≤ sets) × (n ≤ 4 * j)) × ((allFrom (l2OkIn tags) j (sets - j) ≡ allFrom (l2OkIn tags) 0 sets) ×
+    (n + dirtyFrom (l2LinesIn tags) j (sets - j) ≡ dirtyFrom (l2LinesIn tags) 0 sets))
 
 abbrev μ-loop : tie.MeasureT-loop
-μ-loop tags sets j₀ j = sets - j
+μ-loop tags sets n₀ j₀ n j = sets - j
 
 loop-holds : tie.Need-loop-holds Inv-loop μ-loop
-loop-holds c = (search needs, from-first (l2OkIn (c .before .args .tags .now)) (c .before .args .sets))
+loop-holds c =
+    let a = c .before .args in
+    ((omega arith, omega arith), (from-first (l2OkIn (a .tags .now)) (a .sets), count-first (l2LinesIn (a .tags .now)) (a .sets)))
 
 l2-used-requires : tie.Need-l2-used-requires Inv-loop μ-loop
 l2-used-requires c κs = search needs
 
 returns : tie.Need-returns Inv-loop μ-loop
+unfolding l2FirstIn
 returns c =
-    let p-loop = c .before .before .before in let p-start = p-loop .before .before in
-    let a = p-start .args in
-    from-stop (l2OkIn (a .tags .now)) (p-loop .loop .j) (a .sets) (allFrom (l2OkIn (a .tags .now)) 0 (a .sets)) (p-loop .loop .inv .1) (c .before .before .loop-test .taken) (sym (c .before .l2-used .ensures) ∙ c .if1 .left)
+    let p-loop = c .before .before .before in let a = p-loop .before .before .args in let ws = a .tags .now in
+    ap (λ (b : Bool). b && eqb (word ws 4) (dirtyFrom (l2LinesIn ws) 0 (a .sets)))
+    (from-stop (l2OkIn ws) (p-loop .loop .j) (a .sets) (allFrom (l2OkIn ws) 0 (a .sets)) (p-loop .loop .inv .1 .0) (c .before .before .loop-test .taken) (sym (c .before .l2-used .ensures) ∙ c .if1 .left))
+
+l2-dirty-requires : tie.Need-l2-dirty-requires Inv-loop μ-loop
+l2-dirty-requires c κs = search needs
+
+add-n : tie.Need-add-n Inv-loop μ-loop
+add-n c = omega (arith, c .l2-dirty .ensures .1, c .before .before .before .before .loop .inv .0 .1)
 
 add-j : tie.Need-add-j Inv-loop μ-loop
 add-j c = search needs
@@ -34,14 +54,25 @@ loop-less c = search needs
 
 loop-again : tie.Need-loop-again Inv-loop μ-loop
 loop-again c =
-    let p-loop = c .before .before .before in let p-start = p-loop .before .before in
-    let a = p-start .args in let t = c .before .before .loop-test .taken in
-    (omega arith, from-next (l2OkIn (a .tags .now)) (p-loop .loop .j) (a .sets) (allFrom (l2OkIn (a .tags .now)) 0 (a .sets)) (p-loop .loop .inv .1) t (sym (c .before .l2-used .ensures) ∙ c .if1 .taken))
+    let p-loop = c .before .before .before .before in let a = p-loop .before .before .args in let ws = a .tags .now in
+    let t = c .before .before .before .loop-test .taken in (
+      (omega arith, omega (arith, c .l2-dirty .ensures .1, p-loop .loop .inv .0 .1)),
+      (
+        from-next (l2OkIn ws) (p-loop .loop .j) (a .sets) (allFrom (l2OkIn ws) 0 (a .sets)) (p-loop .loop .inv .1 .0) t (sym (c .before .before .l2-used .ensures) ∙ c .before .if1 .taken),
+        count-next (l2LinesIn ws) (p-loop .loop .j) (a .sets) (p-loop .loop .n) (c .l2-dirty .result) (dirtyFrom (l2LinesIn ws) 0 (a .sets)) (p-loop .loop .inv .1 .1) t (c .l2-dirty .ensures .0),
+      ),
+    )
+
+shared-slice-read-result : tie.Need-shared-slice-read-result Inv-loop μ-loop
+shared-slice-read-result c = search needs
 
 returns-2 : tie.Need-returns-2 Inv-loop μ-loop
+unfolding l2FirstIn
 returns-2 c =
-    let a = c .before .before .before .args in
-    from-end (l2OkIn (a .tags .now)) (c .before .loop .j) (a .sets) (allFrom (l2OkIn (a .tags .now)) 0 (a .sets)) (c .before .loop .inv .1) (omega arith)
+    let p-loop = c .before .before in let a = p-loop .before .before .args in let ws = a .tags .now in
+    let e = from-end (l2OkIn ws) (p-loop .loop .j) (a .sets) (allFrom (l2OkIn ws) 0 (a .sets)) (p-loop .loop .inv .1 .0) (omega arith) in
+    let d = count-end (l2LinesIn ws) (p-loop .loop .j) (a .sets) (p-loop .loop .n) (dirtyFrom (l2LinesIn ws) 0 (a .sets)) (p-loop .loop .inv .1 .1) (omega arith) in
+    λ t. e t && eqb (word ws 4) (d t)
 
 pub l2-used-all-spec : {M : Type 1} → statement M
 l2-used-all-spec =
@@ -52,7 +83,10 @@ l2-used-all-spec =
     loop-holds
     l2-used-requires
     returns
+    l2-dirty-requires
+    add-n
     add-j
     loop-less
     loop-again
+    shared-slice-read-result
     returns-2)

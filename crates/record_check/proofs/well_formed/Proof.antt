@@ -1,5 +1,5 @@
--- `record_check::well_formed` meets its contract: the sizes, the sets of L1D, those of L2 in use, the others. Assumes
--- nothing.
+-- `record_check::well_formed` meets its contract: the sizes, the sets of L1D and their count, those of L2 in use and
+-- theirs, the others. Assumes nothing.
 use Rattle.model.specs.Memories.{legalL2, legalExternal}
 use Rattle.record_check.specs.All.{sram-is, sets-is, sets-few, well-head, well-l1d, well-used, well-last}
 use Prim.Native.Nat.{_/_}
@@ -86,7 +86,8 @@ returns-3 c =
     let p-start = p-cache-size .before .before .before .before in
     well-used (p-start .args .tags .now) (p-legal-l2 .legal-l2 .result) (p-legal-external .legal-external .result) (p-is-mode .is-mode .result) (p-cache-size .cache-size .result)
     (p-legal-l2 .legal-l2 .ensures ∙ ap legalL2 (p-wide .wide .ensures)) (p-legal-external .legal-external .ensures ∙ ap legalExternal (p-wide2 .wide2 .ensures)) (p-is-mode .is-mode .ensures) (p-cache-size .cache-size .ensures .0)
-    (p-if1 .if1 .taken) (p-l1d-all .l1d-all .result) (p-l1d-all .l1d-all .ensures) (c .before .before .if2 .taken) (p-cache-size .cache-size .result / 512) (sets-few (p-start .args .tags .now) (p-cache-size .cache-size .result) (p-cache-size .cache-size .ensures .1)) (c .before .l2-used-all .result) (c .before .l2-used-all .ensures) (c .if3 .left)
+    (p-if1 .if1 .taken) (p-l1d-all .l1d-all .result) (p-l1d-all .l1d-all .ensures) (c .before .before .if2 .taken) (p-cache-size .cache-size .result / 512) (sets-few (p-start .args .tags .now) (p-cache-size .cache-size .result) (p-cache-size .cache-size .ensures .1)) (c .before .l2-used-all .result) (c .before .l2-used-all .ensures)
+    (sets-is (p-start .args .tags .now) _ (p-if1 .if1 .taken) (p-cache-size .cache-size .result) (p-cache-size .cache-size .ensures .0)) (c .if3 .left)
 
 l2-idle-all-requires : tie.Need-l2-idle-all-requires
 l2-idle-all-requires c κs =
@@ -106,6 +107,7 @@ returns-4 c =
     well-last (p-start .args .tags .now) (p-legal-l2 .legal-l2 .result) (p-legal-external .legal-external .result) (p-is-mode .is-mode .result) (p-cache-size .cache-size .result)
     (p-legal-l2 .legal-l2 .ensures ∙ ap legalL2 (p-wide .wide .ensures)) (p-legal-external .legal-external .ensures ∙ ap legalExternal (p-wide2 .wide2 .ensures)) (p-is-mode .is-mode .ensures) (p-cache-size .cache-size .ensures .0)
     (p-if1 .if1 .taken) (p-l1d-all .l1d-all .result) (p-l1d-all .l1d-all .ensures) (p-if2 .if2 .taken) (p-cache-size .cache-size .result / 512) (sets-few (p-start .args .tags .now) (p-cache-size .cache-size .result) (p-cache-size .cache-size .ensures .1)) (c .before .before .l2-used-all .result) (c .before .before .l2-used-all .ensures)
+    (sets-is (p-start .args .tags .now) _ (p-if1 .if1 .taken) (p-cache-size .cache-size .result) (p-cache-size .cache-size .ensures .0))
     (c .before .if3 .taken) (c .l2-idle-all .result) (c .l2-idle-all .ensures)
 
 pub well-formed-spec : {M : Type 1} → statement M
