@@ -314,7 +314,7 @@ fresh-matches l e hl he =
     let p = legalL2-tells l hl in
     let x = legalExternal-tells (length e) he in
     record {
-      good = fresh-good (freshState l e) (Is (freshFlat l e)) refl refl
+      good = fresh-good (freshState l e) (Is (freshFlat l e)) refl refl refl refl
           (record {
             l1dLength = length-replicate {A = ℕ} 16384 0;
             l2Length = n;

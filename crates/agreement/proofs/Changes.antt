@@ -19,7 +19,7 @@ use Rattle.model.specs.Basics.{anyOf}
 use Rattle.model.specs.Bytes.{zeroFrom}
 use Rattle.model.specs.Memories.{externalBase, cacheSize, isMode, sramLength}
 use Rattle.model.specs.Lines.{emptyLine, Permutation2, Permutation4}
-use Rattle.model.specs.Records.{State, sramOf, covers, marBit, noL2Set, l1dLineAt, l2LineAt, freshL1dSet, freshL2Set}
+use Rattle.model.specs.Records.{State, sramOf, covers, marBit, noL2Set, l1dLineAt, l2LineAt, dirtyLines, dirtyIn, freshL1dSet, freshL2Set}
 use Rattle.model.specs.Modes.{smaller, newMode, changeMar, changeFreeze}
 use Rattle.model.specs.Refusals.{inRange, holdsRange}
 use Rattle.model.specs.Laws.{bool, false-true}
@@ -29,7 +29,7 @@ use Rattle.model.specs.declared.L2Set.{L2Set}
 use Rattle.model.specs.declared.Record.{Record}
 use Rattle.agreement.proofs.Level.{Valid, NoDirty}
 use Rattle.agreement.proofs.Invariant.{Allowed, carry, Inside}
-use Rattle.agreement.proofs.Tables.{l1dStore, l2Store, fresh-line, fresh-table, none-found}
+use Rattle.agreement.proofs.Tables.{l1dStore, l2Store, fresh-line, fresh-table, count-fresh, none-found}
 use Rattle.agreement.proofs.Memory.{memory-low, memory-high}
 use Rattle.agreement.proofs.Good.{layoutOf, l1dLevel, l2Level, memoryOf, Sizes, sizes-new, Good}
 
@@ -105,11 +105,20 @@ fresh-l1d-none r e s w = rw e (ap (λ (l : Line). l .valid) (fresh-line l1dStore
 pub fresh-l2-none : (r : Record) → r .l2 ≡ replicate 512 freshL2Set → (t v : ℕ) → l2LineAt r t v .valid ≡ false
 fresh-l2-none r e t v = rw e (ap (λ (l : Line). l .valid) (fresh-line l2Store freshL2Set 512 l2-fresh t v))
 
--- ---- a state with fresh sets is good where the memories are right
+-- ---- of a fresh set no line is dirty
+clean₁ : dirtyLines (freshL1dSet .lines) ≡ 0
+unfolding dirtyLines
+clean₁ = refl
+
+clean₂ : dirtyLines (freshL2Set .lines) ≡ 0
+unfolding dirtyLines
+clean₂ = refl
+
+-- ---- a state with fresh sets, none of whose lines counts as dirty, is good where the memories are right
 pub fresh-good : (z : State) (F : Allowed) → z .rec .l1d ≡ replicate 128 freshL1dSet → z .rec .l2 ≡ replicate 512 freshL2Set →
-    Sizes (z .rec .l2len) (z .rec .extlen) (z .rec .mode) (z .l1d) (z .l2) (z .ext) →
+    z .rec .«dirty_l1d» ≡ 0 → z .rec .«dirty_l2» ≡ 0 → Sizes (z .rec .l2len) (z .rec .extlen) (z .rec .mode) (z .l1d) (z .l2) (z .ext) →
     ((a : ℕ) → Inside (layoutOf (z .rec)) a → F .right a (memoryOf z a)) → Good z F
-fresh-good z F e₁ e₂ sizes h =
+fresh-good z F e₁ e₂ c₁ c₂ sizes h =
     let v₁ = fresh-l1d-none (z .rec) e₁ in
     let v₂ = fresh-l2-none (z .rec) e₂ in
     record {
@@ -118,6 +127,8 @@ fresh-good z F e₁ e₂ sizes h =
         l1d = rw e₁ (fresh-table l1dStore freshL1dSet 128 l1d-fresh refl refl l1d-fresh-order);
         l2 = rw e₂ (fresh-table l2Store freshL2Set 512 l2-fresh refl refl l2-fresh-order);
         idle = λ t k _. rw e₂ (getD-replicate 512 t freshL2Set noL2Set k);
+        l1dCount = c₁ ∙ sym (ap (dirtyIn (λ (v : L1dSet). v .lines)) e₁ ∙ count-fresh (λ (v : L1dSet). v .lines) freshL1dSet clean₁ 128);
+        l2Count = c₂ ∙ sym (ap (dirtyIn (λ (v : L2Set). v .lines)) e₂ ∙ count-fresh (λ (v : L2Set). v .lines) freshL2Set clean₂ 512);
       };
       inv = record {
         l1dSound = record { once = λ s w s′ w′ k. false-true (sym (v₁ s w) ∙ k); place = λ s w k. false-true (sym (v₁ s w) ∙ k) };
@@ -153,7 +164,7 @@ module _ (z : State) (F F′ : Allowed) (q : Good z F) (m : ℕ) (ok : isMode m 
       let hk : k ≤ length (z .l2) = omega arith in
       let c₁ : (a : ℕ) → NoDirty 64 (l1dLevel z) a = λ a s w i _ _. l1dNone s w i in
       let c₂ : (a : ℕ) → NoDirty 128 (l2Level z) a = λ a t v i d _. false-true (sym (l2Clean t v i) ∙ d) in
-      fresh-good (newMode m z) F′ refl refl
+      fresh-good (newMode m z) F′ refl refl refl refl
       (sizes-new h m ok hm (z .l1d) l′ (z .ext) refl (zero-length k (z .l2) (length (z .l2)) hk hk) refl)
       (λ a i. bool (ltb a externalBase)
       (λ t. let b = ltb-true a externalBase t in
@@ -209,7 +220,7 @@ module _ (z : State) (F : Allowed) (q : Good z F) (n b : ℕ) (allowed : (b ≡ 
   changeMar-good =
       let h = q .tidy in let v = q .inv in let mx = h .sizes .extMost in
       record {
-        tidy = record { sizes = h .sizes; l1d = h .l1d; l2 = h .l2; idle = h .idle };
+        tidy = record { sizes = h .sizes; l1d = h .l1d; l2 = h .l2; idle = h .idle; l1dCount = h .l1dCount; l2Count = h .l2Count };
         inv = record {
           l1dSound = record {
             once = v .l1dSound .once;
@@ -254,4 +265,4 @@ pub changeFreeze-good : (z : State) (F : Allowed) → Good z F → (b : ℕ) →
 unfolding changeFreeze marBit
 changeFreeze-good z F q b =
     let h = q .tidy in
-    record { tidy = record { sizes = h .sizes; l1d = h .l1d; l2 = h .l2; idle = h .idle }; inv = q .inv }
+    record { tidy = record { sizes = h .sizes; l1d = h .l1d; l2 = h .l2; idle = h .idle; l1dCount = h .l1dCount; l2Count = h .l2Count }; inv = q .inv }

@@ -90,7 +90,7 @@ emptyL1d-dropped z h s w hs hw =
     record {
       dropped = record {
         step = record {
-          good = well z′ (l1d-tidy z (h .tidy) s w emptyLine (z .l1d) (z .l2) (z .ext) (λ _. refl) refl refl refl)
+          good = well z′ (l1d-tidy z (h .tidy) s w emptyLine (z .l1d) (z .l2) (z .ext) hs hw (λ _. refl) refl refl refl)
               (emptied-sound 64 (l1dLevel z) (l1dLevel z′) s w u (L1dPlaced (layoutOf (z .rec))) (h .inv .l1dSound)) (h .inv .l2Sound)
               (emptied-inclusion (layoutOf (z .rec)) (l1dLevel z) (l2Level z) (memoryOf z) Anything (h .inv) (l1dLevel z′) s w u);
           kept = record { mode = refl; layout = refl; l2len = refl };
@@ -133,7 +133,7 @@ emptyL2-dropped z h t v ht hv c =
     = l2-replaced z (h .tidy) t v emptyLine (z .l1d) (z .l2) (z .ext) ht hv (λ _ _ _ _ _ _. refl) in
     record {
       step = record {
-        good = well z′ (l2-tidy z (h .tidy) t v emptyLine (z .l1d) (z .l2) (z .ext) ht (λ _. refl) refl refl refl)
+        good = well z′ (l2-tidy z (h .tidy) t v emptyLine (z .l1d) (z .l2) (z .ext) ht hv (λ _. refl) refl refl refl)
             (h .inv .l1dSound)
             (emptied-sound 128 (l2Level z) (l2Level z′) t v u (L2Placed (layoutOf (z .rec))) (h .inv .l2Sound))
             (λ s w k b n.

@@ -88,7 +88,7 @@ module _ (z : State) (F : Allowed) (q : Good z F) (s w : ℕ) (hs : s < 128) (hw
       record {
         left = record {
           good = record {
-            tidy = l1d-tidy z (q .tidy) s w emptyLine (z .l1d) (z .l2) (z .ext) (λ _. refl) refl refl refl;
+            tidy = l1d-tidy z (q .tidy) s w emptyLine (z .l1d) (z .l2) (z .ext) hs hw (λ _. refl) refl refl refl;
             inv = l1d-dropped (layoutOf (z .rec)) (l1dLevel z) (l2Level z) (memoryOf z) F (q .inv) (l1dLevel (emptyL1d s w z)) s w u c;
           };
           kept = record { mode = refl; layout = refl; l2len = refl };
@@ -137,7 +137,7 @@ module _ (z : State) (F : Allowed) (q : Good z F) (s w : ℕ) (hs : s < 128) (hw
       record {
         left = record {
           good = record {
-            tidy = l1d-tidy z (q .tidy) s w emptyLine (z .l1d) m′ e′ (λ _. refl) refl (low-length (z .l2) bs b) (high-length (z .ext) bs b);
+            tidy = l1d-tidy z (q .tidy) s w emptyLine (z .l1d) m′ e′ hs hw (λ _. refl) refl (low-length (z .l2) bs b) (high-length (z .ext) bs b);
             inv = invariant-same (layoutOf (z .rec)) (l1dLevel z′) (l2Level z) (memoryOf z′) F i₁ (l1dLevel z′) (l2Level z′) (memoryOf z′)
                 (λ _ _. refl) (λ _ _ _ _ _. refl) (λ _ _. refl)
                 (λ t v k₂ i h. memory-keeps-l2 z F q b bs (λ g. let c = p .low g in omega arith) (l2Data (z .rec) t v + i) (omega arith))
@@ -171,7 +171,7 @@ module _ (z : State) (F : Allowed) (q : Good z F) (s w : ℕ) (hs : s < 128) (hw
       let ml : length m′ ≡ length (z .l2) = length-stored (z .l2) bs (l2Data (z .rec) t v + o) in
       let z₁ = putL2 t v a bs z in
       let z′ = emptyL1d s w z₁ in
-      let q₁ : Tidy z₁ = l2-tidy z (q .tidy) t v l (z .l1d) m′ (z .ext) ht (λ x. false-true (sym x)) refl ml refl in
+      let q₁ : Tidy z₁ = l2-tidy z (q .tidy) t v l (z .l1d) m′ (z .ext) ht hv (λ x. false-true (sym x)) refl ml refl in
       let u₁ : Replaced 64 (l1dLevel z) (l1dLevel z′) s w emptyLine
       = l1d-replaced z₁ q₁ s w emptyLine (z .l1d) m′ (z .ext) hs hw (λ _ _ _ _ _ _. refl) in
       let u₂ : Replaced 128 (l2Level z) (l2Level z′) t v l =
@@ -185,7 +185,7 @@ module _ (z : State) (F : Allowed) (q : Good z F) (s w : ℕ) (hs : s < 128) (hw
       record {
         left = record {
           good = record {
-            tidy = l1d-tidy z₁ q₁ s w emptyLine (z .l1d) m′ (z .ext) (λ _. refl) refl refl refl;
+            tidy = l1d-tidy z₁ q₁ s w emptyLine (z .l1d) m′ (z .ext) hs hw (λ _. refl) refl refl refl;
             inv = invariant-same (layoutOf (z .rec)) (l1dLevel z′) (l2Level z′) (memoryOf z) F i₁ (l1dLevel z′) (l2Level z′) (memoryOf z′)
                 (λ _ _. refl) (λ _ _ _ _ _. refl) (λ _ _. refl) (λ _ _ _ _ _. refl)
                 (λ b l. l2-keeps-memory z F q (l2Data (z .rec) t v + o) bs (omega arith) fo b l);

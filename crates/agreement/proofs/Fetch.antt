@@ -232,7 +232,7 @@ fillL1d-good z F q w v a room p none ld held =
     let u : Replaced 64 (l1dLevel z) (l1dLevel z′) s w l = l1d-replaced z (q .tidy) s w l d′ (z .l2) (z .ext) hs hw r in
     record {
       good = record {
-        tidy = l1d-tidy z (q .tidy) s w l d′ (z .l2) (z .ext) (λ x. false-true (sym x)) (length-stored (z .l1d) bs (l1dData s w)) refl refl;
+        tidy = l1d-tidy z (q .tidy) s w l d′ (z .l2) (z .ext) hs hw (λ x. false-true (sym x)) (length-stored (z .l1d) bs (l1dData s w)) refl refl;
         inv = l1d-filled (layoutOf (z .rec)) (l1dLevel z) (l2Level z) (memoryOf z) F (q .inv) (l1dLevel z′) s w b u room p none
             (λ i h. let j : l1dData s w + i - l1dData s w ≡ i = omega arith in
             carry F (stored-at (z .l1d) bs (l1dData s w) (omega arith) (l1dData s w + i) (omega arith) (omega arith)) (rw j (ld .right i h)))

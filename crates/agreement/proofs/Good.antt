@@ -3,8 +3,8 @@
 -- `Good z F` says that the state is well formed and that every byte a program can see is right by F; `Well z` is the
 -- same with any byte allowed.
 -- Shown: a search of a set finds the line or nobody holds it (one lemma on `wayHolding` for both caches); a chosen
--- way is one of the set; slots do not overlap; and one line or one order of the record replaced keeps lengths, orders
--- and empty ways (from `Tables`, for both caches).
+-- way is one of the set; slots do not overlap; and one line or one order of the record replaced keeps lengths, orders,
+-- empty ways and right counts (from `Tables`, for both caches).
 use Prim.Native.Nat.{ℕ, zero, suc, _+_, _*_, _/_, _%_, _≤_, _<_}
 use mathlib.Core.Bool.{true, false, cond}
 use mathlib.Core.Path.{_≡_, refl, sym, ap, _∙_}
@@ -19,7 +19,7 @@ use borrow.Author.Tests.{ltb-true, ltb-false, eqb-true, eqb-false, eq-eqb}
 use Rattle.model.specs.Bytes.{stored}
 use Rattle.model.specs.Memories.{externalBase, cacheSize, isMode}
 use Rattle.model.specs.Lines.{l1dSetOf, l1dData, l2Slot, l2DataIn, l1dLine, l2Line, emptyLine, holds, l1dGet, l2Get, l2Put, l1dUse, l2Use}
-use Rattle.model.specs.Records.{State, withRecord, withL1d, withL2, withExternal, sramOf, l2SetsOf, mode0, l2SetOf, l2Data, marBit, noL2Set, l1dSetAt, l2SetAt, l1dLineAt, l2LineAt, withL1dLine, withL2Line, freshL2Set}
+use Rattle.model.specs.Records.{State, withRecord, withL1d, withL2, withExternal, sramOf, l2SetsOf, mode0, l2SetOf, l2Data, marBit, noL2Set, l1dSetAt, l2SetAt, l1dLineAt, l2LineAt, dirtyInL1d, dirtyInL2, l1dLines, l2Lines, counted, withL1dLine, withL2Line, freshL2Set}
 use Rattle.model.specs.Ways.{wayHolding, lowestInvalid, l1dFind, l2Find, l1dVictim, l2Victim, l1dWay, l2Way, inL1d, inL2, useL1d, useL2}
 use Rattle.model.specs.Homes.{homeIsL2}
 use Rattle.model.specs.Laws.{bool, false-true, both-true, cond-elim, used2-permutation, used4-permutation, mode0-sets}
@@ -29,7 +29,7 @@ use Rattle.model.specs.declared.L2Set.{L2Set}
 use Rattle.model.specs.declared.Record.{Record}
 use Rattle.agreement.proofs.Level.{Level, Valid, Other, Free, Replaced}
 use Rattle.agreement.proofs.Invariant.{Allowed, seenOnly, Layout, Invariant, invariant-same}
-use Rattle.agreement.proofs.Tables.{l1dStore, l2Store, levelOf, Table, table-line, replaced-line, table-used, line-used}
+use Rattle.agreement.proofs.Tables.{l1dStore, l2Store, levelOf, Table, table-line, replaced-line, table-used, line-used, count-line, count-used}
 use Rattle.agreement.proofs.Memory.{memoryByte, other-slot}
 
 -- ---- the state as the invariant sees it
@@ -59,12 +59,14 @@ pub record Sizes (l e mode : ℕ) (l1d l2 ext : List ℕ) : Type 0 where
   pub legalMode : isMode mode ≡ true
   pub cacheMost : cacheSize mode ≤ l
 
--- what a well-formed state has beside the invariant; sets not in use are fresh
+-- what a well-formed state has beside the invariant; sets not in use are fresh, the counts right
 pub record Tidy (z : State) : Type 0 where
   pub sizes : Sizes (z .rec .l2len) (z .rec .extlen) (z .rec .mode) (z .l1d) (z .l2) (z .ext)
   pub l1d : Table l1dStore (z .rec .l1d)
   pub l2 : Table l2Store (z .rec .l2)
   pub idle : (t : ℕ) → t < 512 → l2SetsOf (z .rec) ≤ t → l2SetAt (z .rec) t ≡ freshL2Set
+  pub l1dCount : z .rec .«dirty_l1d» ≡ dirtyInL1d (z .rec)
+  pub l2Count : z .rec .«dirty_l2» ≡ dirtyInL2 (z .rec)
 
 pub record Good (z : State) (F : Allowed) : Type 0 where
   pub tidy : Tidy z
@@ -315,7 +317,8 @@ sizes-with {l} {e} {n} h d′ m′ x′ p q r = sizes-new h n (h .legalMode) (h 
 
 pub lists-tidy : (z : State) → Tidy z → (d m e : List ℕ) → length d ≡ length (z .l1d) → length m ≡ length (z .l2) → length e ≡ length (z .ext) →
     Tidy (withLists z (z .rec) d m e)
-lists-tidy z h d m e a b c = record { sizes = sizes-with (h .sizes) d m e a b c; l1d = h .l1d; l2 = h .l2; idle = h .idle }
+lists-tidy z h d m e a b c =
+    record { sizes = sizes-with (h .sizes) d m e a b c; l1d = h .l1d; l2 = h .l2; idle = h .idle; l1dCount = h .l1dCount; l2Count = h .l2Count }
 
 -- ---- one line of the record replaced, and the lists with their lengths kept
 module _ (z : State) (h : Tidy z) (s w : ℕ) (l : Line) (d m e : List ℕ) where
@@ -326,11 +329,18 @@ module _ (z : State) (h : Tidy z) (s w : ℕ) (l : Line) (d m e : List ℕ) wher
   unfolding withL1dLine
   l1d-replaced hs hw r = replaced-line l1dStore (z .rec .l1d) s w l (h .l1d .shaped) hs hw 64 l1dData (z .l1d) d r
 
-  pub l1d-tidy : (l .valid ≡ false → l ≡ emptyLine) → length d ≡ length (z .l1d) → length m ≡ length (z .l2) → length e ≡ length (z .ext) →
+  pub l1d-tidy : s < 128 → w < 2 → (l .valid ≡ false → l ≡ emptyLine) → length d ≡ length (z .l1d) → length m ≡ length (z .l2) → length e ≡ length (z .ext) →
       Tidy (withLists z (withL1dLine (z .rec) s w l) d m e)
   unfolding withL1dLine
-  l1d-tidy v a b c =
-      record { sizes = sizes-with (h .sizes) d m e a b c; l1d = table-line l1dStore (z .rec .l1d) s w l (h .l1d) v; l2 = h .l2; idle = h .idle }
+  l1d-tidy hs hw v a b c =
+      record {
+        sizes = sizes-with (h .sizes) d m e a b c;
+        l1d = table-line l1dStore (z .rec .l1d) s w l (h .l1d) v;
+        l2 = h .l2;
+        idle = h .idle;
+        l1dCount = ap (counted l1dLines (l1dLineAt (z .rec) s w .dirty) (l .dirty)) (h .l1dCount) ∙ count-line l1dStore (z .rec .l1d) s w l (h .l1d .shaped) hs hw;
+        l2Count = h .l2Count;
+      }
 
   pub l2-replaced : s < l2SetsOf (z .rec) → w < 4 →
       ((s′ w′ : ℕ) → Other s w s′ w′ → Valid (l2Level z) s′ w′ → (i : ℕ) → i < 128 →
@@ -341,16 +351,19 @@ module _ (z : State) (h : Tidy z) (s w : ℕ) (l : Line) (d m e : List ℕ) wher
       let c = h .sizes .cacheMost in let c′ = h .sizes .l2Most in
       replaced-line l2Store (z .rec .l2) s w l (h .l2 .shaped) (omega arith) hw 128 (l2Data (z .rec)) (z .l2) m r
 
-  pub l2-tidy : s < l2SetsOf (z .rec) → (l .valid ≡ false → l ≡ emptyLine) → length d ≡ length (z .l1d) → length m ≡ length (z .l2) →
+  pub l2-tidy : s < l2SetsOf (z .rec) → w < 4 → (l .valid ≡ false → l ≡ emptyLine) → length d ≡ length (z .l1d) → length m ≡ length (z .l2) →
       length e ≡ length (z .ext) →
       Tidy (withLists z (withL2Line (z .rec) s w l) d m e)
   unfolding withL2Line
-  l2-tidy hs v a b c =
+  l2-tidy hs hw v a b c =
+      let n = h .sizes .cacheMost in let n′ = h .sizes .l2Most in
       record {
         sizes = sizes-with (h .sizes) d m e a b c;
         l1d = h .l1d;
         l2 = table-line l2Store (z .rec .l2) s w l (h .l2) v;
         idle = λ t k g. getD-set-other (z .rec .l2) s t (l2Put (l2SetAt (z .rec) s) w l) noL2Set (omega arith) ∙ h .idle t k g;
+        l1dCount = h .l1dCount;
+        l2Count = ap (counted l2Lines (l2LineAt (z .rec) s w .dirty) (l .dirty)) (h .l2Count) ∙ count-line l2Store (z .rec .l2) s w l (h .l2 .shaped) (omega arith) hw;
       }
 
 -- ---- a way is used: the lines stay, the order stays a permutation
@@ -382,6 +395,8 @@ module _ (z : State) (s w : ℕ) where
               (λ k. used2-permutation (l1dSetAt (z .rec) s .order) w hw (h .l1d .ordered s k));
           l2 = h .l2;
           idle = h .idle;
+          l1dCount = h .l1dCount ∙ sym (count-used l1dStore (z .rec .l1d) s (l1dUse (l1dSetAt (z .rec) s) w) refl);
+          l2Count = h .l2Count;
         };
         inv = invariant-same (layoutOf (z .rec)) (l1dLevel z) (l2Level z) (memoryOf z) F (q .inv) (l1dLevel (useL1d s w z)) (l2Level z) (memoryOf z)
             l1d-used-line (λ _ _ _ _ _. refl) (λ _ _. refl) (λ _ _ _ _ _. refl) (λ _ _. refl);
@@ -398,6 +413,8 @@ module _ (z : State) (s w : ℕ) where
           l2 = table-used l2Store (z .rec .l2) s (l2Use (l2SetAt (z .rec) s) w) refl (h .l2)
               (λ k. used4-permutation (l2SetAt (z .rec) s .order) w hw (h .l2 .ordered s k));
           idle = λ t k g. getD-set-other (z .rec .l2) s t (l2Use (l2SetAt (z .rec) s) w) noL2Set (omega arith) ∙ h .idle t k g;
+          l1dCount = h .l1dCount;
+          l2Count = h .l2Count ∙ sym (count-used l2Store (z .rec .l2) s (l2Use (l2SetAt (z .rec) s) w) refl);
         };
         inv = invariant-same (layoutOf (z .rec)) (l1dLevel z) (l2Level z) (memoryOf z) F (q .inv) (l1dLevel z) (l2Level (useL2 s w z)) (memoryOf z)
             (λ _ _. refl) (λ _ _ _ _ _. refl) l2-used-line (λ _ _ _ _ _. refl) (λ _ _. refl);

@@ -208,7 +208,7 @@ module _ (z : State) (F F′ : Allowed) (q : Good z F) (a : ℕ) (bs : List ℕ)
       (omega arith) ho f₂ i hi y) in
       record {
         good = record {
-          tidy = l2-tidy z (q .tidy) t v l (z .l1d) m′ (z .ext) ht (λ x. false-true (sym x)) refl (length-stored (z .l2) bs (l2Data (z .rec) t v + o)) refl;
+          tidy = l2-tidy z (q .tidy) t v l (z .l1d) m′ (z .ext) ht hv (λ x. false-true (sym x)) refl (length-stored (z .l2) bs (l2Data (z .rec) t v + o)) refl;
           inv = invariant-same (layoutOf (z .rec)) (l1dLevel z) (l2Level z′) (memoryOf z) F′ i₁ (l1dLevel z′) (l2Level z′) (memoryOf z′)
               (λ _ _. refl) (λ _ _ _ _ _. refl) (λ _ _. refl) (λ _ _ _ _ _. refl)
               (λ b l′. l2-keeps-memory z F q (l2Data (z .rec) t v + o) bs (omega arith) fo b l′);
@@ -232,7 +232,7 @@ module _ (z : State) (F F′ : Allowed) (q : Good z F) (a : ℕ) (bs : List ℕ)
       l1d-replaced z (q .tidy) s w l d′ (z .l2) (z .ext) hs hw (l1d-rest z (q .tidy) F q s w o bs hs hw h) in
       record {
         good = record {
-          tidy = l1d-tidy z (q .tidy) s w l d′ (z .l2) (z .ext) (λ x. false-true (sym x)) (length-stored (z .l1d) bs (l1dData s w + o)) refl refl;
+          tidy = l1d-tidy z (q .tidy) s w l d′ (z .l2) (z .ext) hs hw (λ x. false-true (sym x)) (length-stored (z .l1d) bs (l1dData s w + o)) refl refl;
           inv = l1d-written (layoutOf (z .rec)) (l1dLevel z) (l2Level z) (memoryOf z) F (q .inv) (l1dLevel z′) s w a F′ (wr .grows) k e u
               (written-old (F .right) (F′ .right) a bs (wr .puts) h)
               (λ i hi y. written-slot (F .right) (F′ .right) a bs (wr .puts) (z .l1d) (l1dData s w) 64 (l1dLineAt (z .rec) s w .address) o (omega arith) h f₁ i hi y);

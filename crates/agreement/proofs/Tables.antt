@@ -1,23 +1,24 @@
 -- The sets of a cache as the record holds them, a list of sets, said ONCE for L1D and L2 (and a cache to come): a
 -- `Store` names the type of one set, its lines and how a line of it is replaced. Shown: what is read after one line,
--- or one set's order, was replaced; that a table of sets keeps its lengths, its orders and its empty ways; and that
+-- or one set's order, was replaced; that a table of sets keeps its lengths, its orders and its empty ways, how its dirty lines count; and that
 -- such a change is `Replaced` of the level that the table and its bytes make.
 -- Why it holds: `set` on a list changes one element (`set-cases`), once for the list of sets and once for the lines
 -- of a set.
-use Prim.Native.Nat.{ℕ, zero, suc, _+_, _<_}
-use mathlib.Core.Bool.{Bool, false}
+use Prim.Native.Nat.{ℕ, zero, suc, _+_, _*_, _≤_, _<_}
+use mathlib.Core.Bool.{Bool, true, false, cond}
 use mathlib.Core.Path.{_≡_, refl, sym, ap, _∙_, subst}
 use mathlib.Core.Logic.{_⊎_, inl, inr, ⊎-elim, _≢_}
 use mathlib.Core.List.{List, [], _∷_}
 use native.Mathlib.Omega.{arith}
+use native.Mathlib.Nat.{suc-mul}
 use lib.ListN.{getD, set, length, replicate, length-set, length-replicate, getD-replicate, List·getD-eq-default}
 use lib.Seq.{getD-set-same, getD-set-other}
 use lib.Dec.{ltb, eqb}
 use borrow.Author.Tests.{ltb-true, ltb-false, eqb-true, eqb-false}
 use Rattle.model.specs.Basics.{anyOf}
 use Rattle.model.specs.Lines.{emptyLine, Permutation2, Permutation4, l1dPut, l2Put}
-use Rattle.model.specs.Records.{noL1dSet, noL2Set}
-use Rattle.model.specs.Laws.{bool, false-true}
+use Rattle.model.specs.Records.{noL1dSet, noL2Set, dirtyLines, dirtyIn, counted}
+use Rattle.model.specs.Laws.{bool, false-true, counted-same, counted-less, counted-more}
 use Rattle.model.specs.declared.Line.{Line}
 use Rattle.model.specs.declared.L1dSet.{L1dSet}
 use Rattle.model.specs.declared.L2Set.{L2Set}
@@ -249,6 +250,83 @@ module _ (k : Store) (xs : List (k .OneSet)) where
   none-found p e h s w =
       any-none p emptyLine e (k .lines (setIn k xs s))
       (any-none (λ (v : k .OneSet). anyOf p (k .lines v)) (k .none) (ap (λ (l : List Line). anyOf p l) (k .none-lines)) xs h s) w
+
+-- ---- how many lines are dirty (02, U5)
+abbrev bit : Bool → ℕ
+bit b = cond b 1 0
+
+bit-most : (b : Bool) → bit b ≤ 1
+bit-most true = omega arith
+bit-most false = omega arith
+
+-- of a list of lines: one is replaced; no more than there are
+lines-set : (l : List Line) (w : ℕ) (x : Line) → w < length l → dirtyLines (set l w x) + bit (getD l w emptyLine .dirty) ≡ dirtyLines l + bit (x .dirty)
+unfolding dirtyLines
+lines-set [] w x h = absurd (omega arith)
+lines-set (y ∷ l) zero x h = omega arith
+lines-set (y ∷ l) (suc w) x h = let r = lines-set l w x (omega arith) in omega arith
+
+lines-most : (l : List Line) → dirtyLines l ≤ length l
+unfolding dirtyLines
+lines-most [] = omega arith
+lines-most (x ∷ l) = let r = lines-most l in let b = bit-most (x .dirty) in omega arith
+
+-- of a list of sets: one is replaced, by a set with the same lines or another; no more than m in each
+module _ {A : Type 0} (f : A → List Line) (d : A) where
+  sets-set : (xs : List A) (s : ℕ) (v : A) → s < length xs → dirtyIn f (set xs s v) + dirtyLines (f (getD xs s d)) ≡ dirtyIn f xs + dirtyLines (f v)
+  unfolding dirtyIn
+  sets-set [] s v h = absurd (omega arith)
+  sets-set (x ∷ xs) zero v h = omega arith
+  sets-set (x ∷ xs) (suc s) v h = let r = sets-set xs s v (omega arith) in omega arith
+
+  sets-used : (xs : List A) (s : ℕ) (v : A) → f v ≡ f (getD xs s d) → dirtyIn f (set xs s v) ≡ dirtyIn f xs
+  unfolding dirtyIn
+  sets-used [] s v e = refl
+  sets-used (x ∷ xs) zero v e = ap (λ (l : List Line). dirtyLines l + dirtyIn f xs) e
+  sets-used (x ∷ xs) (suc s) v e = ap (λ (n : ℕ). dirtyLines (f x) + n) (sets-used xs s v e)
+
+  sets-most : (m : ℕ) (xs : List A) → ((s : ℕ) → s < length xs → length (f (getD xs s d)) ≤ m) → dirtyIn f xs ≤ length xs * m
+  unfolding dirtyIn
+  sets-most m [] h = omega arith
+  sets-most m (x ∷ xs) h =
+      let a = h 0 (omega arith) in let b = lines-most (f x) in let r = sets-most m xs (λ s k. h (suc s) (omega arith)) in
+      let e = suc-mul (length xs) m in omega arith
+
+-- a right count that moves stays right, where no right one passes `most`: neither bound of `counted` is met
+moved-right : (most n n′ : ℕ) (d e : Bool) → n′ + bit d ≡ n + bit e → n′ ≤ most → counted most d e n ≡ n′
+moved-right most n n′ true true c m = counted-same most n true true refl ∙ omega arith
+moved-right most n n′ true false c m = counted-less most n true false refl refl ∙ omega arith
+moved-right most n n′ false true c m = counted-more most n false true refl refl (omega arith) ∙ omega arith
+moved-right most n n′ false false c m = counted-same most n false false refl ∙ omega arith
+
+-- the count of a table where one line is replaced
+module _ (k : Store) (xs : List (k .OneSet)) where
+  pub count-most : Shaped k xs → dirtyIn (k .lines) xs ≤ k .sets * k .ways
+  count-most h =
+      let n = h .sets in
+      let r = sets-most (k .lines) (k .none) (k .ways) xs (λ s i. let e = h .ways s (omega arith) in omega arith) in
+      subst (λ (j : ℕ). dirtyIn (k .lines) xs ≤ j * k .ways) n r
+
+  pub count-used : (s : ℕ) (v : k .OneSet) → k .lines v ≡ k .lines (setIn k xs s) → dirtyIn (k .lines) (set xs s v) ≡ dirtyIn (k .lines) xs
+  count-used s v e = sets-used (k .lines) (k .none) xs s v e
+
+module _ (k : Store) (xs : List (k .OneSet)) (s w : ℕ) (x : Line) (h : Shaped k xs) (hs : s < k .sets) (hw : w < k .ways) where
+  replaced-count : dirtyIn (k .lines) (withLine k xs s w x) + bit (lineIn k xs s w .dirty) ≡ dirtyIn (k .lines) xs + bit (x .dirty)
+  replaced-count =
+      let n = h .sets in let m = h .ways s hs in
+      let a = sets-set (k .lines) (k .none) xs s (k .put (setIn k xs s) w x) (omega arith) in
+      let b = lines-set (k .lines (setIn k xs s)) w x (omega arith) in
+      let e = ap dirtyLines (k .put-lines (setIn k xs s) w x) in omega arith
+
+  pub count-line : counted (k .sets * k .ways) (lineIn k xs s w .dirty) (x .dirty) (dirtyIn (k .lines) xs) ≡ dirtyIn (k .lines) (withLine k xs s w x)
+  count-line =
+      moved-right (k .sets * k .ways) (dirtyIn (k .lines) xs) (dirtyIn (k .lines) (withLine k xs s w x)) (lineIn k xs s w .dirty) (x .dirty) replaced-count
+      (count-most k (withLine k xs s w x) (shaped-line k xs s w x h))
+
+pub count-fresh : {A : Type 0} (f : A → List Line) (v : A) → dirtyLines (f v) ≡ 0 → (n : ℕ) → dirtyIn f (replicate n v) ≡ 0
+unfolding dirtyIn
+count-fresh f v e zero = refl
+count-fresh f v e (suc n) = let r = count-fresh f v e n in omega arith
 
 -- ---- a table of equal sets, all of whose lines are empty
 module _ (k : Store) (v : k .OneSet) (n : ℕ) (all : (w : ℕ) → getD (k .lines v) w emptyLine ≡ emptyLine) where

@@ -16,7 +16,7 @@ use borrow.Author.Tests.{ltb-true, ltb-false, leb-true, le-leb, eqb-true, eqb-fa
 use Rattle.model.specs.Basics.{anyOf, allIndexed}
 use Rattle.model.specs.Memories.{externalBase, legalL2, legalExternal, cacheSize, isMode}
 use Rattle.model.specs.Lines.{l1dSetOf, l1dData, l2Line, emptyLine, holds, Permutation2, Permutation4}
-use Rattle.model.specs.Records.{State, Shape, sramOf, l2SetsOf, mode0, l2SetOf, l2Data, marBit, noL1dSet, noL2Set, l1dSetAt, l2SetAt, l1dLineAt, l2LineAt, legalSizes, permuted2, permuted4, emptyWay, insideL2Line, l1dPlace, l2Place, l1dLineOk, l2LineOk, noneTwice, freshUnlessUsed, l1dSetOk, l2SetOk, wellFormed, freshL2Set, coveredByL2, ownL1dSet, l1dRegion, ownL2Set, inSram, l2Region, inCacheable, inUse}
+use Rattle.model.specs.Records.{State, Shape, sramOf, l2SetsOf, mode0, l2SetOf, l2Data, marBit, noL1dSet, noL2Set, l1dSetAt, l2SetAt, l1dLineAt, l2LineAt, legalSizes, permuted2, permuted4, emptyWay, insideL2Line, l1dPlace, l2Place, l1dLineOk, l2LineOk, noneTwice, freshUnlessUsed, l1dSetOk, l2SetOk, dirtyInL1d, dirtyInL2, countsOk, wellFormed, freshL2Set, coveredByL2, ownL1dSet, l1dRegion, ownL2Set, inSram, l2Region, inCacheable, inUse}
 use Rattle.model.specs.Refusals.{unless, lentL1d, lentL2, lentExternal, lentDue}
 use Rattle.model.specs.Calls.{Reply, refused, step, call}
 use Rattle.model.specs.Laws.{bool, false-true, both-true, cond-elim, mode0-sets, lowestDue-none, unless-none}
@@ -432,7 +432,8 @@ module _ (z : State) (h : Sizes (z .rec .l2len) (z .rec .extlen) (z .rec .mode) 
 
 -- ---- from the test to the invariant
 module _ (z : State) (l1dShape : Shaped l1dStore (z .rec .l1d)) (l2Shape : Shaped l2Store (z .rec .l2)) (sizes : Sizes (z .rec .l2len) (z .rec .extlen) (z .rec .mode) (z .l1d) (z .l2) (z .ext))
-    (l1d : allIndexed (l1dSetOk (z .rec)) 0 (z .rec .l1d) ≡ true) (l2 : allIndexed (l2SetOk (z .rec)) 0 (z .rec .l2) ≡ true) where
+    (l1d : allIndexed (l1dSetOk (z .rec)) 0 (z .rec .l1d) ≡ true) (l2 : allIndexed (l2SetOk (z .rec)) 0 (z .rec .l2) ≡ true)
+    (counts : countsOk (z .rec) ≡ true) where
   l1d-set-tests : (s : ℕ) → s < 128 → (i : ℕ) →
       getD
       (allIndexed (lineTest (l1dPlace (z .rec)) s) 0 (l1dSetAt (z .rec) s .lines) ∷ noneTwice (l1dSetAt (z .rec) s .lines) ∷ permuted2
@@ -482,6 +483,12 @@ module _ (z : State) (l1dShape : Shaped l1dStore (z .rec .l1d)) (l2Shape : Shape
       ext-getD emptyLine (l2SetAt (z .rec) t .lines) (freshL2Set .lines) n (λ v kv. l2-empty t v (none v) ∙ sym (l2-fresh v)) in
       λ i. record { lines = ls i; order = o i }
 
+  counts-tell : (z .rec .«dirty_l1d» ≡ dirtyInL1d (z .rec)) × (z .rec .«dirty_l2» ≡ dirtyInL2 (z .rec))
+  unfolding countsOk
+  counts-tell =
+      let p = tells (eqb (z .rec .«dirty_l1d») (dirtyInL1d (z .rec))) (eqb (z .rec .«dirty_l2») (dirtyInL2 (z .rec)) ∷ []) counts in
+      (eqb-true (z .rec .«dirty_l1d») (dirtyInL1d (z .rec)) (p 0), eqb-true (z .rec .«dirty_l2») (dirtyInL2 (z .rec)) (p 1))
+
   tests-well : Well z
   tests-well =
       well z
@@ -494,6 +501,8 @@ module _ (z : State) (l1dShape : Shaped l1dStore (z .rec .l1d)) (l2Shape : Shape
         };
         l2 = record { shaped = l2Shape; ordered = λ t ht. order4-tells (l2SetAt (z .rec) t .order) (l2-set-tests t ht 2); empty = l2-empty };
         idle = idle;
+        l1dCount = counts-tell .0;
+        l2Count = counts-tell .1;
       })
       l1d-sound l2-sound
       (λ s w i b n. let p = l1d-placed s w i in let a = l1dLineAt (z .rec) s w .address in
@@ -505,9 +514,9 @@ unfolding lentDue wellFormed
 due-well z shape h =
     let p = lowestDue-none (lentL1d (z .l1d) && (lentL2 (z .rec) (z .l2) && lentExternal (z .rec) (z .ext))) 0 (unless (wellFormed (z .rec)) 2) h in
     let a = tells (lentL1d (z .l1d)) (lentL2 (z .rec) (z .l2) ∷ lentExternal (z .rec) (z .ext) ∷ []) (p .0) in
-    let b = tells (legalSizes (z .rec)) (allIndexed (l1dSetOk (z .rec)) 0 (z .rec .l1d) ∷ allIndexed (l2SetOk (z .rec)) 0 (z .rec .l2) ∷ [])
+    let b = tells (legalSizes (z .rec)) (allIndexed (l1dSetOk (z .rec)) 0 (z .rec .l1d) ∷ allIndexed (l2SetOk (z .rec)) 0 (z .rec .l2) ∷ countsOk (z .rec) ∷ [])
     (unless-none (wellFormed (z .rec)) 1 (p .1)) in
-    tests-well z (l1d-shaped (z .rec) shape) (l2-shaped (z .rec) shape) (sizes-tell z (a 0) (a 1) (a 2) (b 0)) (b 1) (b 2)
+    tests-well z (l1d-shaped (z .rec) shape) (l2-shaped (z .rec) shape) (sizes-tell z (a 0) (a 1) (a 2) (b 0)) (b 1) (b 2) (b 3)
 
 -- ---- and the other way: a well-formed state passes checks 1 and 2
 module _ (z : State) (h : Well z) where
@@ -536,11 +545,17 @@ module _ (z : State) (h : Well z) where
       and order4-makes (v .order) (h .tidy .l2 .ordered t (omega arith))
       and fresh-order-makes (z .rec) t (v .order) (λ c. ap (λ (y : L2Set). y .order) (h .tidy .idle t (omega arith) c))))
 
+  counts-pass : countsOk (z .rec) ≡ true
+  unfolding countsOk
+  counts-pass =
+      makes (eqb (z .rec .«dirty_l1d») (dirtyInL1d (z .rec))) (eqb (z .rec .«dirty_l2») (dirtyInL2 (z .rec)) ∷ [])
+      (eq-eqb (z .rec .«dirty_l1d») (dirtyInL1d (z .rec)) (h .tidy .l1dCount) and eq-eqb (z .rec .«dirty_l2») (dirtyInL2 (z .rec)) (h .tidy .l2Count))
+
   pub well-formed : wellFormed (z .rec) ≡ true
   unfolding wellFormed
   well-formed =
-      makes (legalSizes (z .rec)) (allIndexed (l1dSetOk (z .rec)) 0 (z .rec .l1d) ∷ allIndexed (l2SetOk (z .rec)) 0 (z .rec .l2) ∷ [])
-      (sizes-legal z (h .tidy .sizes) and l1d-passes and l2-passes)
+      makes (legalSizes (z .rec)) (allIndexed (l1dSetOk (z .rec)) 0 (z .rec .l1d) ∷ allIndexed (l2SetOk (z .rec)) 0 (z .rec .l2) ∷ countsOk (z .rec) ∷ [])
+      (sizes-legal z (h .tidy .sizes) and l1d-passes and l2-passes and counts-pass)
 
   pub well-due : lentDue z ≡ 0
   unfolding lentDue

@@ -60,7 +60,7 @@ module _ (z : State) (F : Allowed) (q : Good z F) (t v : ℕ) (ht : t < l2SetsOf
       let u : Replaced 128 (l2Level z) (l2Level z′) t v l = l2-replaced z (q .tidy) t v l (z .l1d) (z .l2) e′ ht hv (λ _ _ _ _ _ _. refl) in
       record {
         good = record {
-          tidy = l2-tidy z (q .tidy) t v l (z .l1d) (z .l2) e′ ht (λ x. false-true (sym x)) refl refl
+          tidy = l2-tidy z (q .tidy) t v l (z .l1d) (z .l2) e′ ht hv (λ x. false-true (sym x)) refl refl
               (length-stored (z .ext) (part (z .l2) (l2Data (z .rec) t v) 128) (b - externalBase));
           inv = l2-cleaned (layoutOf (z .rec)) (l1dLevel z) (l2Level z) (memoryOf z) F (q .inv) (l2Level z′) t v (memoryOf z′) k u (λ _ _. refl)
               (λ i h s w k′ _ e. let a = q .inv .l1dSound .place s w k′ .aligned in c s w k′ (omega arith))
@@ -159,7 +159,7 @@ module _ (z : State) (F : Allowed) (q : Good z F) (t v : ℕ) (ht : t < l2SetsOf
       record {
         swept = record {
           good = record {
-            tidy = l2-tidy z₁ (g .good .tidy) t v emptyLine (z₁ .l1d) (z₁ .l2) (z₁ .ext) ht₁ (λ _. refl) refl refl refl;
+            tidy = l2-tidy z₁ (g .good .tidy) t v emptyLine (z₁ .l1d) (z₁ .l2) (z₁ .ext) ht₁ hv (λ _. refl) refl refl refl;
             inv = l2-dropped (layoutOf (z₁ .rec)) (l1dLevel z₁) (l2Level z₁) (memoryOf z₁) F (g .good .inv) (l2Level z′) t v u
                 (λ k. g .done k .0) (λ k. g .done k .1);
           };
@@ -205,7 +205,7 @@ fillL2-good z F q t v b room p none =
     ∙ rw j (sym (memory-high (z .l2) (z .ext) (b + i) (omega arith)))) in
     record {
       good = record {
-        tidy = l2-tidy z (q .tidy) t v l (z .l1d) m′ (z .ext) ht (λ x. false-true (sym x)) refl (length-stored (z .l2) bs (l2Data (z .rec) t v)) refl;
+        tidy = l2-tidy z (q .tidy) t v l (z .l1d) m′ (z .ext) ht hv (λ x. false-true (sym x)) refl (length-stored (z .l2) bs (l2Data (z .rec) t v)) refl;
         inv = invariant-same (layoutOf (z .rec)) (l1dLevel z) (l2Level z′) (memoryOf z) F i₁ (l1dLevel z′) (l2Level z′) (memoryOf z′)
             (λ _ _. refl) (λ _ _ _ _ _. refl) (λ _ _. refl) (λ _ _ _ _ _. refl)
             (λ a l′. l2-keeps-memory z F q (l2Data (z .rec) t v) bs (omega arith) (omega arith) a l′);

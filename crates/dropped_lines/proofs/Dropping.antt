@@ -523,7 +523,7 @@ fresh-follows l e hl he =
     let z = freshState l e in
     let m = fresh-matches l e hl he in
     record {
-      good = fresh-good z (Seen (memoryOf z) (λ a. memoryAt z a ∷ [])) refl refl (m .good .tidy .sizes)
+      good = fresh-good z (Seen (memoryOf z) (λ a. memoryAt z a ∷ [])) refl refl refl refl (m .good .tidy .sizes)
           (λ a i. (refl, in-head (memoryOf z a) (memoryAt z a) [] (sym (memory-at z (m .good .tidy) a i))));
       sizes = record { l2len = m .l2len; sram = m .sram; ext = m .ext };
       agrees = λ _ _ _. refl;
