@@ -11,11 +11,11 @@ use lib.Dec.{eqb}
 use borrow.Author.Tests.{eqb-true, eqb-false, eq-eqb, ne-eqb}
 use Rattle.model.specs.Basics.{each}
 use Rattle.model.specs.Lines.{upperHalf, emptyLine, l2Put}
-use Rattle.model.specs.Records.{State, state, l2SetsOf, l2SetAt, l2LineAt, withL2Sets, withL2Set, withL2Line, noL2Set}
+use Rattle.model.specs.Records.{State, state, l2SetsOf, l2SetAt, l2LineAt, withL2Sets, withL2Set, withCounts, l2Lines, withL2Line, noL2Set}
 use Rattle.model.specs.Ways.{emptyL1d, emptyL2}
 use Rattle.model.specs.Homes.{writeOutL2, writebackL2, evictL2}
 use Rattle.model.specs.Commands.{atL1d, dropL2, eachL2, unlessMode0}
-use Rattle.model.specs.Laws.{bool, mode0-sets}
+use Rattle.model.specs.Laws.{bool, counted-same, mode0-sets}
 use Rattle.model.specs.declared.Line.{Line}
 use Rattle.model.specs.declared.L2Set.{L2Set}
 use Rattle.tags.specs.Sizes.{same-trans, same-empty-l2, same-write-out-l2, same-writeback-l2, same-evict-l2}
@@ -90,7 +90,9 @@ module _ (z : State) (t v : ℕ) (empty : l2LineAt (z .rec) t v ≡ emptyLine) w
   empty-empty =
       let s = l2SetAt (z .rec) t in
       let line : set (s .lines) v emptyLine ≡ s .lines = ap (set (s .lines) v) (sym empty) ∙ set-getD (s .lines) v emptyLine in
-      ap (λ (l : List Line). state (withL2Set (z .rec) t (record { lines = l; order = s .order })) (z .l1d) (z .l2) (z .ext)) line
+      let n = counted-same l2Lines (z .rec .«dirty_l2») (l2LineAt (z .rec) t v .dirty) false (ap (λ (x : Line). x .dirty) empty) in
+      ap (λ (m : ℕ). state (withCounts (withL2Set (z .rec) t (l2Put s v emptyLine)) (z .rec .«dirty_l1d») m) (z .l1d) (z .l2) (z .ext)) n
+      ∙ ap (λ (l : List Line). state (withL2Set (z .rec) t (record { lines = l; order = s .order })) (z .l1d) (z .l2) (z .ext)) line
       ∙ ap (λ (l : List L2Set). state (withL2Sets (z .rec) l) (z .l1d) (z .l2) (z .ext)) (set-getD (z .rec .l2) t noL2Set)
 
   act-empty : (code : ℕ) → code ≢ 6 → z ≡ l2Operation code t v z

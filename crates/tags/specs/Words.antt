@@ -10,7 +10,7 @@ use Rattle.model.specs.Laws.{bool}
 use mathlib.Core.List.{List, [], _∷_}
 use native.Mathlib.Omega.{arith}
 use lib.ListN.{length, getD, set, length-set}
-use lib.Seq.{getD-set-same, getD-set-other}
+use lib.Seq.{getD-set-same, getD-set-other, set-getD}
 use lib.Dec.{eqb, ltb}
 use Rattle.model.specs.Lines.{l1dPut, l2Put, l1dUse, l2Use, l1dGet, l2Get, used2, used4}
 use Rattle.model.specs.Records.{State, state, noL1dSet, noL2Set, l1dSetAt, l2SetAt, l1dLineAt, l2LineAt, withL1dSet, withL2Set, withCounts, l1dLines, l2Lines, counted, withL1dLine, withL2Line}
@@ -365,13 +365,8 @@ count-l2 ws n l =
     }
 
 -- a count that stays what it is
-set-self : (ws : List ℕ) (i : ℕ) → set ws i (word ws i) ≡ ws
-set-self [] i = refl
-set-self (x ∷ ws) zero = refl
-set-self (x ∷ ws) (suc i) = ap (λ (vs : List ℕ). x ∷ vs) (set-self ws i)
-
 pub count-stays : (ws : List ℕ) (i n : ℕ) → n ≡ word ws i → ws ≡ set ws i n
-count-stays ws i n e = sym (ap (set ws i) e ∙ set-self ws i)
+count-stays ws i n e = sym (ap (set ws i) e ∙ set-getD ws i 0)
 
 pub dirty-l1d-in : (ws : List ℕ) → word ws 3 ≡ recordIn ws .«dirty_l1d»
 unfolding recordIn

@@ -15,7 +15,7 @@ use Rattle.model.specs.Basics.{allIndexed}
 use Rattle.model.specs.Bytes.{little, littleBytes}
 use Rattle.model.specs.Memories.{externalBase, l1dLength, legalL2, legalExternal, cacheSize, isMode}
 use Rattle.model.specs.Lines.{l1dSetOf, l1dData, emptyLine}
-use Rattle.model.specs.Records.{State, sramOf, l2SetsOf, l2SetOf, l2Data, l1dLineAt, l2LineAt, legalSizes, noneTwice, permuted2, permuted4, freshUnlessUsed, inUse, inSram, inCacheable, marBit, ownL1dSet, ownL2Set, l1dRegion, l2Region, coveredByL2, l1dPlace, l2Place, l1dLineOk, l2LineOk, l1dSetOk, l2SetOk, wellFormed}
+use Rattle.model.specs.Records.{State, sramOf, l2SetsOf, l2SetOf, l2Data, l1dLineAt, l2LineAt, legalSizes, noneTwice, permuted2, permuted4, freshUnlessUsed, inUse, inSram, inCacheable, marBit, ownL1dSet, ownL2Set, l1dRegion, l2Region, coveredByL2, l1dPlace, l2Place, l1dLineOk, l2LineOk, l1dSetOk, l2SetOk, countsOk, wellFormed}
 use Rattle.model.specs.Refusals.{unless, lentL1d, lentL2, lentExternal, lentDue, sizeOk, valueOk, accessDue, blockDue, modeDue, marDue, freezeDue}
 use Rattle.model.specs.Trace.{command}
 use Rattle.model.specs.Modes.{changeMode, changeMar, changeFreeze}
@@ -119,8 +119,9 @@ module _ (P : Pairing) (z z′ : State) (same : z .rec ≡ z′ .rec) (l₁ : le
       let b = both-true (lentL2 r (z .l2)) (lentExternal r (z .ext)) (a .1) in
       let b₂ = both-true (legalL2 (length (z .l2))) (eqb (length (z .l2)) (r .l2len)) (b .0) in
       let b₃ = both-true (legalExternal (length (z .ext))) (eqb (length (z .ext)) (r .extlen)) (b .1) in
-      let w = both-true (legalSizes r) (allIndexed (l1dSetOk r) 0 (r .l1d) && allIndexed (l2SetOk r) 0 (r .l2)) (unless-none (wellFormed r) 1 (p .1)) in
-      let w′ = both-true (allIndexed (l1dSetOk r) 0 (r .l1d)) (allIndexed (l2SetOk r) 0 (r .l2)) (w .1) in
+      let w = both-true (legalSizes r) (allIndexed (l1dSetOk r) 0 (r .l1d) && (allIndexed (l2SetOk r) 0 (r .l2) && countsOk r)) (unless-none (wellFormed r) 1 (p .1)) in
+      let w₁ = both-true (allIndexed (l1dSetOk r) 0 (r .l1d)) (allIndexed (l2SetOk r) 0 (r .l2) && countsOk r) (w .1) in
+      let w₂ = both-true (allIndexed (l2SetOk r) 0 (r .l2)) (countsOk r) (w₁ .1) in
       let s = both-true (legalL2 (r .l2len)) (legalExternal (r .extlen) && (isMode (r .mode) && leb (cacheSize (r .mode)) (r .l2len))) (w .0) in
       let s′ = both-true (legalExternal (r .extlen)) (isMode (r .mode) && leb (cacheSize (r .mode)) (r .l2len)) (s .1) in
       let c = leb-true (cacheSize (r .mode)) (r .l2len) (both-true (isMode (r .mode)) (leb (cacheSize (r .mode)) (r .l2len)) (s′ .1) .1) in
@@ -146,8 +147,8 @@ module _ (P : Pairing) (z z′ : State) (same : z .rec ≡ z′ .rec) (l₁ : le
           l2Legal = s .0;
           extLegal = s′ .0;
         };
-        l1d = record { placed = l1d-placed r (w′ .0); bytes = l1d };
-        l2 = record { placed = l2-placed r (w′ .1); bytes = l2 };
+        l1d = record { placed = l1d-placed r (w₁ .0); bytes = l1d };
+        l2 = record { placed = l2-placed r (w₂ .0); bytes = l2 };
         sram = sram;
         ext = ext;
       }
