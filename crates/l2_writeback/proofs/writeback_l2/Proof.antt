@@ -1,5 +1,6 @@
 use Rattle.l2_writeback.specs.Halves.{back-none, back-all}
 use Rattle.tags.specs.Words.{recordIn}
+use Rattle.model.specs.Lines.{upperHalf}
 use Rattle.model.specs.Records.{state}
 use borrow.Author.Tests.{not-true, not-false}
 use mathlib.Core.Path.{refl}
@@ -12,7 +13,6 @@ use Rattle.l2_writeback.proofs.writeback_l2.Reads as reads
 use Rattle.l2_writeback.proofs.writeback_l2.Lts as lts
 use Rattle.l2_writeback.proofs.take_half.Reads as take-half-reads
 use Rattle.l2_writeback.proofs.write_out_l2.Reads as write-out-l2-reads
-use Rattle.geometry.proofs.L2.upper_half.Reads as upper-half-reads
 use Rattle.tags.proofs.l2_line.Reads as l2-line-reads
 
 -- src/lib.rt:60:9
@@ -34,14 +34,10 @@ returns c =
 take-half-requires : tie.Need-take-half-requires
 take-half-requires c κs = search needs
 
--- src/lib.rt:65:39
-upper-half-requires : tie.Need-upper-half-requires
-upper-half-requires c κs = search needs
-
 -- src/lib.rt:65:5
-take-half-requires-2 : tie.Need-take-half-requires-2
-take-half-requires-2 c κs =
-    let p-take-half = c .before .before .before .before .before .before .before in
+take-upper-requires : tie.Need-take-upper-requires
+take-upper-requires c κs =
+    let p-take-half = c .before .before .before .before .before .before in
     let p-l2-line = p-take-half .before .before .before .before .before in
     let p-start = p-l2-line .before .before .before .before .before .before in
     let a = p-start .args in let k = p-start .pre in let d = a .l1d .now in let e = a .ext .now in let z = state (recordIn (a .tags .now)) d (a .l2 .now) e in
@@ -52,16 +48,15 @@ take-half-requires-2 c κs =
 -- src/lib.rt:66:5
 write-out-l2-requires : tie.Need-write-out-l2-requires
 write-out-l2-requires c κs =
-    let p-take-half2 = c .before .before .before .before .before .before .before in
-    let p-upper-half = p-take-half2 .before .before in
-    let p-take-half = p-upper-half .before .before .before .before .before .before in
+    let p-take-upper = c .before .before .before .before .before .before .before in
+    let p-take-half = p-take-upper .before .before .before .before .before .before .before in
     let p-l2-line = p-take-half .before .before .before .before .before in
     let p-start = p-l2-line .before .before .before .before .before .before in
     let a = p-start .args in let k = p-start .pre in let d = a .l1d .now in let e = a .ext .now in let z = state (recordIn (a .tags .now)) d (a .l2 .now) e in
     let h = (p-take-half .take-half) in let z₁ = state (recordIn (h .last .0)) d (h .last .1 .1 .1 .1 .1 .1 .1 .0) e in
-    let g = (p-take-half2 .take-half2) in let z₂ = state (recordIn (g .last .0)) d (g .last .1 .1 .1 .1 .1 .1 .1 .0) e in
+    let g = (p-take-upper .take-upper) in let z₂ = state (recordIn (g .last .0)) d (g .last .1 .1 .1 .1 .1 .1 .1 .0) e in
     let l₁ = lent-next (a .sram) (a .sets) (a .tags .now) (h .last .0) z₁ (takeHalf (a .t) (a .v) ((p-l2-line .l2-line) .result .address) z) (k .1) (h .kept .0) (h .ensures e) refl (same-take-half (a .t) (a .v) ((p-l2-line .l2-line) .result .address) z) in
-    let l₂ = lent-next (a .sram) (a .sets) (h .last .0) (g .last .0) z₂ (takeHalf (a .t) (a .v) ((p-upper-half .upper-half) .result) z₁) l₁ (g .kept .0) (g .ensures e) refl (same-take-half (a .t) (a .v) ((p-upper-half .upper-half) .result) z₁) in
+    let l₂ = lent-next (a .sram) (a .sets) (h .last .0) (g .last .0) z₂ (takeHalf (a .t) (a .v) (upperHalf ((p-l2-line .l2-line) .result .address)) z₁) l₁ (g .kept .0) (g .ensures e) refl (same-take-half (a .t) (a .v) (upperHalf ((p-l2-line .l2-line) .result .address)) z₁) in
     (k .0, l₂)
 
 -- src/lib.rt:54:1
@@ -80,16 +75,15 @@ same-length-4 c = search needs
 returns-2 : tie.Need-returns-2
 returns-2 c =
     let p-write-out-l2 = c .before .before .before .before in
-    let p-take-half2 = p-write-out-l2 .before .before .before .before .before .before .before .before in
-    let p-upper-half = p-take-half2 .before .before in
-    let p-take-half = p-upper-half .before .before .before .before .before .before in
+    let p-take-upper = p-write-out-l2 .before .before .before .before .before .before .before .before in
+    let p-take-half = p-take-upper .before .before .before .before .before .before .before in
     let p-if1 = p-take-half .before .before .before in let p-l2-line = p-if1 .before .before in
     let p-start = p-l2-line .before .before .before .before .before .before in
     let a = p-start .args in let k = p-start .pre in let d = a .l1d .now in let e = a .ext .now in let z = state (recordIn (a .tags .now)) d (a .l2 .now) e in
     let h = (p-take-half .take-half) in let z₁ = state (recordIn (h .last .0)) d (h .last .1 .1 .1 .1 .1 .1 .1 .0) e in
-    let g = (p-take-half2 .take-half2) in let z₂ = state (recordIn (g .last .0)) d (g .last .1 .1 .1 .1 .1 .1 .1 .0) e in
+    let g = (p-take-upper .take-upper) in let z₂ = state (recordIn (g .last .0)) d (g .last .1 .1 .1 .1 .1 .1 .1 .0) e in
     let o = (p-write-out-l2 .write-out-l2) in
-    back-all z z₁ z₂ (state (recordIn (o .last .0)) d (z₂ .l2) (o .last .1 .1 .1 .1 .1 .1 .0)) (a .t) (a .v) ((p-upper-half .upper-half) .result) ((p-l2-line .l2-line) .result) ((p-l2-line .l2-line) .ensures) (not-false ((p-l2-line .l2-line) .result .valid) ((p-if1 .if1) .left)) ((p-upper-half .upper-half) .ensures)
+    back-all z z₁ z₂ (state (recordIn (o .last .0)) d (z₂ .l2) (o .last .1 .1 .1 .1 .1 .1 .0)) (a .t) (a .v) (upperHalf ((p-l2-line .l2-line) .result .address)) ((p-l2-line .l2-line) .result) ((p-l2-line .l2-line) .ensures) (not-false ((p-l2-line .l2-line) .result .valid) ((p-if1 .if1) .left)) refl
     (h .ensures e) (g .ensures e) (o .ensures d)
 
 pub writeback-l2-spec : {M : Type 1} → statement M
@@ -100,8 +94,7 @@ writeback-l2-spec =
     same-length
     returns
     take-half-requires
-    upper-half-requires
-    take-half-requires-2
+    take-upper-requires
     write-out-l2-requires
     same-length-2
     same-length-3
