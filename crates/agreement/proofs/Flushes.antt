@@ -1,7 +1,8 @@
 -- A mode change writes back all dirty lines of L1D and L2 and then makes every line invalid (`changeMode`). That it
 -- keeps the invariant is shown by steps which empty each L1D line as soon as it went home (`sweptL1d`). Shown here:
 -- after the change both are the same state (`change-swept`). What differs on the way, the lines of L1D and how many are
--- dirty, nothing looks at but the write-back of the line itself, and that one is still there; in the end the change replaces them all.
+-- dirty, nothing looks at but the write-back of the line itself, and that one is still there; in the end the change
+-- replaces them all.
 use Prim.Native.Nat.{ℕ, zero, suc, _*_, _/_, _%_, _≤_}
 use mathlib.Core.Bool.{false, cond}
 use mathlib.Core.List.{List}

@@ -1,9 +1,8 @@
 -- The sets of a cache as the record holds them, a list of sets, said ONCE for L1D and L2 (and a cache to come): a
--- `Store` names the type of one set, its lines and how a line of it is replaced. Shown: what is read after one line,
--- or one set's order, was replaced; that a table of sets keeps its lengths, its orders and its empty ways, how its dirty lines count; and that
--- such a change is `Replaced` of the level that the table and its bytes make.
--- Why it holds: `set` on a list changes one element (`set-cases`), once for the list of sets and once for the lines
--- of a set.
+-- `Store` names the type of one set, its lines and how a line of it is replaced. Shown: what is read after one line, or
+-- one set's order, was replaced; that a table of sets keeps its lengths, its orders and its empty ways, how its dirty
+-- lines count; and that such a change is `Replaced` of the level that the table and its bytes make. Why it holds: `set`
+-- on a list changes one element (`set-cases`), once for the list of sets and once for the lines of a set.
 use Prim.Native.Nat.{ℕ, zero, suc, _+_, _*_, _≤_, _<_}
 use mathlib.Core.Bool.{Bool, true, false, cond}
 use mathlib.Core.Path.{_≡_, refl, sym, ap, _∙_, subst}

@@ -1,6 +1,6 @@
 -- The record that lent words stand for: L, E, then mode, MAR bits and freeze in one word, the counts of dirty lines in
--- L1D and in L2; five words for a set of L1D, nine for a set of L2. Every law about single words ends here: what stands above speaks of `recordIn` and the definitions
--- of crate model alone.
+-- L1D and in L2; five words for a set of L1D, nine for a set of L2. Every law about single words ends here: what stands
+-- above speaks of `recordIn` and the definitions of crate model alone.
 use Prim.Native.Nat.{ℕ, zero, suc, _+_, _*_, _/_, _%_, _≤_, _<_}
 use mathlib.Core.Bool.{Bool, true, false, cond, _&&_, _||_}
 use mathlib.Core.Path.{_≡_, refl, sym, ap, _∙_}

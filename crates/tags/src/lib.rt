@@ -1,6 +1,7 @@
 // The record in words that can be lent, as C lays it out: L, E, mode, MAR bits and freeze, the counts of dirty lines;
-// five words for a set of L1D (mark and address of two lines, the order), nine for a set of L2. A mark is 0, or 1 for a clean and 257 for a dirty line:
-// the bytes valid and dirty. Each function says what it does to the record that the words stand for.
+// five words for a set of L1D (mark and address of two lines, the order), nine for a set of L2. A mark is 0, or 1 for a
+// clean and 257 for a dirty line: the bytes valid and dirty. Each function says what it does to the record that the
+// words stand for.
 ghost use mathlib.Core.Path.{_≡_};
 ghost use Prim.Native.Nat.{_%_, _/_, _<_, _≤_};
 ghost use lib.ListN.{length, set};

@@ -1,5 +1,5 @@
--- `l2_writeback::take_found` meets its contract: the half goes into its L2 line if dirty (`half-dirty`, `half-clean`), and
--- its way is emptied. Assumes nothing.
+-- `l2_writeback::take_found` meets its contract: the half goes into its L2 line if dirty (`half-dirty`, `half-clean`),
+-- and its way is emptied. Assumes nothing.
 use Rattle.l2_writeback.specs.Halves.{half-clean, half-dirty}
 use Rattle.model.specs.Lines.{l1dLine}
 use Rattle.tags.specs.Words.{recordIn}

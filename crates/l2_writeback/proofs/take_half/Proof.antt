@@ -1,5 +1,5 @@
--- `l2_writeback::take_half` meets its contract: L1D does not hold the half (`half-none`), or `take_found` takes it. Assumes
--- nothing.
+-- `l2_writeback::take_half` meets its contract: L1D does not hold the half (`half-none`), or `take_found` takes it.
+-- Assumes nothing.
 use Rattle.l2_writeback.specs.Halves.{half-none}
 use Rattle.model.specs.Ways.{l1dFind}
 use Rattle.model.specs.Records.{l1dSetAt}

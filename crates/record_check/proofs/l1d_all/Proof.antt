@@ -1,5 +1,5 @@
--- `record_check::l1d_all` meets its contract: the sets passed so far are in order, and their dirty lines counted. Assumes
--- nothing.
+-- `record_check::l1d_all` meets its contract: the sets passed so far are in order, and their dirty lines counted.
+-- Assumes nothing.
 use Rattle.record_check.specs.Lent.{allFrom, dirtyFrom, l1dOkIn, l1dLinesIn, l1dAllIn}
 use Rattle.record_check.specs.All.{from-next, from-stop, from-end}
 use Rattle.record_check.specs.Counts.{count-first, count-next, count-end}

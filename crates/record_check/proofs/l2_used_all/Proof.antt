@@ -1,5 +1,5 @@
--- `record_check::l2_used_all` meets its contract: the sets passed so far are in order, and their dirty lines counted. Assumes
--- nothing.
+-- `record_check::l2_used_all` meets its contract: the sets passed so far are in order, and their dirty lines counted.
+-- Assumes nothing.
 use Rattle.record_check.specs.Lent.{allFrom, dirtyFrom, l2OkIn, l2LinesIn, l2FirstIn}
 use Rattle.record_check.specs.All.{from-next, from-stop, from-end, from-first}
 use Rattle.record_check.specs.Counts.{count-first, count-next, count-end}
