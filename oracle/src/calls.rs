@@ -138,7 +138,8 @@ pub fn check_command(record: &Record, command: &Command) -> u8 {
 
 /// Checks 3 to 10 and 17, then the call itself. "Value and server are 0 with it; the
 /// record comes back as given". "The value is 0 for all but accepted reads.";
-/// the server is "0 for calls that aren't reads or writes".
+/// the server is "0 for calls that aren't reads or writes". 02, U5: "Every operation
+/// keeps them right, transfers and drops included.": after each the lines are counted.
 pub fn carry_out(machine: &mut Machine, command: &Command) -> Answer {
     let number = check_command(machine.record, command);
     if number != 0 {
@@ -173,6 +174,7 @@ pub fn carry_out(machine: &mut Machine, command: &Command) -> Answer {
         Command::Mar { number, bit } => change_mar(machine.record, number, bit),
         Command::Freeze { frozen } => change_freeze(machine.record, frozen),
     }
+    machine.record.write_counts();
     Answer { number: 0, server, value }
 }
 

@@ -327,6 +327,7 @@ pub fn well_formed_record_in_mode(rng: &mut Rng, l: u32, e: u32, mode: u32) -> B
             record.l1d[set].order = rng.permutation();
         }
     }
+    record.write_counts();
     record
 }
 
@@ -403,10 +404,18 @@ pub enum Fault {
     UnusedSetMark,
     UnusedSetLine,
     L1dNotInL2,
+    L1dCountMore,
+    L1dCountLess,
+    L1dCountFar,
+    L2CountMore,
+    L2CountLess,
+    L2CountFar,
+    CountsExchanged,
+    CountsMoved,
 }
 
 /// All faults.
-pub const FAULTS: [Fault; 26] = [
+pub const FAULTS: [Fault; 34] = [
     Fault::IllegalMode,
     Fault::CacheAboveL,
     Fault::Mar128NoBit,
@@ -433,6 +442,14 @@ pub const FAULTS: [Fault; 26] = [
     Fault::UnusedSetMark,
     Fault::UnusedSetLine,
     Fault::L1dNotInL2,
+    Fault::L1dCountMore,
+    Fault::L1dCountLess,
+    Fault::L1dCountFar,
+    Fault::L2CountMore,
+    Fault::L2CountLess,
+    Fault::L2CountFar,
+    Fault::CountsExchanged,
+    Fault::CountsMoved,
 ];
 
 impl Fault {
@@ -456,6 +473,14 @@ impl Fault {
                 Clause::UnusedSets
             }
             Fault::L1dNotInL2 => Clause::Inclusion,
+            Fault::L1dCountMore
+            | Fault::L1dCountLess
+            | Fault::L1dCountFar
+            | Fault::L2CountMore
+            | Fault::L2CountLess
+            | Fault::L2CountFar
+            | Fault::CountsExchanged
+            | Fault::CountsMoved => Clause::DirtyCounts,
         }
     }
 
@@ -479,7 +504,9 @@ impl Fault {
             | Fault::L2Twice
             | Fault::L2Outside
             | Fault::L2MarZero
-            | Fault::L1dNotInL2 => mode != 0,
+            | Fault::L1dNotInL2
+            // A line of L2 that is dirty.
+            | Fault::L2CountLess => mode != 0,
             // Mode 7 uses every set.
             Fault::UnusedSetOrder | Fault::UnusedSetMark | Fault::UnusedSetLine => mode != 7,
             _ => true,
@@ -525,8 +552,60 @@ pub fn any_ill_formed_record(rng: &mut Rng, l: u32, e: u32) -> (Box<Record>, Fau
     }
 }
 
-/// Puts the fault into a well-formed record; `None` if it has no place there.
+/// Puts the fault into a well-formed record; `None` if it has no place there. Where it
+/// is none of the counts, these are right afterwards.
 fn put_fault(rng: &mut Rng, record: &mut Record, fault: Fault) -> Option<()> {
+    put_fault_into_lines(rng, record, fault)?;
+    record.write_counts();
+    let (l1d, l2) = (record.dirty_l1d, record.dirty_l2);
+    match fault {
+        Fault::L1dCountMore => record.dirty_l1d += 1,
+        Fault::L1dCountLess => record.dirty_l1d = l1d.checked_sub(1)?,
+        Fault::L1dCountFar => record.dirty_l1d = far_count(rng, l1d),
+        Fault::L2CountMore => record.dirty_l2 += 1,
+        Fault::L2CountLess => record.dirty_l2 = l2.checked_sub(1)?,
+        Fault::L2CountFar => record.dirty_l2 = far_count(rng, l2),
+        Fault::CountsExchanged if l1d != l2 => {
+            (record.dirty_l1d, record.dirty_l2) = (l2, l1d);
+        }
+        Fault::CountsExchanged => return None,
+        // Together they are right.
+        Fault::CountsMoved if l2 > 0 && rng.chance(1, 2) => {
+            (record.dirty_l1d, record.dirty_l2) = (l1d + 1, l2 - 1);
+        }
+        Fault::CountsMoved => {
+            (record.dirty_l1d, record.dirty_l2) = (l1d.checked_sub(1)?, l2 + 1);
+        }
+        _ => {}
+    }
+    Some(())
+}
+
+/// A count that is wrong, and far from the right one, or the same in its lower bits.
+fn far_count(rng: &mut Rng, right: u32) -> u32 {
+    let wrong = [
+        u32::MAX,
+        right ^ 1 << 8,
+        right ^ 1 << 16,
+        right ^ 1 << 31,
+        !right,
+        0,
+        256,
+        257,
+        2_048,
+        2_049,
+        rng.next_u32(),
+    ];
+    loop {
+        let count = rng.pick(&wrong);
+        if count != right {
+            return count;
+        }
+    }
+}
+
+/// Puts the fault into the lines, the orders and the numbers in front of the counts.
+fn put_fault_into_lines(rng: &mut Rng, record: &mut Record, fault: Fault) -> Option<()> {
     match fault {
         Fault::IllegalMode => {
             *record = *Record::fresh(record.l, record.e);
@@ -694,6 +773,15 @@ fn put_fault(rng: &mut Rng, record: &mut Record, fault: Fault) -> Option<()> {
             // Where the bit was 0 the range held no line, so nothing else changes.
             set_mar(record, number, 1);
         }
+        // The counts come afterwards.
+        Fault::L1dCountMore
+        | Fault::L1dCountLess
+        | Fault::L1dCountFar
+        | Fault::L2CountMore
+        | Fault::L2CountLess
+        | Fault::L2CountFar
+        | Fault::CountsExchanged
+        | Fault::CountsMoved => {}
     }
     Some(())
 }
@@ -918,6 +1006,14 @@ pub fn senseless_record(rng: &mut Rng, l: u32, e: u32) -> Box<Record> {
                 *line = senseless_line(rng, e);
             }
         }
+    }
+    // Right counts alone do not make it a record of any sense.
+    record.write_counts();
+    if rng.chance(1, 4) {
+        record.dirty_l1d = far_count(rng, record.dirty_l1d);
+    }
+    if rng.chance(1, 4) {
+        record.dirty_l2 = far_count(rng, record.dirty_l2);
     }
     record
 }

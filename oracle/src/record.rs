@@ -43,7 +43,9 @@ impl L2Set {
 
 /// "The record holds L, E, the mode, the two MAR bits (128 and 129), and for
 /// all 128 L1D and 512 L2 sets the lines"; whether L1D is frozen, 1, or thawed,
-/// 0: "the record keeps it" (02, U11). Any number may stand in any field.
+/// 0: "the record keeps it" (02, U11); and "how many lines are dirty in L1D and in
+/// L2 ... Write both counts into the record." (02, U5). Any number may stand in any
+/// field.
 #[derive(Clone, PartialEq, Eq, Debug)]
 pub struct Record {
     pub l: u32,
@@ -52,13 +54,15 @@ pub struct Record {
     pub mar128: u32,
     pub mar129: u32,
     pub frozen: u32,
+    pub dirty_l1d: u32,
+    pub dirty_l2: u32,
     pub l1d: [L1dSet; L1d::SETS],
     pub l2: [L2Set; L2::SETS_HELD],
 }
 
 impl Record {
     /// "Fresh: mode 0, MAR bits 0, nothing valid, orders 1,0 and 3,2,1,0." "A
-    /// fresh start is thawed." (02, U11)
+    /// fresh start is thawed." (02, U11) No line is dirty (02, U5).
     pub fn fresh(l: u32, e: u32) -> Box<Record> {
         Box::new(Record {
             l,
@@ -67,6 +71,8 @@ impl Record {
             mar128: 0,
             mar129: 0,
             frozen: 0,
+            dirty_l1d: 0,
+            dirty_l2: 0,
             l1d: [L1dSet::FRESH; L1d::SETS],
             l2: [L2Set::FRESH; L2::SETS_HELD],
         })
@@ -75,6 +81,22 @@ impl Record {
     /// "SRAM is the first S = L − C bytes of L2, at address 0."
     pub fn sram_size(&self) -> u32 {
         sram_size(self.l, self.mode)
+    }
+
+    /// "how many lines are dirty in L1D" (02, U5): of all its ways.
+    pub fn dirty_in_l1d(&self) -> u32 {
+        self.l1d.iter().flat_map(|set| set.lines).filter(|line| line.dirty).count() as u32
+    }
+
+    /// "how many lines are dirty ... in L2" (02, U5): of all its ways.
+    pub fn dirty_in_l2(&self) -> u32 {
+        self.l2.iter().flat_map(|set| set.lines).filter(|line| line.dirty).count() as u32
+    }
+
+    /// "Write both counts into the record." (02, U5) The lines are counted.
+    pub fn write_counts(&mut self) {
+        self.dirty_l1d = self.dirty_in_l1d();
+        self.dirty_l2 = self.dirty_in_l2();
     }
 
     /// "1 freezes, 0 thaws; the record keeps it" (02, U11).

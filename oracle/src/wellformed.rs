@@ -3,7 +3,7 @@
 //!
 //! "sets not in use are fresh" says all there is to say about an L2 set not in
 //! use (a fresh set breaks no other clause), so the other clauses look only at
-//! the L2 sets in use.
+//! the L2 sets in use; the counts of dirty lines are of all sets.
 
 use crate::geometry::{
     external_length_is_legal, l2_length_is_legal, mode_is_legal, place, L1d, Place, L2,
@@ -25,10 +25,11 @@ pub enum Clause {
     L2Places,
     UnusedSets,
     Inclusion,
+    DirtyCounts,
 }
 
 /// All clauses, with the sizes and the mode first.
-pub const CLAUSES: [Clause; 12] = [
+pub const CLAUSES: [Clause; 13] = [
     Clause::SizesAndMode,
     Clause::MarBits,
     Clause::Frozen,
@@ -41,6 +42,7 @@ pub const CLAUSES: [Clause; 12] = [
     Clause::L2Places,
     Clause::UnusedSets,
     Clause::Inclusion,
+    Clause::DirtyCounts,
 ];
 
 /// "A record is well formed when" every clause holds.
@@ -68,6 +70,7 @@ pub fn holds(record: &Record, clause: Clause) -> bool {
         Clause::L2Places => l2_lines_lie_where_they_may(record),
         Clause::UnusedSets => sets_not_in_use_are_fresh(record),
         Clause::Inclusion => external_l1d_lines_lie_in_l2_lines(record),
+        Clause::DirtyCounts => counts_are_right(record),
     }
 }
 
@@ -200,4 +203,9 @@ fn external_l1d_lines_lie_in_l2_lines(record: &Record) -> bool {
             !external || record.find_l2(line.address).is_some()
         })
     })
+}
+
+/// 02, U5: "A record whose counts are wrong isn't well formed".
+fn counts_are_right(record: &Record) -> bool {
+    record.dirty_l1d == record.dirty_in_l1d() && record.dirty_l2 == record.dirty_in_l2()
 }

@@ -76,6 +76,8 @@ fn a_write_hit_makes_its_line_dirty() {
         assert!(setup.l2 == before.l2 && setup.ext == before.ext);
         let mut other = setup.record.clone();
         other.l1d[0].lines[0].dirty = false;
+        assert_eq!(other.dirty_l1d, 1);
+        other.dirty_l1d = 0;
         assert!(other == before.record);
         assert_eq!(setup.l1d[4..6], [0x34, 0x12]);
         assert_eq!(setup.read(2, place + 4), answer(1, 0x1234));
