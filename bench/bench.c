@@ -166,6 +166,7 @@ static int same_record(const struct record *x, const struct record *y)
 {
     if (x->l2len != y->l2len || x->extlen != y->extlen) return 0;
     if (x->mode != y->mode || x->mar128 != y->mar128 || x->mar129 != y->mar129 || x->frozen != y->frozen) return 0;
+    if (x->dirty_l1d != y->dirty_l1d || x->dirty_l2 != y->dirty_l2) return 0;
     for (int s = 0; s < 128; s++) {
         for (int w = 0; w < 2; w++)
             if (!same_line(&x->l1d[s].lines[w], &y->l1d[s].lines[w])) return 0;
@@ -291,18 +292,29 @@ static void some_command(struct trace *t)
     else put(t, 11, 128 + below(2), 1, 0);
 }
 
-/* One thing about a record is changed: it may still be well formed. */
+/* Writes the counts of dirty lines into a record. */
+static void count_dirty(struct record *r)
+{
+    r->dirty_l1d = r->dirty_l2 = 0;
+    for (int s = 0; s < 128; s++)
+        for (int w = 0; w < 2; w++) r->dirty_l1d += r->l1d[s].lines[w].dirty != 0;
+    for (int t = 0; t < 512; t++)
+        for (int w = 0; w < 4; w++) r->dirty_l2 += r->l2[t].lines[w].dirty != 0;
+}
+
+/* One thing about a record is changed: it may still be well formed, the more so where the counts follow. */
 static void damage(struct record *r)
 {
     static const uint32_t steps[4] = { 64, 128, 8192, 32768 };
     struct l1d_set *s = &r->l1d[below(128)];
     struct l2_set *u = &r->l2[below(2) ? below(64) : below(512)];
     struct line *x = below(2) ? &s->lines[below(2)] : &u->lines[below(4)];
-    switch (below(11)) {
+    switch (below(12)) {
     case 0: ((uint8_t *)r)[below(sizeof *r)] = (uint8_t)(below(2) ? below(4) : below(256)); break;
-    case 1: ((uint8_t *)r)[below(12)] = (uint8_t)(below(2) ? below(8) : below(256)); break;
+    case 1: ((uint8_t *)r)[below(20)] = (uint8_t)(below(2) ? below(8) : below(256)); break;
     case 2: r->mar128 ^= 1; break;
     case 9: r->frozen = (uint8_t)below(4); break;
+    case 10: *(below(2) ? &r->dirty_l1d : &r->dirty_l2) += below(2) ? 1 : UINT32_MAX; return;
     case 3: s->order[below(2)] = (uint8_t)below(3); break;
     case 4: u->order[below(4)] = (uint8_t)below(5); break;
     case 5: u->lines[below(4)] = u->lines[below(4)]; break;
@@ -311,6 +323,7 @@ static void damage(struct record *r)
     case 8: *(below(2) ? &x->valid : &x->dirty) ^= 1; break;
     default: *x = (struct line){ 0, 0, 0 }; break;
     }
+    if (below(4)) count_dirty(r);
 }
 
 /* The checks of records that are damaged in one place: a read of three bytes is refused with 1, 2 or 3, and no byte of

@@ -74,6 +74,14 @@ static inline void fill(struct line *x, uint32_t address)
     *x = (struct line){ 1, 0, address };
 }
 
+/* The line becomes dirty, if it is not yet, and is counted in its cache's count (02, U5). What is written back, dropped
+   or put out is counted down where it is seen to be dirty. */
+static inline void make_dirty(struct line *x, uint32_t *count)
+{
+    *count += !x->dirty;
+    x->dirty = 1;
+}
+
 static inline int l1d_find(const struct l1d_set *s, uint32_t address)
 {
     if (holds(&s->lines[0], address)) return 0;
@@ -192,11 +200,13 @@ int model_well_formed(const struct record *r)
 {
     static const uint8_t fresh4[4] = { 3, 2, 1, 0 };
     if (!legal_l2(r->l2len) || !legal_ext(r->extlen) || !is_mode(r->mode) || cache_size(r->mode) > r->l2len) return 0;
-    if (r->mar128 > 1 || r->mar129 > 1 || r->frozen > 1) return 0;
+    if ((r->mar128 | r->mar129 | r->frozen) > 1) return 0;
     uint32_t sram = r->l2len - cache_size(r->mode);
     uint32_t sets = cache_size(r->mode) / 512;
+    uint32_t dirty_l1d = 0, dirty_l2 = 0;
     for (uint32_t s = 0; s < L1D_SETS; s++) {
         const struct l1d_set *v = &r->l1d[s];
+        dirty_l1d += v->lines[0].dirty + v->lines[1].dirty;
         if (!l1d_line_ok(r, &v->lines[0], s, sram, sets) || !l1d_line_ok(r, &v->lines[1], s, sram, sets)) return 0;
         if (v->lines[0].address == v->lines[1].address && v->lines[0].valid && v->lines[1].valid) return 0;
         if (v->order[0] > 1 || v->order[1] != (v->order[0] ^ 1)) return 0;
@@ -207,6 +217,7 @@ int model_well_formed(const struct record *r)
         uint64_t c = word_of(&v->lines[2]), d = word_of(&v->lines[3]);
         if (!(l2_line_ok(r, a, t, sets) & l2_line_ok(r, b, t, sets) & l2_line_ok(r, c, t, sets)
               & l2_line_ok(r, d, t, sets))) return 0;
+        dirty_l2 += (uint32_t)(a + b + c + d) >> 8 & 7; /* the four marks added up */
         /* a valid line has an address other than 0, so two are the same only where both are valid */
         a >>= 32, b >>= 32, c >>= 32, d >>= 32;
         if ((a != 0) & ((a == b) | (a == c) | (a == d))) return 0;
@@ -219,7 +230,7 @@ int model_well_formed(const struct record *r)
         if ((a | b | word_of(&v->lines[2]) | word_of(&v->lines[3])) != 0) return 0;
         if (memcmp(v->order, fresh4, 4) != 0) return 0;
     }
-    return 1;
+    return dirty_l1d == r->dirty_l1d && dirty_l2 == r->dirty_l2;
 }
 
 /* ---- checks */
@@ -324,7 +335,7 @@ static inline void send_home(struct machine *k, const struct l1d_set *s, int w)
         struct l2_set *u = l2_set_of(k, a);
         int v = l2_find(u, a & ~(uint32_t)(L2_LINE - 1));
         memcpy(l2_data(k, u, v) + a % L2_LINE, from, L1D_LINE);
-        u->lines[v].dirty = 1;
+        make_dirty(&u->lines[v], &k->r->dirty_l2);
     }
 }
 
@@ -335,9 +346,12 @@ static inline void take_half(struct machine *k, uint32_t a, struct line *x, uint
     struct l1d_set *s = l1d_set_of(k, a);
     int w = l1d_find(s, a);
     if (w < 0) return;
-    if (data && s->lines[w].dirty) {
-        memcpy(data + a % L2_LINE, l1d_data(k, s, w), L1D_LINE);
-        x->dirty = 1;
+    if (s->lines[w].dirty) {
+        k->r->dirty_l1d--;
+        if (data) {
+            memcpy(data + a % L2_LINE, l1d_data(k, s, w), L1D_LINE);
+            make_dirty(x, &k->r->dirty_l2);
+        }
     }
     empty(&s->lines[w]);
 }
@@ -373,13 +387,16 @@ static inline uint8_t *reach_home(struct machine *k, uint32_t a, int write, uint
         if (x->valid) {
             take_half(k, x->address, x, data);
             take_half(k, x->address + L1D_LINE, x, data);
-            if (x->dirty) write_out(k, x, data);
+            if (x->dirty) {
+                write_out(k, x, data);
+                k->r->dirty_l2--;
+            }
         }
         memcpy(data, k->ext + (b - EXTERNAL), L2_LINE);
         fill(x, b);
     }
     l2_use(u, v);
-    if (write) u->lines[v].dirty = 1;
+    if (write) make_dirty(&u->lines[v], &k->r->dirty_l2);
     return data + a % L2_LINE;
 }
 
@@ -409,7 +426,10 @@ static inline void read(struct machine *k, uint32_t size, uint32_t a, struct ans
         return;
     } else {
         w = l1d_victim(s);
-        if (s->lines[w].dirty) send_home(k, s, w);
+        if (s->lines[w].dirty) {
+            send_home(k, s, w);
+            k->r->dirty_l1d--;
+        }
         empty(&s->lines[w]);
         memcpy(l1d_data(k, s, w), reach_home(k, b, 0, &q->server), L1D_LINE);
         fill(&s->lines[w], b);
@@ -433,7 +453,7 @@ static inline void write(struct machine *k, uint32_t size, uint32_t a, uint64_t 
     }
     q->server = 1;
     store(l1d_data(k, s, w) + a % L1D_LINE, size, value);
-    s->lines[w].dirty = 1;
+    make_dirty(&s->lines[w], &k->r->dirty_l1d);
     if (!k->r->frozen) l1d_use(s, w);
 }
 
@@ -454,7 +474,10 @@ static void l1d_block(struct machine *k, int code, uint32_t base, uint32_t count
         struct l1d_set *s = l1d_set_of(k, (uint32_t)a);
         int w = l1d_find(s, (uint32_t)a);
         if (w < 0) continue;
-        if (code == 7 && s->lines[w].dirty) send_home(k, s, w);
+        if (s->lines[w].dirty) {
+            if (code == 7) send_home(k, s, w);
+            k->r->dirty_l1d--;
+        }
         empty(&s->lines[w]);
     }
 }
@@ -462,6 +485,7 @@ static void l1d_block(struct machine *k, int code, uint32_t base, uint32_t count
 static void l1d_all(struct machine *k)
 {
     for (int s = 0; s < L1D_SETS; s++) memset(k->r->l1d[s].lines, 0, sizeof k->r->l1d[s].lines);
+    k->r->dirty_l1d = 0;
 }
 
 /* Every dirty line goes home; no way is emptied. */
@@ -475,8 +499,11 @@ static void l1d_home(struct machine *k)
 /* 2, 4: writeback; 3, 5: writeback-invalidate; 6: invalidate. */
 static inline void l2_leave(struct machine *k, int code, struct line *x, const uint8_t *data)
 {
-    if (code != 6 && x->dirty) write_out(k, x, data);
-    x->dirty = 0;
+    if (x->dirty) {
+        if (code != 6) write_out(k, x, data);
+        x->dirty = 0;
+        k->r->dirty_l2--;
+    }
     if (code != 2 && code != 4) empty(x);
 }
 
@@ -517,6 +544,7 @@ static void fresh_sets(struct record *r)
     static const struct l2_set l2 = { .order = { 3, 2, 1, 0 } };
     for (int s = 0; s < L1D_SETS; s++) r->l1d[s] = l1d;
     for (int t = 0; t < L2_SETS; t++) r->l2[t] = l2;
+    r->dirty_l1d = r->dirty_l2 = 0;
 }
 
 static void change_mode(struct machine *k, uint8_t mode)

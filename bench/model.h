@@ -31,11 +31,13 @@ struct record {
     uint8_t mar128;
     uint8_t mar129;
     uint8_t frozen;
+    uint32_t dirty_l1d;
+    uint32_t dirty_l2;
     struct l1d_set l1d[128];
     struct l2_set l2[512];
 };
 
-_Static_assert(sizeof(struct record) == 21004, "the record has C's layout of 21,004 bytes");
+_Static_assert(sizeof(struct record) == 21012, "the record has C's layout of 21,012 bytes");
 
 /* The lent memories. */
 struct lent {

@@ -249,6 +249,9 @@ int main(void)
         every_call();
         c64x_freeze(&record, 1, LENT);
         every_call();
+        record.dirty_l2++; /* refused with 2, all lines being right */
+        every_call();
+        record.dirty_l2--;
         record.l2[5].lines[1].valid = 2; /* refused with 2 */
         every_call();
     }

@@ -1,6 +1,7 @@
 /*
  * What the repair panel shows: a trace is run from a fresh start, and each
- * answer is told in words, then whether L1D is frozen and what the two caches hold.
+ * answer is told in words, then whether L1D is frozen, what the two caches hold and how
+ * many of their lines are dirty.
  *
  *   panel [TRACE]           TRACE is a file; without it a small trace of its own is run
  *   panel --load SEED N     with both MAR bits on, the load of this seed and N accesses
@@ -77,14 +78,12 @@ static void show_answers(size_t count)
     }
 }
 
-static void show_lines(const char *cache, const c64x_line *lines, size_t count, size_t *held,
-                       size_t *dirty)
+static void show_lines(const char *cache, const c64x_line *lines, size_t count, size_t *held)
 {
     for (size_t i = 0; i < count; i++) {
         if (!lines[i].valid)
             continue;
         ++*held;
-        *dirty += lines[i].dirty;
         printf("     %s line %08lX %s\n", cache, (unsigned long)lines[i].address,
                lines[i].dirty ? "dirty" : "clean");
     }
@@ -92,16 +91,16 @@ static void show_lines(const char *cache, const c64x_line *lines, size_t count, 
 
 static void show_caches(const c64x_record *record)
 {
-    size_t held = 0, dirty = 0;
+    size_t held = 0;
     printf("L2 mode %d, MAR 128 %s, MAR 129 %s, L1D %s\n", record->mode, record->mar128 ? "on" : "off",
            record->mar129 ? "on" : "off", record->frozen ? "frozen" : "not frozen");
     for (size_t set = 0; set < C64X_L1D_SETS; set++)
-        show_lines("L1D", record->l1d[set].lines, 2, &held, &dirty);
-    printf("L1D: %zu lines held, %zu dirty\n", held, dirty);
-    held = dirty = 0;
+        show_lines("L1D", record->l1d[set].lines, 2, &held);
+    printf("L1D: %zu lines held, %lu dirty\n", held, (unsigned long)record->dirty_l1d);
+    held = 0;
     for (size_t set = 0; set < C64X_L2_SETS; set++)
-        show_lines("L2", record->l2[set].lines, 4, &held, &dirty);
-    printf("L2: %zu lines held, %zu dirty\n", held, dirty);
+        show_lines("L2", record->l2[set].lines, 4, &held);
+    printf("L2: %zu lines held, %lu dirty\n", held, (unsigned long)record->dirty_l2);
 }
 
 /* The word that external memory itself holds at its first address. */

@@ -15,8 +15,8 @@
  * ONE CHIP is one record and three memories. All four are yours, and they are the whole state: a copy of all four is
  * a copy of the chip.
  *
- *   record    a c64x_record: the mode, the MAR bits, whether L1D is frozen, and which lines the caches hold. c64x_fresh
- *             writes it. You may read it at any time; there is no need ever to write to it.
+ *   record    a c64x_record: the mode, the MAR bits, whether L1D is frozen, how many lines are dirty, and which lines
+ *             the caches hold. c64x_fresh writes it. You may read it at any time; there is no need ever to write to it.
  *   l1d       the bytes of L1D: exactly 16,384
  *   l2        the bytes of L2: a multiple of 32,768, from 32,768 to 262,144
  *   ext       the bytes of external memory: a multiple of 128, from 128 to 33,554,432
@@ -33,7 +33,8 @@
  *    0  accepted
  *    1  a length is not one of those above, or not the one that the record was made for
  *    2  the record is not well formed: a mark other than 0 or 1, a line in a set that is not its own or held twice, a
- *       line of memory that may not be cached, an order that names a line twice, and the like
+ *       line of memory that may not be cached, an order that names a line twice, a wrong count of dirty lines, and the
+ *       like
  *    3  the size is not 1, 2, 4 or 8
  *    4  the address is not a multiple of the size; a block's base is not one of 4; a viewed address is not one of 64
  *    5  not all of the access, or of the viewed line, lies in SRAM or in external memory
@@ -82,10 +83,11 @@ extern "C" {
  * be changed or compiled again: another layout of a struct, other arguments, another meaning of a number. MINOR goes
  * up when calls are added, or when one does more than it did, and programs stay as they are. Version 1 passed the
  * record by value; since 2.4 the L2 commands reach all of L1D; since 2.5 L1D can be frozen, and a byte of the record
- * that was padding says whether it is.
+ * that was padding says whether it is; since 2.6 two counts stand in front of the record's sets, so that programs have
+ * to be compiled again.
  */
 #define C64X_VERSION_MAJOR 2
-#define C64X_VERSION_MINOR 5
+#define C64X_VERSION_MINOR 6
 
 /* The stack that a call needs at most, in bytes. */
 #define C64X_STACK_BYTES 4096
@@ -145,8 +147,9 @@ typedef struct {
 
 /*
  * The lengths of L2 and of external memory, the L2 mode, the MAR bits (0 or 1), whether L1D is frozen (1) or not (0),
- * and the sets of both caches. How many sets of L2 are in use goes by the mode: none in mode 0, 64 in mode 1, 128 in 2,
- * 256 in 3, 512 in 7. A number other than 0 or 1 for a MAR bit or for `frozen` is refused with 2.
+ * how many lines of L1D and of L2 are dirty, and the sets of both caches. How many sets of L2 are in use goes by the
+ * mode: none in mode 0, 64 in mode 1, 128 in 2, 256 in 3, 512 in 7. A number other than 0 or 1 for a MAR bit or for
+ * `frozen`, or a count that is not that of the lines marked dirty, is refused with 2.
  */
 typedef struct {
     uint32_t l2len;
@@ -155,6 +158,8 @@ typedef struct {
     uint8_t mar128;
     uint8_t mar129;
     uint8_t frozen;
+    uint32_t dirty_l1d;
+    uint32_t dirty_l2;
     c64x_l1d_set l1d[C64X_L1D_SETS];
     c64x_l2_set l2[C64X_L2_SETS];
 } c64x_record;
@@ -228,15 +233,17 @@ C64X_ASSERT(sizeof(c64x_l1d_set) == 20, "c64x_l1d_set");
 C64X_ASSERT(offsetof(c64x_l1d_set, order) == 16, "c64x_l1d_set");
 C64X_ASSERT(sizeof(c64x_l2_set) == 36, "c64x_l2_set");
 C64X_ASSERT(offsetof(c64x_l2_set, order) == 32, "c64x_l2_set");
-C64X_ASSERT(sizeof(c64x_record) == 21004, "c64x_record");
+C64X_ASSERT(sizeof(c64x_record) == 21012, "c64x_record");
 C64X_ASSERT(offsetof(c64x_record, l2len) == 0, "c64x_record");
 C64X_ASSERT(offsetof(c64x_record, extlen) == 4, "c64x_record");
 C64X_ASSERT(offsetof(c64x_record, mode) == 8, "c64x_record");
 C64X_ASSERT(offsetof(c64x_record, mar128) == 9, "c64x_record");
 C64X_ASSERT(offsetof(c64x_record, mar129) == 10, "c64x_record");
 C64X_ASSERT(offsetof(c64x_record, frozen) == 11, "c64x_record");
-C64X_ASSERT(offsetof(c64x_record, l1d) == 12, "c64x_record");
-C64X_ASSERT(offsetof(c64x_record, l2) == 2572, "c64x_record");
+C64X_ASSERT(offsetof(c64x_record, dirty_l1d) == 12, "c64x_record");
+C64X_ASSERT(offsetof(c64x_record, dirty_l2) == 16, "c64x_record");
+C64X_ASSERT(offsetof(c64x_record, l1d) == 20, "c64x_record");
+C64X_ASSERT(offsetof(c64x_record, l2) == 2580, "c64x_record");
 C64X_ASSERT(sizeof(c64x_answer) == 16, "c64x_answer");
 C64X_ASSERT(offsetof(c64x_answer, value) == 0, "c64x_answer");
 C64X_ASSERT(offsetof(c64x_answer, number) == 8, "c64x_answer");

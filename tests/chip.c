@@ -2,8 +2,8 @@
  * Every call of include/c64x_chip.h, on cases whose outcome the papers give: the worked example, C5, C6, C8, C9 and
  * C10, what each cache command does to a dirty line and L2's to lines that L1D alone holds, each number of the refusal
  * table with nothing changed, and short runs at the ends of each length; a frozen L1D; the trace of the worked example,
- * C3 and C4 are written through c64x_put_command; a load by hand. It is compiled as C and as C++. Prints how many
- * checks passed; exit status 1 where one failed.
+ * C3 and C4 are written through c64x_put_command; a load by hand; after these the counts of dirty lines. It is compiled
+ * as C and as C++. Prints how many checks passed; exit status 1 where one failed.
  */
 #include <stdio.h>
 #include <string.h>
@@ -39,6 +39,19 @@ static int done(c64x_answer answer)
     return is(answer, C64X_ACCEPTED, C64X_SERVER_NONE, 0);
 }
 
+/* The record says that so many lines are dirty in L1D and in L2, and so many are. */
+static int dirty_are(unsigned in_l1d, unsigned in_l2)
+{
+    unsigned l1d_marks = 0, l2_marks = 0;
+    for (int set = 0; set < C64X_L1D_SETS; set++)
+        for (int way = 0; way < C64X_L1D_WAYS; way++)
+            l1d_marks += chip.record.l1d[set].lines[way].dirty;
+    for (int set = 0; set < C64X_L2_SETS; set++)
+        for (int way = 0; way < C64X_L2_WAYS; way++)
+            l2_marks += chip.record.l2[set].lines[way].dirty;
+    return chip.record.dirty_l1d == in_l1d && chip.record.dirty_l2 == in_l2 && l1d_marks == in_l1d && l2_marks == in_l2;
+}
+
 /* A chip after reset whose external memory is zero. */
 static void start(size_t l2_len)
 {
@@ -46,6 +59,7 @@ static void start(size_t l2_len)
     memset(l2, 2, sizeof l2);
     memset(ext, 0, sizeof ext);
     CHECK(done(c64x_chip_start(&chip, l1d, sizeof l1d, l2, l2_len, ext, sizeof ext)));
+    CHECK(dirty_are(0, 0));
 }
 
 static void keep(void)
@@ -159,6 +173,7 @@ static void dirty_lines(unsigned mode)
         CHECK(c64x_chip_write(&chip, 4, words[i], 6).server == C64X_SERVER_L1D);
     }
     CHECK(l2[64] == 5 && l2[128] == 5 && ext[64] == (mode ? 0 : 5));
+    CHECK(dirty_are(4, mode ? 2 : 0));
 }
 
 /* L2 commands reach all of L1D, in every mode and for SRAM too. */
@@ -170,6 +185,7 @@ static void l2_commands(void)
         CHECK(!l1d_line(64) && !l1d_line(128) && !l1d_line(EXT + 64) && !l1d_line(EXT + 128));
         CHECK(l2[64] == 6 && l2[128] == 6 && ext[64] == 6 && ext[128] == 6);
         CHECK(mode ? clean(l2_line(EXT)) : !l2_line(EXT));
+        CHECK(dirty_are(0, 0));
         dirty_lines(mode);
         CHECK(done(c64x_chip_l2_writeback_invalidate_all(&chip)));
         CHECK(!l1d_line(64) && !l1d_line(128) && !l1d_line(EXT + 64) && !l1d_line(EXT + 128) && !l2_line(EXT));
@@ -180,13 +196,16 @@ static void l2_commands(void)
         CHECK(!l1d_line(64) && dirty(l1d_line(128)) && l2[64] == 6 && l2[128] == 5);
         CHECK(done(c64x_chip_l2_writeback_invalidate_block(&chip, 128, 1)));
         CHECK(!l1d_line(128) && l2[128] == 6 && dirty(l1d_line(EXT + 64)));
+        CHECK(dirty_are(2, mode ? 2 : 0));
         CHECK(done(c64x_chip_l2_writeback_invalidate_block(&chip, EXT + 64, 1)));
         CHECK(!l1d_line(EXT + 64) && dirty(l1d_line(EXT + 128)) && ext[64] == 6);
+        CHECK(dirty_are(1, mode ? 1 : 0));
         dirty_lines(mode);
         CHECK(done(c64x_chip_l2_invalidate_block(&chip, 64, 17)));
         CHECK(!l1d_line(64) && !l1d_line(128) && l2[64] == 5 && l2[128] == 5);
         CHECK(done(c64x_chip_l2_invalidate_block(&chip, EXT + 64, 1)));
         CHECK(!l1d_line(EXT + 64) && dirty(l1d_line(EXT + 128)) && ext[64] == (mode ? 0 : 5));
+        CHECK(dirty_are(1, mode ? 1 : 0));
     }
 }
 
@@ -201,6 +220,8 @@ static void three_levels(void)
     CHECK(is(c64x_chip_read(&chip, 4, EXT), 0, C64X_SERVER_L2_CACHE, 6));
     CHECK(is(c64x_chip_write(&chip, 4, EXT, 7), 0, C64X_SERVER_L1D, 0));
     CHECK(dirty(l1d_line(EXT)) && dirty(l2_line(EXT)) && ext[0] == 5);
+    CHECK(dirty_are(1, 1));
+    CHECK(c64x_chip_write(&chip, 4, EXT, 7).server == C64X_SERVER_L1D && dirty_are(1, 1));
 }
 
 static void commands(void)
@@ -212,38 +233,39 @@ static void commands(void)
     CHECK(seen[0] == 5 && seen[1] == 0 && seen[C64X_VIEW_BYTES] == 0xEE);
     CHECK(c64x_chip_view_number(&chip, EXT) == C64X_ACCEPTED);
     CHECK(done(c64x_chip_l2_writeback_all(&chip)));
-    CHECK(!l1d_line(EXT) && clean(l2_line(EXT)) && ext[0] == 7);
+    CHECK(!l1d_line(EXT) && clean(l2_line(EXT)) && ext[0] == 7 && dirty_are(0, 0));
     three_levels();
     CHECK(done(c64x_chip_l2_writeback_invalidate_all(&chip)));
-    CHECK(!l1d_line(EXT) && !l2_line(EXT) && ext[0] == 7);
+    CHECK(!l1d_line(EXT) && !l2_line(EXT) && ext[0] == 7 && dirty_are(0, 0));
     three_levels();
     CHECK(done(c64x_chip_l2_writeback_block(&chip, EXT, 1)));
-    CHECK(!l1d_line(EXT) && clean(l2_line(EXT)) && ext[0] == 7);
+    CHECK(!l1d_line(EXT) && clean(l2_line(EXT)) && ext[0] == 7 && dirty_are(0, 0));
     three_levels();
     CHECK(done(c64x_chip_l2_writeback_invalidate_block(&chip, EXT, 1)));
-    CHECK(!l1d_line(EXT) && !l2_line(EXT) && ext[0] == 7);
+    CHECK(!l1d_line(EXT) && !l2_line(EXT) && ext[0] == 7 && dirty_are(0, 0));
     three_levels();
     CHECK(done(c64x_chip_l2_invalidate_block(&chip, EXT, 1)));
-    CHECK(!l1d_line(EXT) && !l2_line(EXT) && ext[0] == 5);
+    CHECK(!l1d_line(EXT) && !l2_line(EXT) && ext[0] == 5 && dirty_are(0, 0));
     three_levels();
     CHECK(done(c64x_chip_l1d_writeback_invalidate_block(&chip, EXT, 1)));
-    CHECK(!l1d_line(EXT) && dirty(l2_line(EXT)) && ext[0] == 5);
+    CHECK(!l1d_line(EXT) && dirty(l2_line(EXT)) && ext[0] == 5 && dirty_are(0, 1));
     CHECK(is(c64x_chip_read(&chip, 4, EXT), 0, C64X_SERVER_L2_CACHE, 7));
     three_levels();
     CHECK(done(c64x_chip_l1d_invalidate_block(&chip, EXT, 1)));
-    CHECK(!l1d_line(EXT) && dirty(l2_line(EXT)) && ext[0] == 5);
+    CHECK(!l1d_line(EXT) && dirty(l2_line(EXT)) && ext[0] == 5 && dirty_are(0, 1));
     CHECK(is(c64x_chip_read(&chip, 4, EXT), 0, C64X_SERVER_L2_CACHE, 6));
     three_levels();
     CHECK(done(c64x_chip_l1d_invalidate_all(&chip)));
-    CHECK(!l1d_line(EXT) && dirty(l2_line(EXT)) && ext[0] == 5);
+    CHECK(!l1d_line(EXT) && dirty(l2_line(EXT)) && ext[0] == 5 && dirty_are(0, 1));
     three_levels();
     CHECK(done(c64x_chip_change_mode(&chip, 0)));
-    CHECK(!l1d_line(EXT) && !l2_line(EXT) && ext[0] == 7 && chip.record.mode == 0);
+    CHECK(!l1d_line(EXT) && !l2_line(EXT) && ext[0] == 7 && chip.record.mode == 0 && dirty_are(0, 0));
     CHECK(done(c64x_chip_change_mar(&chip, 128, 0)));
     CHECK(chip.record.mar128 == 0);
     three_levels();
     CHECK(done(c64x_chip_fresh(&chip)));
     CHECK(!l1d_line(EXT) && !l2_line(EXT) && ext[0] == 5 && chip.record.mode == 0 && chip.record.mar128 == 0);
+    CHECK(dirty_are(0, 0));
 }
 
 /* The order of use of an L1D set is this one. */
@@ -272,7 +294,7 @@ static void frozen(void)
         CHECK(chip.record.frozen == 1);
         CHECK(is(c64x_chip_read(&chip, 1, EXT), 0, C64X_SERVER_L1D, 0) && order_is(0, 1, 0));
         CHECK(is(c64x_chip_write(&chip, 1, EXT, 7), 0, C64X_SERVER_L1D, 0) && order_is(0, 1, 0));
-        CHECK(dirty(l1d_line(EXT)) && ext[0] == 0);
+        CHECK(dirty(l1d_line(EXT)) && ext[0] == 0 && dirty_are(1, 0));
         /* from external memory; the second time from where it stands now, and not from L1D */
         CHECK(is(c64x_chip_read(&chip, 1, EXT + 0x4041), 0, C64X_SERVER_EXTERNAL, 1));
         CHECK(is(c64x_chip_read(&chip, 1, EXT + 0x4041), 0, mode ? C64X_SERVER_L2_CACHE : C64X_SERVER_EXTERNAL, 1));
@@ -285,6 +307,7 @@ static void frozen(void)
         CHECK(c64x_chip_read(&chip, 1, EXT + 0x6000).server == C64X_SERVER_EXTERNAL);
         CHECK(c64x_chip_read(&chip, 1, EXT + 0x8000).server == C64X_SERVER_EXTERNAL);
         CHECK(mode ? !l1d_line(EXT) && !l2_line(EXT) && ext[0] == 7 : dirty(l1d_line(EXT)) && ext[0] == 0);
+        CHECK(mode ? dirty_are(0, 0) : dirty_are(1, 0));
         CHECK(clean(l1d_line(EXT + 0x2000)) && order_is(0, 1, 0));
         CHECK(done(c64x_chip_change_mode(&chip, 1 - mode)));
         CHECK(chip.record.frozen == 1 && ext[0] == 7 && !l1d_line(EXT + 0x2000));
@@ -338,6 +361,23 @@ static void refusals(void)
         CHECK(refused(c64x_chip_freeze(&chip, 0), C64X_REFUSED_RECORD));
         CHECK(refused(c64x_chip_read(&chip, 4, EXT), C64X_REFUSED_RECORD));
     }
+
+    /* one line is dirty in each cache: every other pair of counts is wrong */
+    static const uint32_t counts[] = {0, 1, 2, 3, 257, 65537, UINT32_MAX};
+    for (size_t i = 0; i < sizeof counts / sizeof counts[0]; i++)
+        for (size_t j = 0; j < sizeof counts / sizeof counts[0]; j++) {
+            three_levels();
+            chip.record.dirty_l1d = counts[i];
+            chip.record.dirty_l2 = counts[j];
+            keep();
+            if (counts[i] == 1 && counts[j] == 1)
+                continue;
+            CHECK(refused(c64x_chip_read(&chip, 4, EXT), C64X_REFUSED_RECORD));
+            CHECK(refused(c64x_chip_l2_writeback_invalidate_all(&chip), C64X_REFUSED_RECORD));
+            ran = c64x_chip_run(&chip, one, sizeof one, answers, sizeof answers);
+            CHECK(ran.consumed == 0 && ran.count == 0 && ran.stop == C64X_REFUSED_RECORD && kept());
+            CHECK(c64x_chip_view_number(&chip, EXT) == C64X_REFUSED_RECORD && kept());
+        }
 
     three_levels();
     keep();

@@ -118,13 +118,12 @@ fn panel(trace: &[u8]) -> String {
     );
     let l1d: Vec<Line> = record.l1d.iter().flat_map(|set| set.lines).collect();
     let l2: Vec<Line> = record.l2.iter().flat_map(|set| set.lines).collect();
-    for (cache, lines) in [("L1D", l1d), ("L2", l2)] {
+    for (cache, lines, dirty) in [("L1D", l1d, record.dirty_l1d), ("L2", l2, record.dirty_l2)] {
         let held: Vec<&Line> = lines.iter().filter(|line| line.valid).collect();
         for line in &held {
             let state = if line.dirty { "dirty" } else { "clean" };
             text += &format!("     {cache} line {:08X} {state}\n", line.address);
         }
-        let dirty = held.iter().filter(|line| line.dirty).count();
         text += &format!("{cache}: {} lines held, {dirty} dirty\n", held.len());
     }
     match setup.look_number(0x8000_0000) {
