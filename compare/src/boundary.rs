@@ -43,6 +43,8 @@ pub struct CRecord {
     pub mar128: u8,
     pub mar129: u8,
     pub frozen: u8,
+    pub dirty_l1d: u32,
+    pub dirty_l2: u32,
     pub l1d: [CL1dSet; 128],
     pub l2: [CL2Set; 512],
 }
@@ -89,7 +91,8 @@ const _: () = {
     assert!(offset_of!(CRecord, extlen) == 4 && offset_of!(CRecord, mode) == 8);
     assert!(offset_of!(CRecord, mar128) == 9 && offset_of!(CRecord, mar129) == 10);
     assert!(offset_of!(CRecord, frozen) == 11);
-    assert!(offset_of!(CRecord, l1d) == 12 && offset_of!(CRecord, l2) == 2_572);
+    assert!(offset_of!(CRecord, dirty_l1d) == 12 && offset_of!(CRecord, dirty_l2) == 16);
+    assert!(offset_of!(CRecord, l1d) == 20 && offset_of!(CRecord, l2) == 2_580);
     assert!(size_of::<CAnswer>() == 16);
     assert!(offset_of!(CAnswer, number) == 8 && offset_of!(CAnswer, server) == 9);
     assert!(size_of::<CRun>() == 24);
@@ -99,7 +102,7 @@ const _: () = {
     assert!(size_of::<CRunNumber>() == 8 && offset_of!(CRunNumber, run) == 4);
 };
 
-pub const RECORD_BYTES: usize = 21_004;
+pub const RECORD_BYTES: usize = 21_012;
 
 impl PartialEq for CLine {
     fn eq(&self, other: &CLine) -> bool {
@@ -122,6 +125,7 @@ impl PartialEq for CRecord {
         (self.l2len, self.extlen) == (other.l2len, other.extlen)
             && (self.mode, self.frozen) == (other.mode, other.frozen)
             && (self.mar128, self.mar129) == (other.mar128, other.mar129)
+            && (self.dirty_l1d, self.dirty_l2) == (other.dirty_l1d, other.dirty_l2)
             && self.l1d == other.l1d
             && self.l2 == other.l2
     }
@@ -424,6 +428,8 @@ pub fn record_of(record: &Record) -> Box<CRecord> {
         mar128: byte(record.mar128),
         mar129: byte(record.mar129),
         frozen: byte(record.frozen),
+        dirty_l1d: record.dirty_l1d,
+        dirty_l2: record.dirty_l2,
         l1d: std::array::from_fn(|set| l1d_set(&record.l1d[set])),
         l2: std::array::from_fn(|set| l2_set(&record.l2[set])),
     })
@@ -437,6 +443,8 @@ pub fn same_record(ours: &CRecord, theirs: &Record) -> bool {
         && u32::from(ours.mar128) == theirs.mar128
         && u32::from(ours.mar129) == theirs.mar129
         && u32::from(ours.frozen) == theirs.frozen
+        && ours.dirty_l1d == theirs.dirty_l1d
+        && ours.dirty_l2 == theirs.dirty_l2
         && ours.l1d.iter().zip(&theirs.l1d).all(|(ours, theirs)| *ours == l1d_set(theirs))
         && ours.l2.iter().zip(&theirs.l2).all(|(ours, theirs)| *ours == l2_set(theirs))
 }
@@ -470,6 +478,14 @@ pub fn dirty_line(record: &CRecord) -> Option<String> {
     Some(format!("{cache} line {:#x}", line.address))
 }
 
+/// How many ways of L1D and of L2 are marked dirty.
+pub fn dirty_marks(record: &CRecord) -> (u32, u32) {
+    let marked = |lines: &[CLine]| lines.iter().filter(|line| line.dirty != 0).count() as u32;
+    let l1d = record.l1d.iter().map(|set| marked(&set.lines)).sum();
+    let l2 = record.l2.iter().map(|set| marked(&set.lines)).sum();
+    (l1d, l2)
+}
+
 /// Where two records of C's differ.
 pub fn record_difference(ours: &CRecord, theirs: &CRecord) -> String {
     let mut found = Vec::new();
@@ -484,6 +500,8 @@ pub fn record_difference(ours: &CRecord, theirs: &CRecord) -> String {
     numbers("mar128", ours.mar128.into(), theirs.mar128.into());
     numbers("mar129", ours.mar129.into(), theirs.mar129.into());
     numbers("frozen", ours.frozen.into(), theirs.frozen.into());
+    numbers("dirty_l1d", ours.dirty_l1d, theirs.dirty_l1d);
+    numbers("dirty_l2", ours.dirty_l2, theirs.dirty_l2);
     for (set, (ours, theirs)) in ours.l1d.iter().zip(&theirs.l1d).enumerate() {
         if ours != theirs {
             let ours = set_words(&ours.lines, &ours.order);
@@ -509,7 +527,7 @@ pub fn record_difference(ours: &CRecord, theirs: &CRecord) -> String {
 
 #[cfg(test)]
 mod tests {
-    use super::{byte_difference, dirty_line, padding_of, record_of, Held};
+    use super::{byte_difference, dirty_line, dirty_marks, padding_of, record_of, Held};
     use oracle::{Line, Record};
 
     /// 2 for each of 128 sets of L1D, 2 for each line.
@@ -523,7 +541,7 @@ mod tests {
         // Of random bytes one in 256 is 0.
         assert!(other <= PADDING_BYTES && other > PADDING_BYTES * 9 / 10, "{other}");
         // Those of the first line of L1D.
-        assert!(byte_difference(&random, &clean).starts_with("padding byte 14 is"));
+        assert!(byte_difference(&random, &clean).starts_with("padding byte 22 is"));
     }
 
     #[test]
@@ -561,5 +579,6 @@ mod tests {
         // A global writeback sends lines of SRAM home too.
         record.l1d[1].lines[1] = Line { valid: true, dirty: true, address: 64 };
         assert_eq!(dirty_line(&record_of(&record)).as_deref(), Some("L1D line 0x40"));
+        assert_eq!(dirty_marks(&record_of(&record)), (2, 1));
     }
 }

@@ -218,6 +218,18 @@ fn run(arguments: &Arguments) -> Result<bool, String> {
          answered with 17 {}; written {}",
         frozen.modes, frozen.fresh, frozen.refused, frozen.run, frozen.run_refused, frozen.puts
     );
+    let counts = &met.counts;
+    println!(
+        "counts of dirty lines: of L1D up {} and down {} times, of L2 up {} and down {}, at most {:?}; \
+         writes to dirty lines {:?}; lines counted after {} calls and runs",
+        counts.l1d_up.iter().sum::<u64>(),
+        counts.l1d_down.iter().sum::<u64>(),
+        counts.l2_up.iter().sum::<u64>(),
+        counts.l2_down.iter().sum::<u64>(),
+        counts.most,
+        counts.again,
+        counts.counted
+    );
     let faults = met.possible_faults();
     println!(
         "ill-formed records made: {}; of each fault in each mode: {} at least",
@@ -356,6 +368,7 @@ fn met_everything(met: &Met) -> bool {
         && met.puts.iter().all(|&count| count > 1_000)
         && met.two_runs.met_everything()
         && met.frozen.met_everything()
+        && met.counts.met_everything()
         && met.loads.iter().all(|&count| count > 500)
         && met.long_runs > 0
         && met.short_runs == 4_681

@@ -11,15 +11,15 @@ use oracle::gen::{code, Fault, Setup, FAULTS, LEGAL_MODES, RANGE_BYTES};
 use oracle::geometry::{
     external_length_is_legal, l2_length_is_legal, L1d, EXTERNAL_BASE, L1D_BYTES, L2,
 };
-use oracle::machine::{SERVER_EXTERNAL, SERVER_L1D};
+use oracle::machine::{SERVER_EXTERNAL, SERVER_L1D, SERVER_L2};
 use oracle::short_runs;
 use oracle::trace::{decode, ANSWER_BYTES};
 use oracle::wellformed::is_well_formed;
 use oracle::{Answer, Command, Record, RunResult};
 
 use crate::boundary::{
-    self, byte_difference, dirty_line, padding_of, record_difference, record_of, same_record,
-    CAnswer, CLine, CRecord, CRunNumber, CShortRun, Held, Lent,
+    self, byte_difference, dirty_line, dirty_marks, padding_of, record_difference, record_of,
+    same_record, CAnswer, CLine, CRecord, CRunNumber, CShortRun, Held, Lent,
 };
 use crate::now;
 use crate::plant;
@@ -117,8 +117,52 @@ pub struct Met {
     /// Lists by the length of external memory, see `count_external`.
     pub externals: [u64; 5],
     /// Records made, by fault and by mode; those of no legal mode stand last.
-    pub faults: [[u64; 6]; 26],
+    pub faults: Faults,
     pub frozen: Frozen,
+    pub counts: Counts,
+}
+
+/// Records made, by fault and by mode.
+#[derive(Clone, Debug)]
+pub struct Faults([[u64; 6]; FAULTS.len()]);
+
+impl Default for Faults {
+    fn default() -> Faults {
+        Faults([[0; 6]; FAULTS.len()])
+    }
+}
+
+/// What calls did to the counts of dirty lines, by the code: the one of L1D went up or
+/// down, the one of L2 went up or down.
+#[derive(Clone, Default, Debug)]
+pub struct Counts {
+    pub l1d_up: [u64; 13],
+    pub l1d_down: [u64; 13],
+    pub l2_up: [u64; 13],
+    pub l2_down: [u64; 13],
+    /// Writes to a line that was dirty already, in L1D and in L2.
+    pub again: [u64; 2],
+    /// The largest counts.
+    pub most: [u32; 2],
+    /// Records after which the lines were counted.
+    pub counted: u64,
+}
+
+impl Counts {
+    /// Whether everything came up that should: a line becomes dirty in L1D by a write, in
+    /// L2 by a write and by a line that comes out of L1D; what sends lines home or drops
+    /// them, and an access for which one leaves, counts down.
+    pub fn met_everything(&self) -> bool {
+        let met = |counts: &[u64; 13], codes: &[usize]| codes.iter().all(|&code| counts[code] > 50);
+        met(&self.l1d_up, &[1])
+            && met(&self.l1d_down, &[0, 1, 2, 3, 4, 5, 6, 7, 8, 9, 10])
+            && met(&self.l2_up, &[0, 1, 7])
+            && met(&self.l2_down, &[0, 2, 3, 4, 5, 6, 10])
+            && self.again.iter().all(|&count| count > 200)
+            && self.most[0] > 200
+            && self.most[1] > 1_000
+            && self.counted > 10_000
+    }
 }
 
 /// What was met while L1D was frozen.
@@ -212,14 +256,14 @@ impl Met {
     pub fn count_fault(&mut self, fault: Fault, mode: u32) {
         let fault = FAULTS.iter().position(|&other| other == fault).expect("one of all faults");
         let column = LEGAL_MODES.iter().position(|&legal| legal == mode);
-        self.faults[fault][column.unwrap_or(LEGAL_MODES.len())] += 1;
+        self.faults.0[fault][column.unwrap_or(LEGAL_MODES.len())] += 1;
     }
 
     /// The faults and modes that go together, and how often they were met
     /// together; the mode 255 stands for all that are no legal mode.
     pub fn possible_faults(&self) -> Vec<(Fault, u32, u64)> {
         let mut found = Vec::new();
-        for (fault, met) in FAULTS.into_iter().zip(self.faults) {
+        for (fault, met) in FAULTS.into_iter().zip(self.faults.0) {
             for (mode, count) in LEGAL_MODES.into_iter().chain([255]).zip(met) {
                 let possible = match mode {
                     255 => fault == Fault::IllegalMode,
@@ -245,6 +289,8 @@ pub enum Kind {
     Record,
     /// A dirty line after a global writeback.
     Dirty,
+    /// A count of dirty lines that is not that of the record's own lines.
+    Miscounted,
     Bytes,
     /// A sentence about dropped lines, by its place in the request.
     Sentence(u8),
@@ -427,6 +473,20 @@ fn expect_nothing_dirty(name: &str, ours: &CRecord) -> Result<(), Wrong> {
     }
 }
 
+/// After an accepted call both counts are those of the dirty lines. This too asks the
+/// record alone.
+fn expect_counted(name: &str, ours: &CRecord) -> Result<(), Wrong> {
+    let (l1d, l2) = dirty_marks(ours);
+    for (cache, count, marks) in [("L1D", ours.dirty_l1d, l1d), ("L2", ours.dirty_l2, l2)] {
+        if count != marks {
+            let what =
+                format!("{name}: {count} dirty lines of {cache} are counted, {marks} are dirty");
+            return Err(Wrong { kind: Kind::Miscounted, what });
+        }
+    }
+    Ok(())
+}
+
 /// Whether this was an accepted global L2 writeback.
 fn is_global(command: &Command, answer: &Answer) -> bool {
     let global = matches!(command, Command::L2WritebackAll | Command::L2WritebackInvalidateAll);
@@ -556,6 +616,7 @@ impl Pair<'_> {
         expect_answer("answer", ours, theirs)?;
         self.count_beside_l2(command);
         self.count_frozen(command, &theirs);
+        self.count_dirty(command, &theirs);
         if is_global(command, &ours) {
             expect_nothing_dirty("record", &self.record)?;
             self.met.written_back += 1;
@@ -614,6 +675,25 @@ impl Pair<'_> {
             if line.dirty == 1 && (!external || self.passed.mode == 0) {
                 self.met.beside_l2[code - 2][usize::from(external)] += 1;
             }
+        }
+    }
+
+    /// What a call did to the counts of dirty lines.
+    fn count_dirty(&mut self, command: &Command, answer: &Answer) {
+        if answer.number != 0 {
+            return;
+        }
+        let (was, now, counts) = (&self.passed, &self.record, &mut self.met.counts);
+        let code = usize::from(code(command));
+        counts.l1d_up[code] += u64::from(now.dirty_l1d > was.dirty_l1d);
+        counts.l1d_down[code] += u64::from(now.dirty_l1d < was.dirty_l1d);
+        counts.l2_up[code] += u64::from(now.dirty_l2 > was.dirty_l2);
+        counts.l2_down[code] += u64::from(now.dirty_l2 < was.dirty_l2);
+        counts.most[0] = counts.most[0].max(now.dirty_l1d);
+        counts.most[1] = counts.most[1].max(now.dirty_l2);
+        if let (Command::Write { .. }, SERVER_L1D | SERVER_L2) = (command, answer.server) {
+            let same = (now.dirty_l1d, now.dirty_l2) == (was.dirty_l1d, was.dirty_l2);
+            counts.again[usize::from(answer.server == SERVER_L2)] += u64::from(same);
         }
     }
 
@@ -676,6 +756,8 @@ impl Pair<'_> {
             self.met.untouched += 1;
             return expect_untouched("record", &self.record, &self.passed);
         }
+        expect_counted("record", &self.record)?;
+        self.met.counts.counted += 1;
         if !same_record(&self.record, &self.theirs.record) {
             let expected = record_of(&self.theirs.record);
             let what = format!("record: {}", record_difference(&self.record, &expected));
@@ -791,6 +873,9 @@ impl Pair<'_> {
             if is_global(&command, &single) {
                 expect_nothing_dirty("record after a single call", &record)?;
                 self.met.written_back += 1;
+            }
+            if single.number == 0 {
+                expect_counted("record after a single call", &record)?;
             }
             place += length;
             count += 1;

@@ -18,7 +18,7 @@ use oracle::trace::{decode, ANSWER_BYTES};
 use oracle::writer::Put;
 use oracle::{Answer, Command};
 
-use crate::boundary::{CAnswer, CLine, CRecord, CRun, CRunNumber, CShortRun, Lent};
+use crate::boundary::{dirty_marks, CAnswer, CLine, CRecord, CRun, CRunNumber, CShortRun, Lent};
 use crate::pair::SMALL;
 
 /// The planted differences; `PLANTS` says what each does.
@@ -118,6 +118,21 @@ enum Plant {
     PutFreeze,
     FlatFreeze,
     DataFrozen,
+    CountVictim,
+    CountIntoL2,
+    CountAgain,
+    CountAgainL2,
+    CountWriteback,
+    CountGlobal,
+    CountDropped,
+    CountHalves,
+    CountMode,
+    CountFresh,
+    CountRun,
+    CountL1dUntested,
+    CountL2Untested,
+    CountsAdded,
+    DataCount,
     BenchOutput,
     BenchStatus,
 }
@@ -133,7 +148,7 @@ const fn planted(plant: Plant, name: &'static str, about: &'static str) -> Plant
     Planted { plant, name, about }
 }
 
-pub const PLANTS: [Planted; 96] = [
+pub const PLANTS: [Planted; 111] = [
     planted(Plant::ReadValue, "read-value", "a 4-byte read from L2 cache gets 1 more"),
     planted(Plant::ReadOrder, "read-order", "a read hit in L1D turns its set's order around"),
     planted(Plant::WriteNumber, "write-number", "a write refused with 6 gets 5"),
@@ -232,6 +247,33 @@ pub const PLANTS: [Planted; 96] = [
         "data-frozen",
         "..: a frozen hit on an odd value turns an order around",
     ),
+    planted(
+        Plant::CountVictim,
+        "count-victim",
+        "a dirty line that leaves for a read is counted on",
+    ),
+    planted(Plant::CountIntoL2, "count-into-l2", "a line of L1D makes one of L2 dirty uncounted"),
+    planted(Plant::CountAgain, "count-again", "a write to a dirty line of L1D counts it again"),
+    planted(Plant::CountAgainL2, "count-again-l2", "a write to a dirty line of L2 counts it again"),
+    planted(Plant::CountWriteback, "count-writeback", "L1D block writeback does not count down"),
+    planted(Plant::CountGlobal, "count-global", "a global writeback does not count L2 down"),
+    planted(Plant::CountDropped, "count-dropped", "what invalidates L1D does not count down"),
+    planted(
+        Plant::CountHalves,
+        "count-halves",
+        "halves that L2 block invalidate drops are counted on",
+    ),
+    planted(Plant::CountMode, "count-mode", "a mode change keeps L2's count"),
+    planted(Plant::CountFresh, "count-fresh", "a fresh start keeps L1D's count"),
+    planted(Plant::CountRun, "count-run", "a run counts one line of L2 more"),
+    planted(
+        Plant::CountL1dUntested,
+        "count-l1d-untested",
+        "a wrong count of L1D alone is accepted",
+    ),
+    planted(Plant::CountL2Untested, "count-l2-untested", "a wrong count of L2 alone is accepted"),
+    planted(Plant::CountsAdded, "counts-added", "wrong counts with the right sum are accepted"),
+    planted(Plant::DataCount, "data-count", "..: a write of an odd value counts a line more"),
     planted(Plant::BenchOutput, "bench-output", "bench-trace prints a line more after an 8"),
     planted(Plant::BenchStatus, "bench-status", "bench-trace fails after a 7"),
 ];
@@ -433,6 +475,53 @@ fn accessed_frozen(
     }
 }
 
+/// The counts after an accepted call: mistakes in keeping them.
+fn counted(plant: Plant, command: &Command, server: u8, record: &mut CRecord, passed: &CRecord) {
+    let read = matches!(command, Command::Read { .. });
+    let write = matches!(command, Command::Write { .. });
+    let same = (record.dirty_l1d, record.dirty_l2) == (passed.dirty_l1d, passed.dirty_l2);
+    let (l1d, l2) = (record.dirty_l1d, record.dirty_l2);
+    match (plant, command) {
+        (Plant::CountVictim, _) if read => record.dirty_l1d = l1d.max(passed.dirty_l1d),
+        (Plant::CountIntoL2, _) if !write => record.dirty_l2 = l2.min(passed.dirty_l2),
+        (Plant::CountAgain, _) if write && same && server == SERVER_L1D => record.dirty_l1d += 1,
+        (Plant::CountAgainL2, _) if write && same && server == SERVER_L2 => record.dirty_l2 += 1,
+        (Plant::CountWriteback, Command::L1dBlockWritebackInvalidate { .. })
+        | (Plant::CountDropped, Command::L1dBlockInvalidate { .. } | Command::L1dInvalidateAll)
+        | (Plant::CountHalves, Command::L2BlockInvalidate { .. }) => {
+            record.dirty_l1d = passed.dirty_l1d;
+        }
+        (Plant::CountGlobal, _) if is_global(command) => record.dirty_l2 = passed.dirty_l2,
+        (Plant::CountMode, Command::Mode { .. }) => record.dirty_l2 = passed.dirty_l2,
+        _ => {}
+    }
+}
+
+/// Whether a mistaken test of the counts takes them for right.
+fn untested(plant: Plant, passed: &CRecord) -> bool {
+    let (l1d, l2) = dirty_marks(passed);
+    let (l1d_right, l2_right) = (passed.dirty_l1d == l1d, passed.dirty_l2 == l2);
+    let sum = passed.dirty_l1d.wrapping_add(passed.dirty_l2);
+    match plant {
+        Plant::CountL1dUntested => !l1d_right && l2_right,
+        Plant::CountL2Untested => l1d_right && !l2_right,
+        Plant::CountsAdded => !l1d_right && sum == l1d + l2,
+        _ => false,
+    }
+}
+
+/// Whether both counts of a record are those of its lines.
+fn counts_are_right(record: &CRecord) -> bool {
+    (record.dirty_l1d, record.dirty_l2) == dirty_marks(record)
+}
+
+/// Counts that were right follow a mistake in the marks: it has to be found by itself.
+fn counts_follow(record: &mut CRecord, right: bool) {
+    if right {
+        (record.dirty_l1d, record.dirty_l2) = dirty_marks(record);
+    }
+}
+
 /// What a direct call gave back, and the record and the memories after it.
 pub fn direct(
     command: &Command,
@@ -443,13 +532,34 @@ pub fn direct(
     before: Option<Before>,
 ) {
     let Some(plant) = CHOSEN.get() else { return };
+    let (accepted, server) = (called.number == 0, called.server);
+    let right = counts_are_right(record);
+    marked(*plant, command, called, record, passed, lent, before);
+    counts_follow(record, right);
+    if accepted {
+        counted(*plant, command, server, record, passed);
+    } else if called.number == 2 && untested(*plant, passed) {
+        called.number = 0;
+    }
+}
+
+/// The same, but for mistakes in the counts.
+fn marked(
+    plant: Plant,
+    command: &Command,
+    called: &mut CAnswer,
+    record: &mut CRecord,
+    passed: &CRecord,
+    lent: Lent,
+    before: Option<Before>,
+) {
     let accepted = called.number == 0;
     if accepted && (is_global(command) || is_l2_block(command)) {
         let lent = Lent { l1d: &mut *lent.l1d, l2: &mut *lent.l2, ext: &mut *lent.ext };
-        reached(*plant, command, record, passed, lent, before);
+        reached(plant, command, record, passed, lent, before);
     }
     if accepted && passed.frozen == 1 {
-        accessed_frozen(*plant, command, called, record, passed, lent.ext);
+        accessed_frozen(plant, command, called, record, passed, lent.ext);
     }
     match (plant, *command) {
         (Plant::FreezeLost, Command::Freeze { .. }) if accepted => record.frozen = 0,
@@ -522,6 +632,7 @@ pub fn fresh(called: &mut CAnswer, record: &mut CRecord, passed: &CRecord) {
         Some(Plant::FreshNumber) if called.number == 1 => called.number = 2,
         Some(Plant::FreshRecord) if called.number == 0 => record.mar129 = 1,
         Some(Plant::FreshKept) if called.number == 1 => *record = *passed,
+        Some(Plant::CountFresh) if called.number == 0 => record.dirty_l1d = passed.dirty_l1d,
         Some(Plant::FreshFrozen) if called.number == 0 && passed.frozen == 1 => record.frozen = 1,
         _ => {}
     }
@@ -530,6 +641,7 @@ pub fn fresh(called: &mut CAnswer, record: &mut CRecord, passed: &CRecord) {
 /// What a run gave back, its answer bytes, and the record after it.
 pub fn run(run: &mut CRun, answers: &mut [u8], record: &mut CRecord, trace: &[u8]) {
     let behind = run.count * ANSWER_BYTES;
+    let right = counts_are_right(record);
     match CHOSEN.get() {
         Some(Plant::RunCounts) if run.stop == 12 => run.consumed += 1,
         Some(Plant::RunAnswer) if run.count >= 3 => change(answers.get_mut(2 * ANSWER_BYTES + 1)),
@@ -551,6 +663,10 @@ pub fn run(run: &mut CRun, answers: &mut [u8], record: &mut CRecord, trace: &[u8
             hold_sram_line(record);
         }
         _ => {}
+    }
+    counts_follow(record, right && CHOSEN.get().is_some());
+    if CHOSEN.get() == Some(&Plant::CountRun) && run.count > 0 {
+        record.dirty_l2 += 1;
     }
 }
 
@@ -587,6 +703,7 @@ pub fn steered(command: &Command, called: &mut CAnswer, record: &mut CRecord, le
         (Plant::DataVictim, Command::Read { address, .. }) if called.value % 2 == 1 => {
             record.l1d[L1d::set_of(address)].order.swap(0, 1);
         }
+        (Plant::DataCount, Command::Write { value, .. }) if value % 2 == 1 => record.dirty_l1d += 1,
         (Plant::DataFrozen, Command::Read { address, .. })
             if called.value % 2 == 1 && record.frozen == 1 && called.server == SERVER_L1D =>
         {

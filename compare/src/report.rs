@@ -63,8 +63,15 @@ fn report_record(record: &Record) {
 /// A record: its numbers, and the sets that are not fresh.
 pub fn record_words(record: &Record) -> String {
     let mut words = format!(
-        "record: L {} E {} mode {} MAR {} {} frozen {}",
-        record.l, record.e, record.mode, record.mar128, record.mar129, record.frozen
+        "record: L {} E {} mode {} MAR {} {} frozen {} dirty {} {}",
+        record.l,
+        record.e,
+        record.mode,
+        record.mar128,
+        record.mar129,
+        record.frozen,
+        record.dirty_l1d,
+        record.dirty_l2
     );
     for (set, held) in record.l1d.iter().enumerate().filter(|(_, set)| **set != L1dSet::FRESH) {
         words += &format!("\n  L1D set {set}: {}", set_words(&held.lines, &held.order));

@@ -772,6 +772,10 @@ fn changed(rng: &mut Rng, turn: u64, met: &mut Met) -> Option<Case> {
         for _ in 0..rng.pick(&[1, 1, 1, 2, 3]) {
             change(rng, &mut record);
         }
+        // Lines that come and go would otherwise leave no record well formed.
+        if rng.chance(3, 4) {
+            record.write_counts();
+        }
         let lines = hot_for(rng, &record);
         ops.push(Op::Record(record));
         ops.push(Op::Direct(Command::Read { size: 1, address: EXTERNAL_BASE }));
@@ -798,7 +802,11 @@ fn change(rng: &mut Rng, record: &mut Record) {
     let sets = (L2::sets(record.mode) as u32 + 2).min(512);
     let (l1d, way) = (rng.below(128) as usize, rng.below(2) as usize);
     let (l2, l2_way) = (rng.below(sets) as usize, rng.below(4) as usize);
-    match rng.below(17) {
+    match rng.below(18) {
+        17 => {
+            let count = if rng.chance(1, 2) { &mut record.dirty_l1d } else { &mut record.dirty_l2 };
+            *count = count.wrapping_add(rng.pick(&[1, 2, u32::MAX, 256, 1 << 16]));
+        }
         16 => record.frozen = rng.pick(&[0, 1, 2, 3, 255]),
         0 => record.mode = rng.pick(&[0, 1, 2, 3, 4, 5, 6, 7, 8, 255]),
         1 => record.mar128 = rng.pick(&[0, 1, 2]),

@@ -338,12 +338,35 @@ impl Shrinker {
             return;
         }
         let mut record = self.case.start.setup.record.clone();
+        let counts = Counts::of(&record);
         change(&mut record);
+        counts.write(&mut record);
         if record != self.case.start.setup.record {
             let mut start = self.case.start.clone();
             start.setup.record = record;
             self.try_start(start);
         }
+    }
+}
+
+/// How far the counts of dirty lines are from those of the lines: nothing, where they are
+/// right. With other lines they stay as right or as wrong as they were.
+pub struct Counts {
+    l1d: u32,
+    l2: u32,
+}
+
+impl Counts {
+    pub fn of(record: &Record) -> Counts {
+        Counts {
+            l1d: record.dirty_l1d.wrapping_sub(record.dirty_in_l1d()),
+            l2: record.dirty_l2.wrapping_sub(record.dirty_in_l2()),
+        }
+    }
+
+    pub fn write(&self, record: &mut Record) {
+        record.dirty_l1d = record.dirty_in_l1d().wrapping_add(self.l1d);
+        record.dirty_l2 = record.dirty_in_l2().wrapping_add(self.l2);
     }
 }
 

@@ -25,7 +25,7 @@ use crate::pair::Met;
 use crate::plant;
 use crate::report::{command_words, left, record_words};
 use crate::sections::in_bytes;
-use crate::shrink::Size;
+use crate::shrink::{Counts, Size};
 
 /// A single call: trace runs and U7's writer are left out. Of a write, the value
 /// that the second run writes.
@@ -441,7 +441,9 @@ impl Found {
     /// Tries the case with something changed in it.
     fn change(&mut self, change: impl FnOnce(&mut Case)) -> bool {
         let mut case = self.case.clone();
+        let counts = Counts::of(&case.record);
         change(&mut case);
+        counts.write(&mut case.record);
         self.take(case)
     }
 }

@@ -93,6 +93,11 @@ impl Record {
         self.l2.iter().flat_map(|set| set.lines).filter(|line| line.dirty).count() as u32
     }
 
+    /// Whether both counts are those of the lines.
+    pub fn counts_are_right(&self) -> bool {
+        self.dirty_l1d == self.dirty_in_l1d() && self.dirty_l2 == self.dirty_in_l2()
+    }
+
     /// "Write both counts into the record." (02, U5) The lines are counted.
     pub fn write_counts(&mut self) {
         self.dirty_l1d = self.dirty_in_l1d();

@@ -70,7 +70,8 @@ pub fn holds(record: &Record, clause: Clause) -> bool {
         Clause::L2Places => l2_lines_lie_where_they_may(record),
         Clause::UnusedSets => sets_not_in_use_are_fresh(record),
         Clause::Inclusion => external_l1d_lines_lie_in_l2_lines(record),
-        Clause::DirtyCounts => counts_are_right(record),
+        // 02, U5: "A record whose counts are wrong isn't well formed".
+        Clause::DirtyCounts => record.counts_are_right(),
     }
 }
 
@@ -203,9 +204,4 @@ fn external_l1d_lines_lie_in_l2_lines(record: &Record) -> bool {
             !external || record.find_l2(line.address).is_some()
         })
     })
-}
-
-/// 02, U5: "A record whose counts are wrong isn't well formed".
-fn counts_are_right(record: &Record) -> bool {
-    record.dirty_l1d == record.dirty_in_l1d() && record.dirty_l2 == record.dirty_in_l2()
 }
