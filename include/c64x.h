@@ -83,11 +83,10 @@ extern "C" {
  * be changed or compiled again: another layout of a struct, other arguments, another meaning of a number. MINOR goes
  * up when calls are added, or when one does more than it did, and programs stay as they are. Version 1 passed the
  * record by value; since 2.4 the L2 commands reach all of L1D; since 2.5 L1D can be frozen, and a byte of the record
- * that was padding says whether it is; since 2.6 two counts stand in front of the record's sets, so that programs have
- * to be compiled again.
+ * that was padding says whether it is; since 3.0 two counts of dirty lines stand in front of the record's sets.
  */
-#define C64X_VERSION_MAJOR 2
-#define C64X_VERSION_MINOR 6
+#define C64X_VERSION_MAJOR 3
+#define C64X_VERSION_MINOR 0
 
 /* The stack that a call needs at most, in bytes. */
 #define C64X_STACK_BYTES 4096
