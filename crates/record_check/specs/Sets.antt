@@ -9,7 +9,7 @@ use lib.Dec.{ltb, eqb}
 use borrow.Author.Tests.{lt-ltb, ne-eqb, ltb-true, eqb-true, eqb-false}
 use Rattle.model.specs.Basics.{allIndexed}
 use Rattle.model.specs.Lines.{holds}
-use Rattle.model.specs.Records.{emptyWay, l2SetsOf, l2Place, l1dLineOk, l2LineOk, noneTwice, permuted2, permuted4, freshUnlessUsed, l1dSetOk, l2SetOk}
+use Rattle.model.specs.Records.{dirtyLines, emptyWay, l2SetsOf, l2Place, l1dLineOk, l2LineOk, noneTwice, permuted2, permuted4, freshUnlessUsed, l1dSetOk, l2SetOk}
 use Rattle.model.specs.Laws.{bool, both-true}
 use Rattle.model.specs.declared.Line.{Line}
 use Rattle.model.specs.declared.Order4.{Order4}
@@ -99,6 +99,16 @@ module _ (ws : List ℕ) (i : ℕ) where
         let u : l1dWay r0 i m0 a0 ≡ true = sym (l1d-way-empty r0 i m0 a0 f0) ∙ p .1 in
         let v : l1dWay r0 i m1 a1 ≡ true = sym (l1d-way-empty r0 i m1 a1 (eqb-true (m1 % 65536) 0 (q .0))) ∙ q .1 in
         sym (ordered ∙ rw (u, v, f0) refl)
+
+    -- .. and then none is dirty
+    pub l1d-set-bare : (b0 b1 : Bool) → b0 ≡ emptyIn m0 a0 → b1 ≡ emptyIn m1 a1 → b0 ≡ true → b1 ≡ true → (l1dOkIn ws i ≡ true) × (dirtyLines (l1dIn ws i .lines) ≡ 0)
+    unfolding emptyIn lineIn dirtyLines
+    l1d-set-bare b0 b1 e0 e1 t0 t1 =
+        let t : (b0 && b1) ≡ true = rw (t0, t1) refl in
+        let p = both-true (eqb (m0 % 65536) 0) (eqb a0 0) (sym e0 ∙ t0) in
+        let q = both-true (eqb (m1 % 65536) 0) (eqb a1 0) (sym e1 ∙ t1) in
+        let f0 = eqb-true (m0 % 65536) 0 (p .0) in let f1 = eqb-true (m1 % 65536) 0 (q .0) in
+        (sym (l1d-set-empty b0 b1 e0 e1 t), rw (l1d-read, f0, f1) refl)
 
     -- a way that does not pass
     pub l1d-set-off-0 : (b : Bool) → b ≡ l1dWay r0 i m0 a0 → b ≡ false → false ≡ l1dOkIn ws i
@@ -273,3 +283,23 @@ module _ (ws : List ℕ) (j : ℕ) where
       unfolding freshUnlessUsed
       l2-set-last f h o eo p ep =
           sym (l2-written ∙ rw (sym joined ∙ t, once (sym joined ∙ t) ∙ sym en ∙ f, lt-ltb j (l2SetsOf rec) h, and-true, ep, eo) refl)
+
+  -- ---- in use, with no line: in order, and none dirty
+  pub l2-set-bare : j < l2SetsOf rec → (b0 b1 b2 b3 : Bool) → b0 ≡ emptyIn w0 w1 → b1 ≡ emptyIn w2 w3 → b2 ≡ emptyIn w4 w5 → b3 ≡ emptyIn w6 w7 →
+      b0 ≡ true → ((b3 && b2) && b1) ≡ true → (o : Order4) → o ≡ order4In w8 → (p : Bool) → p ≡ permuted4 o → p ≡ true →
+      (l2OkIn ws j ≡ true) × (dirtyLines (l2In ws j .lines) ≡ 0)
+  unfolding emptyIn lineIn dirtyLines onceIn
+  l2-set-bare h b0 b1 b2 b3 e0 e1 e2 e3 t0 t o eo p ep tp =
+      let u = both-true (b3 && b2) b1 t in let k = both-true b3 b2 (u .0) in
+      let x0 = both-true (eqb (w0 % 65536) 0) (eqb w1 0) (sym e0 ∙ t0) in let x1 = both-true (eqb (w2 % 65536) 0) (eqb w3 0) (sym e1 ∙ u .1) in
+      let x2 = both-true (eqb (w4 % 65536) 0) (eqb w5 0) (sym e2 ∙ k .1) in let x3 = both-true (eqb (w6 % 65536) 0) (eqb w7 0) (sym e3 ∙ k .0) in
+      let m0 = eqb-true (w0 % 65536) 0 (x0 .0) in let m1 = eqb-true (w2 % 65536) 0 (x1 .0) in
+      let m2 = eqb-true (w4 % 65536) 0 (x2 .0) in let m3 = eqb-true (w6 % 65536) 0 (x3 .0) in
+      let v0 : true ≡ l2Way rec j w0 w1 = sym (sym (l2-way-empty rec j w0 w1 m0) ∙ x0 .1) in
+      let v1 : true ≡ l2Way rec j w2 w3 = sym (sym (l2-way-empty rec j w2 w3 m1) ∙ x1 .1) in
+      let v2 : true ≡ l2Way rec j w4 w5 = sym (sym (l2-way-empty rec j w4 w5 m2) ∙ x2 .1) in
+      let v3 : true ≡ l2Way rec j w6 w7 = sym (sym (l2-way-empty rec j w6 w7 m3) ∙ x3 .1) in
+      let c : true ≡ onceIn w1 w3 w5 w7 = sym (rw (x0 .1, x1 .1, x2 .1) refl) in (
+        sym (l2-set-last true true true true v0 v1 v2 v3 refl true c refl h o eo p ep) ∙ tp,
+        rw (l2-read, m0, m1, m2, m3) refl,
+      )
