@@ -14,24 +14,46 @@ ghost use Rattle.model.specs.Memories.{externalBase};
 ghost use Rattle.model.specs.Records.{State, state, l1dSetAt};
 ghost use Rattle.model.specs.Ways.{l1dVictim, l1dWay};
 ghost use Rattle.model.specs.Homes.{memoryPart, putMemory};
-ghost use Rattle.model.specs.Access.{access, cacheable, l1dBytes, useHit, evictL1d, putL1d, readHit, writeHit, readMiss, writeMiss};
+ghost use Rattle.model.specs.Access.{cacheable, l1dBytes, useHit, evictL1d, putL1d, readHit, writeHit};
+ghost use Rattle.model.specs.Reports.{noReport};
 ghost use Rattle.model.specs.Refusals.{sizeOk};
 ghost use Rattle.model.specs.Calls.{reply, step};
 ghost use Rattle.model.specs.declared.Record.{Record};
 ghost use Rattle.tags.specs.Words.{recordWords, recordIn, stateIn};
 ghost use Rattle.tags.specs.Sizes.{Lent};
-ghost use Rattle.access.specs.Serving.{answered};
+ghost use Rattle.access.specs.Serving.{answered, answerOf, plainAnswer, missed, passed, RoomTold};
 use geometry::L1d;
 use geometry::L2;
 use model::Command;
+use model::Left;
 
-// What an access answers: the number of its refusal (0: accepted), who served it, and the value that was read.
-// C is given it as it stands.
-#[repr(C)]
+// What a call answers: the number of its refusal (0: accepted), who served it, and the value that was read. And what an
+// access reports (02, U2): which line left a way of L1D and of L2 for it, and how many bytes of external memory it read
+// and wrote.
 pub struct Answer {
     pub value: u64,
     pub number: u8,
     pub server: u8,
+    pub l1d_left: Left,
+    pub l2_left: Left,
+    pub read: u32,
+    pub written: u32,
+}
+
+// An answer that reports nothing.
+pub fn plain(number: u8, server: u8, value: u64) -> Answer
+    ensures { λ x. ⌜ x ≡ plainAnswer number server value ⌝ }
+{
+    let none = Left::NoWay;
+    Answer {
+        value: value,
+        number: number,
+        server: server,
+        l1d_left: none,
+        l2_left: none,
+        read: 0,
+        written: 0,
+    }
 }
 
 // ---- a way of L1D serves
@@ -72,8 +94,8 @@ pub fn hit(tags: &mut [u32], i: usize, w: usize, c: Command, l1d: &mut [u8]) -> 
     requires { ⌜ (i ≡ l1dSetOf (c .second)) × (sizeOk (c .first) ≡ true) ⌝ }
     ensures { λ r. ⌜ ((m e : List ℕ) → w ≡ l1dWay (stateIn (now (tags .entry)) (now (l1d .entry)) m e) (c .second) →
         reply 0 1 r (stateIn (now (tags .exit)) (now (l1d .exit)) m e)
-        ≡ answered c (readHit (c .first) (c .second) (stateIn (now (tags .entry)) (now (l1d .entry)) m e))
-        (writeHit (c .second) (littleBytes (c .value) (c .first)) (stateIn (now (tags .entry)) (now (l1d .entry)) m e))) ⌝ }
+        ≡ answered c (readHit (c .first) (c .second) (stateIn (now (tags .entry)) (now (l1d .entry)) m e)) noReport
+        (writeHit (c .second) (littleBytes (c .value) (c .first)) (stateIn (now (tags .entry)) (now (l1d .entry)) m e)) noReport) ⌝ }
 {
     if c.code == 1 {
         put_way(tags, i, w, c.second, c.first, c.value, l1d);
@@ -85,6 +107,13 @@ pub fn hit(tags: &mut [u32], i: usize, w: usize, c: Command, l1d: &mut [u8]) -> 
 }
 
 // ---- a miss
+// A way of L1D that was emptied, or none: which line left it, and how many bytes of it went to external memory.
+pub struct Room {
+    pub way: usize,
+    pub left: Left,
+    pub written: u32,
+}
+
 // A read miss chooses a way of L1D set i; a dirty line there is written back to its home and the way emptied. A write
 // miss chooses none, and neither does a read miss where L1D is frozen.
 pub fn free_way(
@@ -96,20 +125,29 @@ pub fn free_way(
     l1d: &[u8],
     l2: &mut [u8],
     ext: &mut [u8],
-) -> usize
+) -> Room
     requires { ⌜ i < 128 ⌝ }
     requires { ⌜ Lent sram sets (now tags) ⌝ }
-    ensures { λ r. ⌜ (r < 2) × (none ≡ false → r ≡ l1dVictim (l1dSetAt (recordIn (now (tags .entry))) i)) ⌝ }
+    ensures { λ r. ⌜ RoomTold r none i (stateIn (now (tags .entry)) (now (l1d .entry)) (now (l2 .entry)) (now (ext .entry))) ⌝ }
     ensures { λ _. ⌜ stateIn (now (tags .exit)) (now (l1d .entry)) (now (l2 .exit)) (now (ext .exit))
         ≡ cond none (stateIn (now (tags .entry)) (now (l1d .entry)) (now (l2 .entry)) (now (ext .entry)))
         (evictL1d i (l1dVictim (l1dSetAt (recordIn (now (tags .entry))) i)) (stateIn (now (tags .entry)) (now (l1d .entry)) (now (l2 .entry)) (now (ext .entry)))) ⌝ }
 {
     if none {
-        return 0;
+        return Room {
+            way: 0,
+            left: Left::NoWay,
+            written: 0,
+        };
     }
     let w = tags::l1d_victim(tags, i);
-    l1d_writeback::evict_l1d(tags, sram, sets, i, w, l1d, l2, ext);
-    w
+    let g = l1d_writeback::evict_l1d(tags, sram, sets, i, w, l1d, l2, ext);
+    let k = g.left;
+    Room {
+        way: w,
+        left: k,
+        written: g.written,
+    }
 }
 
 // Neither way of L1D set i holds the line.
@@ -125,37 +163,52 @@ pub fn miss(
 ) -> Answer
     requires { ⌜ (i < 128) × ((i ≡ l1dSetOf (c .second)) × (sizeOk (c .first) ≡ true)) ⌝ }
     requires { ⌜ Lent sram sets (now tags) ⌝ }
-    ensures { λ r. ⌜ reply (r .number) (r .server) (r .value) (stateIn (now (tags .exit)) (now (l1d .exit)) (now (l2 .exit)) (now (ext .exit)))
-        ≡ answered c (readMiss (c .first) (c .second) (stateIn (now (tags .entry)) (now (l1d .entry)) (now (l2 .entry)) (now (ext .entry))))
-        (writeMiss (c .second) (littleBytes (c .value) (c .first)) (stateIn (now (tags .entry)) (now (l1d .entry)) (now (l2 .entry)) (now (ext .entry)))) ⌝ }
+    ensures { λ r. ⌜ answerOf r (stateIn (now (tags .exit)) (now (l1d .exit)) (now (l2 .exit)) (now (ext .exit)))
+        ≡ missed c (stateIn (now (tags .entry)) (now (l1d .entry)) (now (l2 .entry)) (now (ext .entry))) ⌝ }
 {
     let write = c.code == 1;
     let frozen = tags::frozen_of(tags);
-    let way = free_way(tags, sram, sets, i, write | frozen, l1d, l2, ext);
+    let room = free_way(tags, sram, sets, i, write | frozen, l1d, l2, ext);
     let h = l2_fetch::fetch_l2(tags, sram, sets, c.second, l1d, l2, ext);
+    let l = h.left;
     if write {
-        l2_fetch::write_home(tags, sram, sets, h, c.second, c.first, c.value, l2, ext);
+        let n = l2_fetch::write_home(tags, sram, sets, h, c.second, c.first, c.value, l2, ext);
         return Answer {
+            value: 0,
             number: 0,
             server: h.server,
-            value: 0,
+            l1d_left: Left::NoWay,
+            l2_left: l,
+            read: h.read,
+            written: h.written + n,
         };
     }
     if frozen {
+        let n = l2_fetch::home_moved(h, c.second, c.first, ext);
         let v = l2_fetch::read_home(tags, sram, sets, h, c.second, c.first, l2, ext);
         return Answer {
+            value: v,
             number: 0,
             server: h.server,
-            value: v,
+            l1d_left: Left::NoWay,
+            l2_left: l,
+            read: h.read + n,
+            written: h.written,
         };
     }
-    l2_fetch::fill_l1d(tags, sram, sets, h, i, way, c.second, l1d, l2, ext);
+    let way = room.way;
+    let k = room.left;
+    let n = l2_fetch::fill_l1d(tags, sram, sets, h, i, way, c.second, l1d, l2, ext);
     tags::l1d_use(tags, i, way);
     let v = way_value(i, way, c.second, c.first, l1d);
     Answer {
+        value: v,
         number: 0,
         server: h.server,
-        value: v,
+        l1d_left: k,
+        l2_left: l,
+        read: h.read + n,
+        written: room.written + h.written,
     }
 }
 
@@ -178,17 +231,34 @@ pub fn is_cacheable(tags: &[u32], a: u32) -> bool
 }
 
 // External memory with MAR bit 0 is reached directly, touching no line.
-pub fn uncached(c: Command, ext: &mut [u8]) -> u64
+pub fn uncached(c: Command, ext: &mut [u8]) -> Answer
     requires { ⌜ (sizeOk (c .first) ≡ true) × (ltb (c .second) externalBase ≡ false) ⌝ }
-    ensures { λ r. ⌜ ((z : State) → z .ext ≡ now (ext .entry) → reply 0 4 r (state (z .rec) (z .l1d) (z .l2) (now (ext .exit)))
-        ≡ answered c (access 4 (memoryPart (c .second) (c .first) z) z) (access 4 [] (putMemory (c .second) (littleBytes (c .value) (c .first)) z))) ⌝ }
+    ensures { λ r. ⌜ ((z : State) → z .ext ≡ now (ext .entry) → answerOf r (state (z .rec) (z .l1d) (z .l2) (now (ext .exit))) ≡ passed c z) ⌝ }
 {
     let at = geometry::external_place(c.second);
+    let n = memory::held(ext, at, c.first);
     if c.code == 1 {
         memory::store(ext, at, c.first, c.value);
-        return 0;
+        return Answer {
+            value: 0,
+            number: 0,
+            server: 4,
+            l1d_left: Left::NoWay,
+            l2_left: Left::NoWay,
+            read: 0,
+            written: n,
+        };
     }
-    memory::load(ext, at, c.first)
+    let v = memory::load(ext, at, c.first);
+    Answer {
+        value: v,
+        number: 0,
+        server: 4,
+        l1d_left: Left::NoWay,
+        l2_left: Left::NoWay,
+        read: n,
+        written: 0,
+    }
 }
 
 // The value that is checked: a read has none.
@@ -213,7 +283,7 @@ pub fn access(
 ) -> Answer
     requires { ⌜ c .code < 2 ⌝ }
     requires { ⌜ Lent sram sets (now tags) ⌝ }
-    ensures { λ r. ⌜ reply (r .number) (r .server) (r .value) (stateIn (now (tags .exit)) (now (l1d .exit)) (now (l2 .exit)) (now (ext .exit)))
+    ensures { λ r. ⌜ answerOf r (stateIn (now (tags .exit)) (now (l1d .exit)) (now (l2 .exit)) (now (ext .exit)))
         ≡ step c (stateIn (now (tags .entry)) (now (l1d .entry)) (now (l2 .entry)) (now (ext .entry))) ⌝ }
     ensures refused { λ r. ⌜ (r .number ≢ 0 → now (tags .exit) ≡ now (tags .entry)) ⌝ }
 {
@@ -225,29 +295,16 @@ pub fn access(
         checked_value(c),
     );
     if due != 0 {
-        return Answer {
-            number: due,
-            server: 0,
-            value: 0,
-        };
+        return plain(due, 0, 0);
     }
     if !is_cacheable(tags, c.second) {
-        let v = uncached(c, ext);
-        return Answer {
-            number: 0,
-            server: 4,
-            value: v,
-        };
+        return uncached(c, ext);
     }
     let i = L1d::set_of(c.second);
     let w = tags::l1d_find(tags, i, L1d::line_of(c.second));
     if w < L1d::WAYS {
         let v = hit(tags, i, w, c, l1d);
-        return Answer {
-            number: 0,
-            server: 1,
-            value: v,
-        };
+        return plain(0, 1, v);
     }
     miss(tags, sram, sets, i, c, l1d, l2, ext)
 }

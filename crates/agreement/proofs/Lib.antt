@@ -13,6 +13,7 @@ pub mod Level
 pub mod Memory
 pub mod ReadWrite
 pub mod Reading
+pub mod Reports
 pub mod Stays
 pub mod Steps
 pub mod Sweeps

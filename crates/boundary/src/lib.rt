@@ -6,7 +6,7 @@ ghost use mathlib.Core.Logic.{_≢_};
 ghost use mathlib.Core.Path.{_≡_};
 ghost use Rattle.model.specs.Refusals.{lentDue, viewDue};
 ghost use Rattle.model.specs.Trace.{command};
-ghost use Rattle.model.specs.Calls.{reply, oneCommand, freshStart, called, ran, runCall};
+ghost use Rattle.model.specs.Calls.{oneCommand, freshStart, called, ran, runCall};
 ghost use Rattle.traces.specs.ShortRuns.{shortRunOf, shortRunNumber};
 ghost use Rattle.traces.specs.Writing.{writeCommand};
 ghost use Rattle.traces.specs.Load.{loadTrace};
@@ -14,8 +14,9 @@ ghost use Rattle.trace_writer.specs.Told.{told};
 ghost use Rattle.load.specs.Told.{toldLoad};
 ghost use Rattle.short_runs.specs.Told.{toldRun, toldNumber};
 ghost use Rattle.tags.specs.Words.{recordIn, stateIn};
+ghost use Rattle.c_answers.specs.Told.{Tells};
 ghost use Rattle.view.specs.Into.{seenAs, viewInto};
-use access::Answer;
+use c_answers::CAnswer;
 use calls::Ran;
 use load::Load;
 use short_runs::RunNumber;
@@ -31,12 +32,12 @@ pub extern "C" fn c64x_read(
     l1d: &mut [u8],
     l2: &mut [u8],
     ext: &mut [u8],
-) -> Answer
-    ensures { λ x. ⌜ reply (x .number) (x .server) (x .value) (stateIn (now (words .exit)) (now (l1d .exit)) (now (l2 .exit)) (now (ext .exit)))
-        ≡ called (oneCommand (command 0 size address 0)) (stateIn (now (words .entry)) (now (l1d .entry)) (now (l2 .entry)) (now (ext .entry))) ⌝ }
+) -> CAnswer
+    ensures { λ x. ⌜ Tells x (stateIn (now (words .exit)) (now (l1d .exit)) (now (l2 .exit)) (now (ext .exit)))
+        (called (oneCommand (command 0 size address 0)) (stateIn (now (words .entry)) (now (l1d .entry)) (now (l2 .entry)) (now (ext .entry)))) ⌝ }
     ensures refused { λ x. ⌜ (x .number ≢ 0 → now (words .exit) ≡ now (words .entry)) ⌝ }
 {
-    calls::carry_out(words, 0, size, address, 0, l1d, l2, ext)
+    c_answers::carry_out(words, 0, size, address, 0, l1d, l2, ext)
 }
 
 #[no_mangle]
@@ -48,12 +49,12 @@ pub extern "C" fn c64x_write(
     l1d: &mut [u8],
     l2: &mut [u8],
     ext: &mut [u8],
-) -> Answer
-    ensures { λ x. ⌜ reply (x .number) (x .server) (x .value) (stateIn (now (words .exit)) (now (l1d .exit)) (now (l2 .exit)) (now (ext .exit)))
-        ≡ called (oneCommand (command 1 size address value)) (stateIn (now (words .entry)) (now (l1d .entry)) (now (l2 .entry)) (now (ext .entry))) ⌝ }
+) -> CAnswer
+    ensures { λ x. ⌜ Tells x (stateIn (now (words .exit)) (now (l1d .exit)) (now (l2 .exit)) (now (ext .exit)))
+        (called (oneCommand (command 1 size address value)) (stateIn (now (words .entry)) (now (l1d .entry)) (now (l2 .entry)) (now (ext .entry)))) ⌝ }
     ensures refused { λ x. ⌜ (x .number ≢ 0 → now (words .exit) ≡ now (words .entry)) ⌝ }
 {
-    calls::carry_out(words, 1, size, address, value, l1d, l2, ext)
+    c_answers::carry_out(words, 1, size, address, value, l1d, l2, ext)
 }
 
 #[no_mangle]
@@ -62,12 +63,12 @@ pub extern "C" fn c64x_l2_writeback_all(
     l1d: &mut [u8],
     l2: &mut [u8],
     ext: &mut [u8],
-) -> Answer
-    ensures { λ x. ⌜ reply (x .number) (x .server) (x .value) (stateIn (now (words .exit)) (now (l1d .exit)) (now (l2 .exit)) (now (ext .exit)))
-        ≡ called (oneCommand (command 2 0 0 0)) (stateIn (now (words .entry)) (now (l1d .entry)) (now (l2 .entry)) (now (ext .entry))) ⌝ }
+) -> CAnswer
+    ensures { λ x. ⌜ Tells x (stateIn (now (words .exit)) (now (l1d .exit)) (now (l2 .exit)) (now (ext .exit)))
+        (called (oneCommand (command 2 0 0 0)) (stateIn (now (words .entry)) (now (l1d .entry)) (now (l2 .entry)) (now (ext .entry)))) ⌝ }
     ensures refused { λ x. ⌜ (x .number ≢ 0 → now (words .exit) ≡ now (words .entry)) ⌝ }
 {
-    calls::carry_out(words, 2, 0, 0, 0, l1d, l2, ext)
+    c_answers::carry_out(words, 2, 0, 0, 0, l1d, l2, ext)
 }
 
 #[no_mangle]
@@ -76,12 +77,12 @@ pub extern "C" fn c64x_l2_writeback_invalidate_all(
     l1d: &mut [u8],
     l2: &mut [u8],
     ext: &mut [u8],
-) -> Answer
-    ensures { λ x. ⌜ reply (x .number) (x .server) (x .value) (stateIn (now (words .exit)) (now (l1d .exit)) (now (l2 .exit)) (now (ext .exit)))
-        ≡ called (oneCommand (command 3 0 0 0)) (stateIn (now (words .entry)) (now (l1d .entry)) (now (l2 .entry)) (now (ext .entry))) ⌝ }
+) -> CAnswer
+    ensures { λ x. ⌜ Tells x (stateIn (now (words .exit)) (now (l1d .exit)) (now (l2 .exit)) (now (ext .exit)))
+        (called (oneCommand (command 3 0 0 0)) (stateIn (now (words .entry)) (now (l1d .entry)) (now (l2 .entry)) (now (ext .entry)))) ⌝ }
     ensures refused { λ x. ⌜ (x .number ≢ 0 → now (words .exit) ≡ now (words .entry)) ⌝ }
 {
-    calls::carry_out(words, 3, 0, 0, 0, l1d, l2, ext)
+    c_answers::carry_out(words, 3, 0, 0, 0, l1d, l2, ext)
 }
 
 #[no_mangle]
@@ -92,12 +93,12 @@ pub extern "C" fn c64x_l2_writeback_block(
     l1d: &mut [u8],
     l2: &mut [u8],
     ext: &mut [u8],
-) -> Answer
-    ensures { λ x. ⌜ reply (x .number) (x .server) (x .value) (stateIn (now (words .exit)) (now (l1d .exit)) (now (l2 .exit)) (now (ext .exit)))
-        ≡ called (oneCommand (command 4 base count 0)) (stateIn (now (words .entry)) (now (l1d .entry)) (now (l2 .entry)) (now (ext .entry))) ⌝ }
+) -> CAnswer
+    ensures { λ x. ⌜ Tells x (stateIn (now (words .exit)) (now (l1d .exit)) (now (l2 .exit)) (now (ext .exit)))
+        (called (oneCommand (command 4 base count 0)) (stateIn (now (words .entry)) (now (l1d .entry)) (now (l2 .entry)) (now (ext .entry)))) ⌝ }
     ensures refused { λ x. ⌜ (x .number ≢ 0 → now (words .exit) ≡ now (words .entry)) ⌝ }
 {
-    calls::carry_out(words, 4, base, count, 0, l1d, l2, ext)
+    c_answers::carry_out(words, 4, base, count, 0, l1d, l2, ext)
 }
 
 #[no_mangle]
@@ -108,12 +109,12 @@ pub extern "C" fn c64x_l2_writeback_invalidate_block(
     l1d: &mut [u8],
     l2: &mut [u8],
     ext: &mut [u8],
-) -> Answer
-    ensures { λ x. ⌜ reply (x .number) (x .server) (x .value) (stateIn (now (words .exit)) (now (l1d .exit)) (now (l2 .exit)) (now (ext .exit)))
-        ≡ called (oneCommand (command 5 base count 0)) (stateIn (now (words .entry)) (now (l1d .entry)) (now (l2 .entry)) (now (ext .entry))) ⌝ }
+) -> CAnswer
+    ensures { λ x. ⌜ Tells x (stateIn (now (words .exit)) (now (l1d .exit)) (now (l2 .exit)) (now (ext .exit)))
+        (called (oneCommand (command 5 base count 0)) (stateIn (now (words .entry)) (now (l1d .entry)) (now (l2 .entry)) (now (ext .entry)))) ⌝ }
     ensures refused { λ x. ⌜ (x .number ≢ 0 → now (words .exit) ≡ now (words .entry)) ⌝ }
 {
-    calls::carry_out(words, 5, base, count, 0, l1d, l2, ext)
+    c_answers::carry_out(words, 5, base, count, 0, l1d, l2, ext)
 }
 
 #[no_mangle]
@@ -124,12 +125,12 @@ pub extern "C" fn c64x_l2_invalidate_block(
     l1d: &mut [u8],
     l2: &mut [u8],
     ext: &mut [u8],
-) -> Answer
-    ensures { λ x. ⌜ reply (x .number) (x .server) (x .value) (stateIn (now (words .exit)) (now (l1d .exit)) (now (l2 .exit)) (now (ext .exit)))
-        ≡ called (oneCommand (command 6 base count 0)) (stateIn (now (words .entry)) (now (l1d .entry)) (now (l2 .entry)) (now (ext .entry))) ⌝ }
+) -> CAnswer
+    ensures { λ x. ⌜ Tells x (stateIn (now (words .exit)) (now (l1d .exit)) (now (l2 .exit)) (now (ext .exit)))
+        (called (oneCommand (command 6 base count 0)) (stateIn (now (words .entry)) (now (l1d .entry)) (now (l2 .entry)) (now (ext .entry)))) ⌝ }
     ensures refused { λ x. ⌜ (x .number ≢ 0 → now (words .exit) ≡ now (words .entry)) ⌝ }
 {
-    calls::carry_out(words, 6, base, count, 0, l1d, l2, ext)
+    c_answers::carry_out(words, 6, base, count, 0, l1d, l2, ext)
 }
 
 #[no_mangle]
@@ -140,12 +141,12 @@ pub extern "C" fn c64x_l1d_writeback_invalidate_block(
     l1d: &mut [u8],
     l2: &mut [u8],
     ext: &mut [u8],
-) -> Answer
-    ensures { λ x. ⌜ reply (x .number) (x .server) (x .value) (stateIn (now (words .exit)) (now (l1d .exit)) (now (l2 .exit)) (now (ext .exit)))
-        ≡ called (oneCommand (command 7 base count 0)) (stateIn (now (words .entry)) (now (l1d .entry)) (now (l2 .entry)) (now (ext .entry))) ⌝ }
+) -> CAnswer
+    ensures { λ x. ⌜ Tells x (stateIn (now (words .exit)) (now (l1d .exit)) (now (l2 .exit)) (now (ext .exit)))
+        (called (oneCommand (command 7 base count 0)) (stateIn (now (words .entry)) (now (l1d .entry)) (now (l2 .entry)) (now (ext .entry)))) ⌝ }
     ensures refused { λ x. ⌜ (x .number ≢ 0 → now (words .exit) ≡ now (words .entry)) ⌝ }
 {
-    calls::carry_out(words, 7, base, count, 0, l1d, l2, ext)
+    c_answers::carry_out(words, 7, base, count, 0, l1d, l2, ext)
 }
 
 #[no_mangle]
@@ -156,12 +157,12 @@ pub extern "C" fn c64x_l1d_invalidate_block(
     l1d: &mut [u8],
     l2: &mut [u8],
     ext: &mut [u8],
-) -> Answer
-    ensures { λ x. ⌜ reply (x .number) (x .server) (x .value) (stateIn (now (words .exit)) (now (l1d .exit)) (now (l2 .exit)) (now (ext .exit)))
-        ≡ called (oneCommand (command 8 base count 0)) (stateIn (now (words .entry)) (now (l1d .entry)) (now (l2 .entry)) (now (ext .entry))) ⌝ }
+) -> CAnswer
+    ensures { λ x. ⌜ Tells x (stateIn (now (words .exit)) (now (l1d .exit)) (now (l2 .exit)) (now (ext .exit)))
+        (called (oneCommand (command 8 base count 0)) (stateIn (now (words .entry)) (now (l1d .entry)) (now (l2 .entry)) (now (ext .entry)))) ⌝ }
     ensures refused { λ x. ⌜ (x .number ≢ 0 → now (words .exit) ≡ now (words .entry)) ⌝ }
 {
-    calls::carry_out(words, 8, base, count, 0, l1d, l2, ext)
+    c_answers::carry_out(words, 8, base, count, 0, l1d, l2, ext)
 }
 
 #[no_mangle]
@@ -170,12 +171,12 @@ pub extern "C" fn c64x_l1d_invalidate_all(
     l1d: &mut [u8],
     l2: &mut [u8],
     ext: &mut [u8],
-) -> Answer
-    ensures { λ x. ⌜ reply (x .number) (x .server) (x .value) (stateIn (now (words .exit)) (now (l1d .exit)) (now (l2 .exit)) (now (ext .exit)))
-        ≡ called (oneCommand (command 9 0 0 0)) (stateIn (now (words .entry)) (now (l1d .entry)) (now (l2 .entry)) (now (ext .entry))) ⌝ }
+) -> CAnswer
+    ensures { λ x. ⌜ Tells x (stateIn (now (words .exit)) (now (l1d .exit)) (now (l2 .exit)) (now (ext .exit)))
+        (called (oneCommand (command 9 0 0 0)) (stateIn (now (words .entry)) (now (l1d .entry)) (now (l2 .entry)) (now (ext .entry)))) ⌝ }
     ensures refused { λ x. ⌜ (x .number ≢ 0 → now (words .exit) ≡ now (words .entry)) ⌝ }
 {
-    calls::carry_out(words, 9, 0, 0, 0, l1d, l2, ext)
+    c_answers::carry_out(words, 9, 0, 0, 0, l1d, l2, ext)
 }
 
 #[no_mangle]
@@ -185,12 +186,12 @@ pub extern "C" fn c64x_change_mode(
     l1d: &mut [u8],
     l2: &mut [u8],
     ext: &mut [u8],
-) -> Answer
-    ensures { λ x. ⌜ reply (x .number) (x .server) (x .value) (stateIn (now (words .exit)) (now (l1d .exit)) (now (l2 .exit)) (now (ext .exit)))
-        ≡ called (oneCommand (command 10 mode 0 0)) (stateIn (now (words .entry)) (now (l1d .entry)) (now (l2 .entry)) (now (ext .entry))) ⌝ }
+) -> CAnswer
+    ensures { λ x. ⌜ Tells x (stateIn (now (words .exit)) (now (l1d .exit)) (now (l2 .exit)) (now (ext .exit)))
+        (called (oneCommand (command 10 mode 0 0)) (stateIn (now (words .entry)) (now (l1d .entry)) (now (l2 .entry)) (now (ext .entry)))) ⌝ }
     ensures refused { λ x. ⌜ (x .number ≢ 0 → now (words .exit) ≡ now (words .entry)) ⌝ }
 {
-    calls::carry_out(words, 10, mode, 0, 0, l1d, l2, ext)
+    c_answers::carry_out(words, 10, mode, 0, 0, l1d, l2, ext)
 }
 
 #[no_mangle]
@@ -201,12 +202,12 @@ pub extern "C" fn c64x_change_mar(
     l1d: &mut [u8],
     l2: &mut [u8],
     ext: &mut [u8],
-) -> Answer
-    ensures { λ x. ⌜ reply (x .number) (x .server) (x .value) (stateIn (now (words .exit)) (now (l1d .exit)) (now (l2 .exit)) (now (ext .exit)))
-        ≡ called (oneCommand (command 11 mar bit 0)) (stateIn (now (words .entry)) (now (l1d .entry)) (now (l2 .entry)) (now (ext .entry))) ⌝ }
+) -> CAnswer
+    ensures { λ x. ⌜ Tells x (stateIn (now (words .exit)) (now (l1d .exit)) (now (l2 .exit)) (now (ext .exit)))
+        (called (oneCommand (command 11 mar bit 0)) (stateIn (now (words .entry)) (now (l1d .entry)) (now (l2 .entry)) (now (ext .entry)))) ⌝ }
     ensures refused { λ x. ⌜ (x .number ≢ 0 → now (words .exit) ≡ now (words .entry)) ⌝ }
 {
-    calls::carry_out(words, 11, mar, bit, 0, l1d, l2, ext)
+    c_answers::carry_out(words, 11, mar, bit, 0, l1d, l2, ext)
 }
 
 #[no_mangle]
@@ -216,12 +217,12 @@ pub extern "C" fn c64x_freeze(
     l1d: &mut [u8],
     l2: &mut [u8],
     ext: &mut [u8],
-) -> Answer
-    ensures { λ x. ⌜ reply (x .number) (x .server) (x .value) (stateIn (now (words .exit)) (now (l1d .exit)) (now (l2 .exit)) (now (ext .exit)))
-        ≡ called (oneCommand (command 12 frozen 0 0)) (stateIn (now (words .entry)) (now (l1d .entry)) (now (l2 .entry)) (now (ext .entry))) ⌝ }
+) -> CAnswer
+    ensures { λ x. ⌜ Tells x (stateIn (now (words .exit)) (now (l1d .exit)) (now (l2 .exit)) (now (ext .exit)))
+        (called (oneCommand (command 12 frozen 0 0)) (stateIn (now (words .entry)) (now (l1d .entry)) (now (l2 .entry)) (now (ext .entry)))) ⌝ }
     ensures refused { λ x. ⌜ (x .number ≢ 0 → now (words .exit) ≡ now (words .entry)) ⌝ }
 {
-    calls::carry_out(words, 12, frozen, 0, 0, l1d, l2, ext)
+    c_answers::carry_out(words, 12, frozen, 0, 0, l1d, l2, ext)
 }
 
 #[no_mangle]
@@ -230,11 +231,11 @@ pub extern "C" fn c64x_fresh(
     l1d: &mut [u8],
     l2: &mut [u8],
     ext: &mut [u8],
-) -> Answer
-    ensures { λ x. ⌜ reply (x .number) (x .server) (x .value) (stateIn (now (words .exit)) (now (l1d .exit)) (now (l2 .exit)) (now (ext .exit)))
-        ≡ called freshStart (stateIn (now (words .entry)) (now (l1d .entry)) (now (l2 .entry)) (now (ext .entry))) ⌝ }
+) -> CAnswer
+    ensures { λ x. ⌜ Tells x (stateIn (now (words .exit)) (now (l1d .exit)) (now (l2 .exit)) (now (ext .exit)))
+        (called freshStart (stateIn (now (words .entry)) (now (l1d .entry)) (now (l2 .entry)) (now (ext .entry)))) ⌝ }
 {
-    calls::fresh(words, l1d, l2, ext)
+    c_answers::fresh(words, l1d, l2, ext)
 }
 
 #[no_mangle]

@@ -8,15 +8,20 @@ ghost use Rattle.model.specs.Refusals.{viewDue};
 ghost use Rattle.model.specs.Trace.{command};
 ghost use Rattle.model.specs.Calls.{oneCommand, called, freshCall, runCall, viewCall};
 ghost use Rattle.by_value.specs.Called.{calledAs, ranAs};
+use model::Left;
 use model::Record;
 use tags::WORDS;
 
-// What a call returns: the number of its refusal (0: accepted), the server and the value of an access, and the record
-// after it.
+// What a call returns: the number of its refusal (0: accepted), the server and the value of an access, what an access
+// reports (02, U2), and the record after it.
 pub struct Called {
     pub number: u8,
     pub server: u8,
     pub value: u64,
+    pub l1d_left: Left,
+    pub l2_left: Left,
+    pub external_read: u32,
+    pub external_written: u32,
     pub record: Record,
 }
 
@@ -47,10 +52,16 @@ pub fn one_command(
     packing::pack(r, &mut tags);
     let x = calls::carry_out(&mut tags, code, first, second, value, l1d, l2, ext);
     let after = packing::unpack(&tags);
+    let k = x.l1d_left;
+    let l = x.l2_left;
     Called {
         number: x.number,
         server: x.server,
         value: x.value,
+        l1d_left: k,
+        l2_left: l,
+        external_read: x.read,
+        external_written: x.written,
         record: after,
     }
 }
@@ -63,10 +74,16 @@ pub fn fresh(l1d: &mut [u8], l2: &mut [u8], ext: &mut [u8]) -> Called
     let mut tags = [0u32; WORDS];
     let x = calls::fresh(&mut tags, l1d, l2, ext);
     let after = packing::unpack(&tags);
+    let k = x.l1d_left;
+    let l = x.l2_left;
     Called {
         number: x.number,
         server: x.server,
         value: x.value,
+        l1d_left: k,
+        l2_left: l,
+        external_read: x.read,
+        external_written: x.written,
         record: after,
     }
 }

@@ -2,48 +2,64 @@
 -- words and bytes stand for; so the list of calls from C is the list of calls of the definitions, and what crate
 -- agreement shows of that list carries over place by place.
 use Prim.Native.Nat.{ℕ}
-use mathlib.Core.Path.{_≡_, sym, ap, _∙_, subst}
+use mathlib.Core.Path.{_≡_, refl, sym, ap, _∙_, subst}
 use mathlib.Core.List.{List, [], _∷_}
 use lib.ListN.{length}
 use Rattle.model.specs.Flat.{Flat, freshFlat, flatCalled}
 use Rattle.model.specs.Refusals.{viewDue}
-use Rattle.model.specs.Calls.{Reply, reply, freshCall, viewCall, viewDone, Call, oneCommand, freshStart, look, called}
+use Rattle.model.specs.Records.{State}
+use Rattle.model.specs.Laws.{cond-elim, call-told}
+use Rattle.model.specs.Calls.{Reply, freshOk, freshCall, viewCall, viewDone, Call, oneCommand, freshStart, look, called}
 use Rattle.model.specs.declared.Command.{Command}
 use Rattle.tags.specs.Words.{recordIn}
 use Rattle.model.specs.Demand.{Settled, Agree, next}
 use Rattle.agreement.proofs.Agreement.{demand3}
-use Rattle.c_calls.specs.FromC.{Held, stateOf, Answered, Chain, done, made, FromC, AgreeFromC, whole, also, Demand3FromC}
+use Rattle.c_answers.specs.Told.{Tells}
+use Rattle.c_answers.specs.declared.CAnswer.{CAnswer}
+use Rattle.c_calls.specs.FromC.{Held, stateOf, Answered, Gives, Chain, done, made, FromC, AgreeFromC, whole, also, Demand3FromC}
+
+number-of : {r : Reply} {x : Answered} {k : Held} → Gives r x k → x .number ≡ r .number
+number-of g = ap (λ (y : Answered). y .number) (g .answer)
 
 along : (cs : List Call) (h : Held) (r : Chain cs h) (f : Flat) → Agree cs (stateOf h) f → AgreeFromC cs h r f
 along [] h done f a = whole
 along (c ∷ cs) h (made x k p r) f (next a b) =
     also
     (record {
-      number = λ t. ap (λ (y : Reply). y .number) p ∙ a .number t;
-      value = λ t. ap (λ (y : Reply). y .value) p ∙ a .value t;
-      settled = λ g n. subst (λ (y : Reply). Settled (y .next) (flatCalled c f .next)) (sym p)
-          (a .settled g (sym (ap (λ (y : Reply). y .number) p) ∙ n));
+      number = λ t. number-of p ∙ a .number t;
+      value = λ t. ap (λ (y : Answered). y .value) (p .answer) ∙ a .value t;
+      settled = λ g n. subst (λ (y : State). Settled y (flatCalled c f .next)) (sym (p .next)) (a .settled g (sym (number-of p) ∙ n));
     })
-    (along cs k r (flatCalled c f .next)
-    (subst (λ (y : Reply). Agree cs (y .next) (flatCalled c f .next)) (sym p) b))
+    (along cs k r (flatCalled c f .next) (subst (λ (y : State). Agree cs y (flatCalled c f .next)) (sym (p .next)) b))
 
 pub demand3-from-c : Demand3FromC
 demand3-from-c d m e x h q z cs l r =
-    let accepted : freshCall d m e .number ≡ 0 = sym (ap (λ (y : Reply). y .number) q) ∙ z in
+    let accepted : freshCall d m e .number ≡ 0 = sym (number-of q) ∙ z in
     along cs h r (freshFlat (length m) e)
-    (subst (λ (y : Reply). Agree cs (y .next) (freshFlat (length m) e)) (sym q) (demand3 d m e accepted cs l))
+    (subst (λ (y : State). Agree cs y (freshFlat (length m) e)) (sym (q .next)) (demand3 d m e accepted cs l))
 
--- ---- what the contracts of crate boundary say makes such a call: a command's, the fresh start's, and the view's,
--- whose number and bytes C is given and which leaves words and bytes as they are
-pub command-from-c : (c : Command) (h k : Held) (x : Answered) → x .bytes ≡ [] →
-    reply (x .number) (x .server) (x .value) (stateOf k) ≡ called (oneCommand c) (stateOf h) → FromC (oneCommand c) h x k
-command-from-c c h k x none e = (λ t. record { number = x .number; server = x .server; value = x .value; bytes = none t; next = stateOf k }) ∙ e
+-- ---- what the contracts of crate boundary say makes such a call: a command's and the fresh start's, which hand back no
+-- bytes, and the view's, whose number and bytes C is given and which leaves words and bytes as they are
+abbrev plainly : CAnswer → Answered
+plainly x = record { number = x .number; server = x .server; value = x .value; bytes = [] }
 
-pub fresh-from-c : (h k : Held) (x : Answered) → x .bytes ≡ [] →
-    reply (x .number) (x .server) (x .value) (stateOf k) ≡ called freshStart (stateOf h) → FromC freshStart h x k
-fresh-from-c h k x none e = (λ t. record { number = x .number; server = x .server; value = x .value; bytes = none t; next = stateOf k }) ∙ e
+from-c : (r : Reply) (x : CAnswer) (k : Held) → r .bytes ≡ [] → Tells x (stateOf k) r → Gives r (plainly x) k
+from-c r x k none t = record {
+  answer = ap plainly (t .0)
+      ∙ sym (λ i. record { number = r .number; server = r .server; value = r .value; bytes = none i });
+  next = t .1;
+}
+
+pub command-from-c : (c : Command) (h k : Held) (x : CAnswer) → Tells x (stateOf k) (called (oneCommand c) (stateOf h)) → FromC (oneCommand c) h (plainly x) k
+command-from-c c h k x t = from-c (called (oneCommand c) (stateOf h)) x k (sym (ap (λ (r : Reply). r .bytes) (call-told c (stateOf h)))) t
+
+pub fresh-from-c : (h k : Held) (x : CAnswer) → Tells x (stateOf k) (called freshStart (stateOf h)) → FromC freshStart h (plainly x) k
+unfolding freshCall
+fresh-from-c h k x t =
+    from-c (called freshStart (stateOf h)) x k
+    (cond-elim (λ (r : Reply). r .bytes ≡ []) (freshOk (h .l1d) (h .l2) (h .ext)) _ _ (λ _. refl) (λ _. refl)) t
 
 pub view-from-c : (a : ℕ) (h : Held) (n : ℕ) (bs : List ℕ) → n ≡ viewDue (recordIn (h .words)) (h .l2) (h .ext) a →
     bs ≡ viewCall (recordIn (h .words)) (h .l2) (h .ext) a → FromC (look a) h (record { number = n; server = 0; value = 0; bytes = bs }) h
 unfolding viewDone
-view-from-c a h n bs en eb = λ t. record { number = en t; server = 0; value = 0; bytes = eb t; next = stateOf h }
+view-from-c a h n bs en eb = record { answer = λ t. record { number = en t; server = 0; value = 0; bytes = eb t }; next = refl }

@@ -22,20 +22,25 @@ pub record Held : Type 0 where
 abbrev pub stateOf : Held → State
 stateOf h = state (recordIn (h .words)) (h .l1d) (h .l2) (h .ext)
 
--- what C is answered: number, server and value; of a view the bytes
+-- what C is answered: number, server and value; of a view the bytes. What an access reports (02, U2) is no part of
+-- demand 3.
 pub record Answered : Type 0 where
   pub number : ℕ
   pub server : ℕ
   pub value : ℕ
   pub bytes : List ℕ
 
-abbrev pub replyOf : Answered → Held → Reply
-replyOf x k = record { number = x .number; server = x .server; value = x .value; bytes = x .bytes; next = stateOf k }
+abbrev pub answeredBy : Reply → Answered
+answeredBy r = record { number = r .number; server = r .server; value = r .value; bytes = r .bytes }
 
 -- ---- calls from C, one after another, each answered and each leaving what C holds for the next. Of each is known what
 -- the contracts of crate boundary say, and nothing else.
+pub record Gives (r : Reply) (x : Answered) (k : Held) : Type 0 where
+  pub answer : x ≡ answeredBy r
+  pub next : stateOf k ≡ r .next
+
 abbrev pub FromC : Call → Held → Answered → Held → Type 0
-FromC c h x k = replyOf x k ≡ called c (stateOf h)
+FromC c h x k = Gives (called c (stateOf h)) x k
 
 pub data Chain : List Call → Held → Type 0 where
   done : {h : Held} → Chain [] h
@@ -59,5 +64,5 @@ pub data AgreeFromC : (cs : List Call) (h : Held) → Chain cs h → Flat → Ty
 -- list
 abbrev pub Demand3FromC : Type 0
 Demand3FromC =
-    (d m e : List ℕ) (x : Answered) (h : Held) → replyOf x h ≡ freshCall d m e → x .number ≡ 0 →
+    (d m e : List ℕ) (x : Answered) (h : Held) → Gives (freshCall d m e) x h → x .number ≡ 0 →
     (cs : List Call) → listed cs ≡ true → (r : Chain cs h) → AgreeFromC cs h r (freshFlat (length m) e)

@@ -7,7 +7,8 @@ ghost use mathlib.Core.Path.{_≡_};
 ghost use lib.ListN.{length};
 ghost use Rattle.model.specs.Refusals.{lentDue};
 ghost use Rattle.model.specs.Trace.{command};
-ghost use Rattle.model.specs.Calls.{reply, oneCommand, freshStart, called, freshOk, ran, runCall};
+ghost use Rattle.access.specs.Serving.{answerOf, plainAnswer};
+ghost use Rattle.model.specs.Calls.{oneCommand, freshStart, called, freshOk, ran, runCall};
 ghost use Rattle.tags.specs.Words.{recordWords, stateIn};
 use access::Answer;
 use geometry::L1d;
@@ -31,15 +32,11 @@ fn command_of(code: u8, first: u32, second: u32, value: u64) -> Command
     }
 }
 
-// An answer without server and value: a refusal, or a fresh start.
+// An answer without server, value and report: a refusal, or a fresh start.
 fn numbered(number: u8) -> Answer
-    ensures { λ x. ⌜ x ≡ record { number = number; server = 0; value = 0 } ⌝ }
+    ensures { λ x. ⌜ x ≡ plainAnswer number 0 0 ⌝ }
 {
-    Answer {
-        value: 0,
-        number: number,
-        server: 0,
-    }
+    access::plain(number, 0, 0)
 }
 
 // Any command, from its numbers as they come: the checks of lengths and record, then a run of this one command.
@@ -54,7 +51,7 @@ pub fn carry_out(
     ext: &mut [u8],
 ) -> Answer
     requires { ⌜ length (now tags) ≡ recordWords ⌝ }
-    ensures { λ x. ⌜ reply (x .number) (x .server) (x .value) (stateIn (now (tags .exit)) (now (l1d .exit)) (now (l2 .exit)) (now (ext .exit)))
+    ensures { λ x. ⌜ answerOf x (stateIn (now (tags .exit)) (now (l1d .exit)) (now (l2 .exit)) (now (ext .exit)))
         ≡ called (oneCommand (command code first second value)) (stateIn (now (tags .entry)) (now (l1d .entry)) (now (l2 .entry)) (now (ext .entry))) ⌝ }
     ensures refused { λ x. ⌜ (x .number ≢ 0 → now (tags .exit) ≡ now (tags .entry)) ⌝ }
 {
@@ -84,7 +81,7 @@ fn fresh_ok(l1d: &[u8], l2: &[u8], ext: &[u8]) -> bool
 // A fresh start: L and E are the lengths that are lent. What the words held before is not looked at.
 pub fn fresh(tags: &mut [u32], l1d: &mut [u8], l2: &mut [u8], ext: &mut [u8]) -> Answer
     requires { ⌜ length (now tags) ≡ recordWords ⌝ }
-    ensures { λ x. ⌜ reply (x .number) (x .server) (x .value) (stateIn (now (tags .exit)) (now (l1d .exit)) (now (l2 .exit)) (now (ext .exit)))
+    ensures { λ x. ⌜ answerOf x (stateIn (now (tags .exit)) (now (l1d .exit)) (now (l2 .exit)) (now (ext .exit)))
         ≡ called freshStart (stateIn (now (tags .entry)) (now (l1d .entry)) (now (l2 .entry)) (now (ext .entry))) ⌝ }
 {
     if !fresh_ok(l1d, l2, ext) {

@@ -9,8 +9,10 @@ ghost use Prim.Native.Nat.{_+_, _-_, _*_, _%_, _≤_, _<_};
 ghost use lib.Dec.{ltb};
 ghost use Rattle.model.specs.Memories.{externalBase, cacheSize, sramLength, legalL2, legalExternal, isMode};
 ghost use Rattle.model.specs.Lines.{l1dSetOf, l1dData, l1dLine, l2Sets, l2SetIn, l2DataIn, l2Line, upperHalf, emptyLine, lineOf, holds};
+ghost use Rattle.model.specs.Reports.{leftBy};
 ghost use Rattle.model.specs.Commands.{blockEnd, linesTouched};
 ghost use Rattle.geometry.specs.Blocks.{lineAfter};
+use model::Left;
 use model::Line;
 
 // ---- the kinds of the two caches: line length, ways and sets are theirs
@@ -281,6 +283,19 @@ pub fn line_holds(x: Line, a: u32) -> bool
     ensures { λ r. ⌜ r ≡ holds x a ⌝ }
 {
     if x.valid { x.address == a } else { false }
+}
+
+// What leaves a way with this line in it, or that it is empty (02, U2).
+pub fn left_by(x: Line) -> Left
+    ensures { λ r. ⌜ r ≡ leftBy x ⌝ }
+{
+    if !x.valid {
+        return Left::Empty;
+    }
+    if x.dirty {
+        return Left::Dirty(x.address);
+    }
+    Left::Clean(x.address)
 }
 
 // ---- the lines that a block touches

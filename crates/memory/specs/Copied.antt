@@ -2,7 +2,7 @@
 -- replaced the first bytes (`copied`), the part that was lent comes back between what stood before and after it, and
 -- that is `splice`.
 use Prim.Native.Nat.{ℕ, suc, _+_, _-_, _≤_, _<_}
-use mathlib.Core.Bool.{Bool, true, false}
+use mathlib.Core.Bool.{Bool, true, false, cond}
 use mathlib.Core.Path.{_≡_, refl, sym, ap, _∙_}
 use mathlib.Core.List.{List, [], _∷_, _++_, append-nil, append-assoc}
 use native.Mathlib.Numerals.{add-one}
@@ -12,6 +12,7 @@ use lib.Seq.{take-all, drop-drop, drop-cons, set-at, append-snoc, take-suc, leng
 use lib.Dec.{leb}
 use borrow.Author.Tests.{leb-true, leb-false, le-leb, lt-leb}
 use Rattle.model.specs.Bytes.{part, stored, splice, zeroFrom}
+use Rattle.model.specs.Reports.{taken}
 use Rattle.model.specs.Laws.{stored-none, part-inside, stored-inside, stored-outside, length-part}
 
 -- d with its first n bytes replaced by those of s
@@ -44,6 +45,10 @@ put-back m s a h =
     let all : length s ≤ length s = omega arith in
     rw (take-all (length m - a) (drop a m) rest, drop-of-length-le (drop a m) rest, append-nil, take-all (length s) s all, drop-drop)
 
+cond-same : (b : Bool) → _≡_ {A = List ℕ} [] (cond b [] [])
+cond-same true = refl
+cond-same false = refl
+
 -- ---- a line of n bytes moved from l at b into m at a: the three ways through the code
 -- past both tests, the line lies in both memories
 pub record Inside (m l : List ℕ) (a b n : ℕ) : Type 0 where
@@ -63,6 +68,23 @@ module _ (m l : List ℕ) (a b n : ℕ) where
       let k = length-part l b n (leb-true (b + n) (length l) e) in
       let h = leb-false (a + n) (length m) f in
       sym (stored-outside m a (part l b n) (omega arith))
+
+  -- how many bytes went there: none, or all
+  pub told-short : leb (b + n) (length l) ≡ false → 0 ≡ length (taken m a (part l b n))
+  unfolding part taken
+  told-short e = rw e (ap length (cond-same (leb (a + length {A = ℕ} []) (length m))))
+
+  pub told-full : leb (b + n) (length l) ≡ true → leb (a + n) (length m) ≡ false → 0 ≡ length (taken m a (part l b n))
+  unfolding taken
+  told-full e f =
+      let k = length-part l b n (leb-true (b + n) (length l) e) in
+      let o : leb (a + length (part l b n)) (length m) ≡ false = rw k f in rw o refl
+
+  pub told-in : Inside m l a b n → n ≡ length (taken m a (part l b n))
+  unfolding taken
+  told-in i =
+      let k = length-part l b n (i .from) in
+      let o : leb (a + length (part l b n)) (length m) ≡ true = rw k (le-leb (a + n) (length m) (i .to)) in rw o (sym k)
 
   -- m[a..] takes the n bytes that were loaded from l[b..]
   pub move-in : Inside m l a b n → (t : List ℕ) → t ≡ take n (take (length l - b) (drop b l)) →
@@ -117,3 +139,11 @@ cleared-past m k h = let e : length m - k ≡ 0 = omega arith in rw (e, append-n
 
 pub cleared-all : (m : List ℕ) (k : ℕ) → clearedTo k m (length m) ≡ zeroFrom k m (length m)
 cleared-all m k = rw (drop-length, append-nil) refl
+
+-- ---- bytes that are there, or not
+pub held-all : (m : List ℕ) (a n : ℕ) (b : Bool) → b ≡ leb (a + n) (length m) → b ≡ true → n ≡ length (part m a n)
+held-all m a n b e t = sym (length-part m a n (leb-true (a + n) (length m) (sym e ∙ t)))
+
+pub held-none : (m : List ℕ) (a n : ℕ) (b : Bool) → b ≡ leb (a + n) (length m) → b ≡ false → 0 ≡ length (part m a n)
+unfolding part
+held-none m a n b e f = let o : leb (a + n) (length m) ≡ false = sym e ∙ f in rw o refl

@@ -7,6 +7,7 @@ ghost use Prim.Native.Nat.{_+_, _≤_, _<_};
 ghost use lib.ListN.{length, take};
 ghost use lib.Dec.{leb};
 ghost use Rattle.model.specs.Bytes.{part, stored, little, littleBytes, zeroFrom};
+ghost use Rattle.model.specs.Reports.{taken};
 ghost use Rattle.model.specs.Refusals.{sizeOk};
 ghost use Rattle.memory.specs.Copied.{copied};
 
@@ -45,32 +46,48 @@ pub fn store64(dst: &mut [u8], t: [u8; 64])
     }
 }
 
-// An L1D line: the source is handed on as a part that starts in the middle, the place it goes to is lent likewise.
-pub fn move64(dst: &mut [u8], a: usize, src: &[u8], b: usize)
+// An L1D line: the source is handed on as a part that starts in the middle, the place it goes to is lent likewise. How
+// many bytes went there is told.
+pub fn move64(dst: &mut [u8], a: usize, src: &[u8], b: usize) -> u32
     ensures { λ _. ⌜ now (dst .exit) ≡ stored (now (dst .entry)) a (part (now (src .entry)) b 64) ⌝ }
+    ensures told { λ n. ⌜ (n ≡ length (taken (now (dst .entry)) a (part (now (src .entry)) b 64))) × (n ≤ 64) ⌝ }
 {
     if !fits(b, 64, src.len()) {
-        return;
+        return 0;
     }
     if !fits(a, 64, dst.len()) {
-        return;
+        return 0;
     }
     let t = load64(&src[b..]);
     store64(&mut dst[a..], t);
+    64
 }
 
 // An L2 line, as its two halves.
-pub fn move128(dst: &mut [u8], a: usize, src: &[u8], b: usize)
+pub fn move128(dst: &mut [u8], a: usize, src: &[u8], b: usize) -> u32
     ensures { λ _. ⌜ now (dst .exit) ≡ stored (now (dst .entry)) a (part (now (src .entry)) b 128) ⌝ }
+    ensures told { λ n. ⌜ (n ≡ length (taken (now (dst .entry)) a (part (now (src .entry)) b 128))) × (n ≤ 128) ⌝ }
 {
     if !fits(b, 128, src.len()) {
-        return;
+        return 0;
     }
     if !fits(a, 128, dst.len()) {
-        return;
+        return 0;
     }
     move64(dst, a, src, b);
     move64(dst, a + 64, src, b + 64);
+    128
+}
+
+// How many of the n bytes at a are there: all of them, or none.
+pub fn held(m: &[u8], a: usize, n: u32) -> u32
+    ensures { λ r. ⌜ (r ≡ length (part (now (m .entry)) a n)) × (r ≤ n) ⌝ }
+{
+    let k = n as usize;
+    if fits(a, k, m.len()) {
+        return n;
+    }
+    0
 }
 
 // ---- values of 1, 2, 4 and 8 bytes, low byte first: each width from two of the next smaller

@@ -2,7 +2,7 @@
 -- memory's number and value, and the bytes that lie behind L1D. Rows of one table, and one theorem, `worked`, which
 -- holds by computing: a definition that is not the paper's fails at a value here. Each of the mistakes that paper 01
 -- names has a row (the second is the rule since 02, U10), and so have the servers, writebacks, mode and MAR changes,
--- drops and the freeze; the view, and checks 1 and 2, have a list of their own.
+-- drops and the freeze; the view, and checks 1 and 2, have a list of their own, and so has what an access reports.
 -- In the rows a call is carried out behind checks 1 and 2, and L1D and L2 are cut behind the last byte that the row
 -- comes to: to go through all lent bytes and lines at each call is most of the time that a check takes, and what a row
 -- does not come to it does not change. A record that is well formed stays so (`Stays`).
@@ -14,6 +14,7 @@ use lib.ListN.{length, getD, replicate}
 use Rattle.model.specs.Bytes.{little}
 use Rattle.model.specs.Records.{State, state, withExternal, withCounts, l1dSetAt, wellFormed, freshRecord, freshState}
 use Rattle.model.specs.Homes.{memoryPart}
+use Rattle.model.specs.Reports.{noReport, leftKind, leftAddress}
 use Rattle.model.specs.Trace.{command}
 use Rattle.model.specs.Calls.{Reply, Call, oneCommand, freshStart, look, called, step}
 use Rattle.model.specs.Flat.{Flat, FlatReply, flat, freshFlat, flatCalled}
@@ -96,7 +97,7 @@ checked (p ∷ ps) z f = both (called (p .call) z) (flatCalled (p .call) f) (che
 unfoldable pub stepped : Call → State → Reply
 stepped (oneCommand c) z = step c z
 stepped freshStart z = called freshStart z
-stepped (look a) z = record { number = 0; server = 0; value = 0; bytes = memoryPart a 64 z; next = z }
+stepped (look a) z = record { number = 0; server = 0; value = 0; bytes = memoryPart a 64 z; report = noReport; next = z }
 
 unfoldable pub along : List Place → State → Flat → List (List ℕ)
 along [] z f = []
@@ -213,24 +214,65 @@ lastSet =
     row 0 8192 8064
     (mode 1 0 ∷ mar128 1 0 ∷ writes 0x80001F80 5 4 ∷ all 2 ∷ lies 0x80001F80 5 ∷ [])
 
--- "An L2 line is evicted and its dirty L1D half forgotten.": five lines of one L2 set. The half goes out with its
--- line, and is no longer in L1D. The chip alone: most of the time of 32 KiB of external memory is flat memory's.
-unfoldable pub alone : List Place → State → List (List ℕ)
+-- ---- 02, U2: what is reported, call by call, beside number, server and value: the kind and the address of what left
+-- L1D and L2, and the bytes of external memory read and written. The chip alone: most of the time of 32 KiB of external
+-- memory is flat memory's.
+pub record Reported : Type 0 where
+  pub place : Place
+  pub report : List ℕ
+
+abbrev reports : Place → ℕ → ℕ → ℕ → ℕ → ℕ → ℕ → Reported
+reports p k a l b r w = record { place = p; report = k ∷ a ∷ l ∷ b ∷ r ∷ w ∷ [] }
+
+abbrev silent : Place → Reported
+silent p = reports p 0 0 0 0 0 0
+
+unfoldable pub told : Reply → List ℕ
+told r =
+    leftKind (r .report .l1dLeft) ∷ leftAddress (r .report .l1dLeft) ∷ leftKind (r .report .l2Left) ∷ leftAddress (r .report .l2Left)
+    ∷ r .report .read ∷ r .report .written ∷ []
+
+unfoldable pub alone : List Reported → State → List (List ℕ)
 alone [] z = []
-alone (p ∷ ps) z = answered (stepped (p .call) z) ∷ alone ps (stepped (p .call) z .next)
+alone (p ∷ ps) z =
+    (answered (stepped (p .place .call) z) ++ told (stepped (p .place .call) z)) ∷ alone ps (stepped (p .place .call) z .next)
 
-pub evicted : List Place
+abbrev ownAnswer : Reported → List ℕ
+ownAnswer p =
+    getD (p .place .answer) 0 0 ∷ getD (p .place .answer) 1 0 ∷ getD (p .place .answer) 2 0 ∷ getD (p .place .answer) 5 0 ∷ p .report
+
+-- "An L2 line is evicted and its dirty L1D half forgotten.": five lines of one L2 set. The half goes out with its line,
+-- which is dirty by it, and is no longer in L1D. Then an L2 line that a write made dirty leaves, and one that was
+-- written back and is clean. A write miss chooses no way of L1D, a hit chooses none at all. Last, a dirty line leaves
+-- L1D: its bytes go into L2, and none of them to external memory.
+pub evicted : List Reported
 evicted =
-    (mode 1 0 ∷ mar128 1 0 ∷ reads 0x80000040 4 2 ∷ writes 0x80000040 8 1 ∷ writes 0x80002000 1 4
-    ∷ writes 0x80004000 1 4 ∷ writes 0x80006000 1 4 ∷ writes 0x80008000 1 4 ∷ lies 0x80000040 8
-    ∷ reads 0x80000040 4 8 ∷ [])
+    silent (mode 1 0) ∷ silent (mar128 1 0) ∷ reports (reads 0x80000040 4 2) 1 0 1 0 128 0 ∷ silent (writes 0x80000040 8 1)
+    ∷ reports (writes 0x80002000 1 4) 0 0 1 0 128 0 ∷ reports (writes 0x80004000 1 4) 0 0 1 0 128 0
+    ∷ reports (writes 0x80006000 1 4) 0 0 1 0 128 0 ∷ reports (writes 0x80008000 1 4) 0 0 3 0x80000000 128 128
+    ∷ silent (lies 0x80000040 8) ∷ reports (reads 0x80000040 4 8) 1 0 3 0x80002000 128 128 ∷ silent (all 2)
+    ∷ reports (reads 0x80002040 4 0) 1 0 2 0x80004000 128 0 ∷ silent (writes 0x80002040 9 1) ∷ reports (reads 0x80000040 3 8) 1 0 0 0 0 0
+    ∷ reports (reads 0x80004040 4 0) 3 0x80002040 2 0x80006000 128 0 ∷ []
 
-abbrev ownAnswer : Place → List ℕ
-ownAnswer p = getD (p .answer) 0 0 ∷ getD (p .answer) 1 0 ∷ getD (p .answer) 2 0 ∷ getD (p .answer) 5 0 ∷ []
-
-evicted-holds : alone evicted (cut 128 24704 (halves 32768)) ≡ map ownAnswer evicted
-unfolding opened answered alone stepped cut evicted
+evicted-holds : alone evicted (cut 8320 24704 (halves 32768)) ≡ map ownAnswer evicted
+unfolding opened answered told alone stepped cut evicted
 evicted-holds = refl
+
+-- Mode 0: past the caches the bytes of the access; a line that comes 64, into an empty way; a write miss its own bytes;
+-- frozen, those of the read, and no way is chosen; a clean line leaves L1D, and a dirty one, whose 64 bytes go to
+-- external memory. Lines of SRAM read and write none.
+pub putOut : List Reported
+putOut =
+    reports (reads 0x80000000 4 1) 0 0 0 0 1 0 ∷ reports (writes 0x80000000 3 4) 0 0 0 0 0 1 ∷ silent (mar128 1 0)
+    ∷ reports (writes 0x80000000 4 4) 0 0 0 0 0 1 ∷ silent (freeze 1 0) ∷ reports (reads 0x80000000 4 4) 0 0 0 0 1 0
+    ∷ silent (freeze 0 0) ∷ reports (reads 0x80000000 4 4) 1 0 0 0 64 0 ∷ silent (writes 0x80000000 7 1)
+    ∷ reports (reads 0 2 0) 1 0 0 0 0 0 ∷ reports (reads 0x2000 2 0) 3 0x80000000 0 0 0 64
+    ∷ reports (reads 0x80000000 4 7) 2 0 0 0 64 0 ∷ silent (writes 0x2000 5 1) ∷ silent (reads 0x80000000 1 7)
+    ∷ reports (reads 0 2 0) 3 0x2000 0 0 0 0 ∷ silent (same (oneCommand (command 0 3 0 0)) 3 0 0) ∷ []
+
+putOut-holds : alone putOut (cut 8256 8256 (halves 0)) ≡ map ownAnswer putOut
+unfolding opened answered told alone stepped cut putOut
+putOut-holds = refl
 
 -- ---- The view: "the bytes of SRAM or of external memory themselves", not what L1D or L2 hold; 4 and 5. Checks 1 and 2
 -- are met by each call here, and L1D and L2 are whole.

@@ -1,7 +1,7 @@
 -- Paper 01: one command, the fresh start, the run over a trace, the technician's view: what every contract of an
 -- exported call cites. Last, the type of calls, one case for each kind, and what a call does to a state: what the
 -- statements about lists of calls are about.
-use Prim.Native.Nat.{ℕ, zero, suc, _+_, _*_}
+use Prim.Native.Nat.{ℕ, zero, suc, _+_, _*_, _≤_}
 use mathlib.Core.Bool.{Bool, cond, _&&_}
 use mathlib.Core.List.{List, [], _∷_}
 use lib.ListN.{length, drop}
@@ -11,6 +11,7 @@ use Rattle.model.specs.Memories.{l1dLength, legalL2, legalExternal}
 use Rattle.model.specs.Records.{State, state, sramOf, freshRecord, freshState}
 use Rattle.model.specs.Access.{readAccess, writeAccess}
 use Rattle.model.specs.Homes.{memoryPart}
+use Rattle.model.specs.Reports.{Report, noReport, readReport, writeReport}
 use Rattle.model.specs.Modes.{changeMode, changeMar, changeFreeze}
 use Rattle.model.specs.Commands.{l2WritebackAll, l2WritebackInvalidateAll, l2WritebackBlock, l2WritebackInvalidateBlock, l2InvalidateBlock, l1dWritebackInvalidateBlock, l1dInvalidateBlock, l1dInvalidateAll}
 use Rattle.model.specs.Refusals.{lentDue, viewDue, accessDue, blockDue, modeDue, marDue, freezeDue, unless}
@@ -18,17 +19,23 @@ use Rattle.model.specs.Trace.{Decoded, decode}
 use Rattle.model.specs.declared.Command.{Command}
 use Rattle.model.specs.declared.Record.{Record}
 
--- what a call gives: number, server, value, the bytes that it hands back, and the state after it
+-- what a call gives: number, server, value, the bytes that it hands back, what it reports (02, U2), and the state after
+-- it
 pub record Reply : Type 0 where
   pub number : ℕ
   pub server : ℕ
   pub value : ℕ
   pub bytes : List ℕ
+  pub report : Report
   pub next : State
 
--- a reply that hands back no bytes: that of every call but the view
+-- a reply that hands back no bytes: that of every call but the view; and one that reports nothing: that of every call
+-- but an accepted read or write
+abbrev pub replied : ℕ → ℕ → ℕ → Report → State → Reply
+replied n k v q z = record { number = n; server = k; value = v; bytes = []; report = q; next = z }
+
 abbrev pub reply : ℕ → ℕ → ℕ → State → Reply
-reply n k v z = record { number = n; server = k; value = v; bytes = []; next = z }
+reply n k v z = replied n k v noReport z
 
 -- "Value and server are 0 with it; the record comes back as given, and a refused direct call changes no lent byte."
 abbrev pub refused : ℕ → State → Reply
@@ -49,12 +56,16 @@ commandDue c z =
     (cond (eqb (c .code) 11) (marDue (z .rec) (c .first) (c .second))
     (cond (eqb (c .code) 12) (freezeDue (c .first)) (unless (leb (c .code) 12) 11))))))
 
--- "little-endian": bytes are read as a value, and a value is written as bytes
+-- "little-endian": bytes are read as a value, and a value is written as bytes. 02, U2: "The trace's answers keep their
+-- 10 bytes; the direct call carries the rest."
 unfoldable pub readDone : ℕ → ℕ → State → Reply
-readDone n a z = reply 0 (readAccess n a z .server) (little (readAccess n a z .bytes)) (readAccess n a z .next)
+readDone n a z =
+    replied 0 (readAccess n a z .server) (little (readAccess n a z .bytes)) (readReport n a z) (readAccess n a z .next)
 
 unfoldable pub writeDone : ℕ → ℕ → ℕ → State → Reply
-writeDone n a v z = reply 0 (writeAccess a (littleBytes v n) z .server) 0 (writeAccess a (littleBytes v n) z .next)
+writeDone n a v z =
+    replied 0 (writeAccess a (littleBytes v n) z .server) 0 (writeReport a (littleBytes v n) z)
+    (writeAccess a (littleBytes v n) z .next)
 
 -- the state after an accepted command that is neither a read nor a write (an unknown code is never accepted)
 unfoldable pub commandState : Command → State → State
@@ -80,6 +91,10 @@ accepted c z =
 -- one command on a state that passed checks 1 and 2
 unfoldable pub step : Command → State → Reply
 step c z = cond (eqb (commandDue c z) 0) (accepted c z) (refused (commandDue c z) z)
+
+-- 02, U2: "neither exceeds 128 for one access", whatever the record
+abbrev pub AtMost128 : Type 0
+AtMost128 = (c : Command) (z : State) → (step c z .report .read ≤ 128) × (step c z .report .written ≤ 128)
 
 -- ---- a direct call: "The lowest due number wins"
 unfoldable pub call : Command → State → Reply
@@ -149,6 +164,7 @@ viewDone a z =
       server = 0;
       value = 0;
       bytes = viewCall (z .rec) (z .l2) (z .ext) a;
+      report = noReport;
       next = z;
     }
 

@@ -21,7 +21,7 @@ use Rattle.model.specs.Ways.{lowestInvalid, l1dVictim, l2Victim}
 use Rattle.model.specs.Modes.{smaller}
 use Rattle.model.specs.Refusals.{lowestDue, unless, lentDue}
 use Rattle.model.specs.Commands.{blockEnd, linesTouched, eachL2, unlessMode0}
-use Rattle.model.specs.Calls.{Reply, reply, refused, carriedOut, commandDue, readDone, writeDone, commandState, accepted, step, call}
+use Rattle.model.specs.Calls.{Reply, replied, reply, refused, carriedOut, commandDue, readDone, writeDone, commandState, accepted, step, call}
 use Rattle.model.specs.declared.Command.{Command}
 use Rattle.model.specs.declared.L1dSet.{L1dSet}
 use Rattle.model.specs.declared.L2Set.{L2Set}
@@ -341,9 +341,9 @@ module _ (n b c l : ℕ) (some : 0 < n) (low : b < 0x100000000) where
         (block-end b c low),
   )
 
--- ---- a command hands back no bytes: its reply is its number, server, value and state
+-- ---- a command hands back no bytes: its reply is its number, server, value, report and state
 abbrev told : Reply → Reply
-told r = reply (r .number) (r .server) (r .value) (r .next)
+told r = replied (r .number) (r .server) (r .value) (r .report) (r .next)
 
 pub step-told : (c : Command) (z : State) → told (step c z) ≡ step c z
 unfolding step accepted readDone writeDone

@@ -6,6 +6,7 @@ pub mod Records
 pub mod Ways
 pub mod Access
 pub mod Homes
+pub mod Reports
 pub mod Modes
 pub mod Commands
 pub mod Flat
@@ -18,3 +19,4 @@ pub mod Traces
 pub mod Laws
 pub mod Opened
 pub mod Emptied
+pub mod Erased

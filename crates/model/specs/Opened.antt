@@ -16,6 +16,12 @@ use Rattle.model.specs.Homes.{writeOutL2, writebackL2, evictL2, fillL2, 
 use Rattle.model.specs.Access.{cacheable, useHit, readHit, writebackL1d, evictL1d, homePart, fillL1d, readFilled}
 use Rattle.model.specs.Access.{readEmptied, readThawed, readFrozen, readMiss, readAccess, putL1d, writeHit}
 use Rattle.model.specs.Access.{writeHome, writeMiss, writeAccess}
+use Rattle.model.specs.Reports.{leftBy, l1dLeft, l2Left, fetchLeft, taken, memoryMoved, putMemoryMoved}
+use Rattle.model.specs.Reports.{writeOutL2Moved, fillL2Moved, putHomeMoved, writebackL1dMoved, evictL1dMoved}
+use Rattle.model.specs.Reports.{writebackL2Moved, evictL2Moved, bringL2Moved, fetchL2Moved, homeMoved}
+use Rattle.model.specs.Reports.{fillL1dMoved, writeHomeMoved, readEmptiedMoved, readThawedMoved}
+use Rattle.model.specs.Reports.{readFrozenMoved, readMissMoved, readMoved, writeMissMoved, writeMoved, bytesIn}
+use Rattle.model.specs.Reports.{readMissReport, writeMissReport, readReport, writeReport}
 use Rattle.model.specs.Modes.{smaller, flushL1d, flushL2, newMode, changeMode, changeMar, changeFreeze}
 use Rattle.model.specs.Commands.{blockEnd, linesTouched, eachTouched, eachL2, atL2, atL1d, unlessMode0, evictAllL1d}
 use Rattle.model.specs.Commands.{l2WritebackAll, l2WritebackInvalidateAll, l2WritebackBlock}
@@ -45,6 +51,10 @@ unfolding
     fetchL2 homeServer
     cacheable useHit readHit writebackL1d evictL1d homePart fillL1d readFilled readEmptied readThawed readFrozen
     readMiss readAccess putL1d writeHit writeHome writeMiss writeAccess
+    leftBy l1dLeft l2Left fetchLeft taken memoryMoved putMemoryMoved writeOutL2Moved fillL2Moved putHomeMoved
+    writebackL1dMoved evictL1dMoved writebackL2Moved evictL2Moved bringL2Moved fetchL2Moved homeMoved fillL1dMoved
+    writeHomeMoved readEmptiedMoved readThawedMoved readFrozenMoved readMissMoved readMoved writeMissMoved writeMoved
+    bytesIn readMissReport writeMissReport readReport writeReport
     smaller flushL1d flushL2 newMode changeMode changeMar changeFreeze
     blockEnd linesTouched eachTouched eachL2 atL2 atL1d unlessMode0 evictAllL1d l2WritebackAll l2WritebackInvalidateAll
     l2WritebackBlock l2WritebackInvalidateBlock dropL2 l2InvalidateBlock l1dWritebackInvalidateBlock

@@ -59,6 +59,21 @@ pub struct Command {
     pub value: u64,
 }
 
+// What the choice of a way found there (02, U2): no way was chosen, the way was empty, or the line at this address left
+// it, clean or dirty.
+pub enum Left {
+    NoWay,
+    Empty,
+    Clean(u32),
+    Dirty(u32),
+}
+
+// What left a way that was chosen, and how many of its bytes went to external memory (02, U2).
+pub struct Gone {
+    pub left: Left,
+    pub written: u32,
+}
+
 impl Order2 {
     // The used way comes to the front; a permutation stays one.
     pub fn touch(self, way: u8) -> Order2

@@ -1,5 +1,5 @@
--- What the loop makes of its commands: the run of paper 01 (`runFrom`), with the last answer beside it, over a source
--- of commands that is a trace or one given command.
+-- What the loop makes of its commands: the run of paper 01 (`runFrom`) over a source of commands that is a trace; or the
+-- one given command.
 use Prim.Native.Nat.{ℕ, zero, suc, _+_, _*_, _-_, _≤_, _<_}
 use mathlib.Core.Bool.{Bool, true, false, cond}
 use mathlib.Core.List.{List, _∷_}
@@ -12,14 +12,15 @@ use lib.Dec.{ltb, leb, eqb}
 use borrow.Author.Tests.{lt-ltb, le-ltb, le-leb, leb-true, eq-eqb, ne-eqb}
 use Rattle.model.specs.Records.{State}
 use Rattle.model.specs.Trace.{Decoded, decoded, decode}
-use Rattle.model.specs.Calls.{Reply, reply, step, Run, ran, putAnswer, commandAt, putReply, runFrom}
+use Rattle.model.specs.Calls.{Reply, step, Run, ran, putAnswer, commandAt, putReply, runFrom}
 use Rattle.model.specs.Bytes.{stored, littleBytes}
-use Rattle.model.specs.Laws.{step-told, bool, length-littleBytes}
+use Rattle.model.specs.Laws.{bool, length-littleBytes}
 use Rattle.memory.specs.Values.{stored-sets}
 use Rattle.model.specs.declared.Command.{Command}
 use Rattle.decode.specs.Told.{told}
 use Rattle.decode.specs.Codes.{DecodedAt}
 use Rattle.decode.specs.declared.Decoded.{Decoded as Next}
+use Rattle.access.specs.Serving.{plainAnswer}
 use Rattle.access.specs.declared.Answer.{Answer}
 
 -- ---- where commands come from
@@ -38,73 +39,73 @@ pub record NextAt (single : Bool) (c : Command) (t : List ℕ) (at : ℕ) (r : N
 unfoldable pub stopOf : Bool → ℕ → ℕ → ℕ
 stopOf ok len k = cond ok (cond (leb (k * 10 + 10) len) 0 12) 11
 
--- ---- the run, with the last answer
+-- ---- the run over a source of commands
 abbrev pub noAnswer : Answer
-noAnswer = record { number = 0; server = 0; value = 0 }
+noAnswer = plainAnswer 0 0 0
 
-abbrev pub answerOf : Reply → Answer
-answerOf x = record { number = x .number; server = x .server; value = x .value }
-
-pub record Executed : Type 0 where
-  pub run : Run
-  pub last : Answer
-
-abbrev pub executed : Run → Answer → Executed
-executed x a = record { run = x; last = a }
-
-unfoldable pub executes : (ℕ → Decoded) → ℕ → ℕ → ℕ → State → ℕ → List ℕ → Answer → Executed
-executes source end zero i z k o a = executed (ran z i k 0 o) a
-executes source end (suc turns) i z k o a =
+unfoldable pub executes : (ℕ → Decoded) → ℕ → ℕ → ℕ → State → ℕ → List ℕ → Run
+executes source end zero i z k o = ran z i k 0 o
+executes source end (suc turns) i z k o =
     cond (ltb i end)
     (cond (eqb (stopOf (source i .ok) (length o) k) 0)
-    (executes source end turns (i + source i .used) (step (source i .found) z .next) (suc k) (putReply o k (step (source i .found) z))
-    (answerOf (step (source i .found) z)))
-    (executed (ran z i k (stopOf (source i .ok) (length o) k) o) a))
-    (executed (ran z i k 0 o) a)
+    (executes source end turns (i + source i .used) (step (source i .found) z .next) (suc k) (putReply o k (step (source i .found) z)))
+    (ran z i k (stopOf (source i .ok) (length o) k) o))
+    (ran z i k 0 o)
 
--- ---- it is the run of paper 01
-pub executes-run : (t : List ℕ) (turns i : ℕ) (z : State) (k : ℕ) (o : List ℕ) (a : Answer) →
-    executes (commandAt t) (length t) turns i z k o a .run ≡ runFrom t turns i z k o
+-- ---- over a trace it is the run of paper 01
+pub executes-run : (t : List ℕ) (turns i : ℕ) (z : State) (k : ℕ) (o : List ℕ) →
+    executes (commandAt t) (length t) turns i z k o ≡ runFrom t turns i z k o
 unfolding executes runFrom stopOf
-executes-run t zero i z k o a = refl
-executes-run t (suc turns) i z k o a =
+executes-run t zero i z k o = refl
+executes-run t (suc turns) i z k o =
     let x = step (commandAt t i .found) z in
     bool (ltb i (length t))
     (λ b. bool (commandAt t i .ok)
     (λ c. bool (leb (k * 10 + 10) (length o))
-    (λ d. rw (b, c, d) (executes-run t turns (i + commandAt t i .used) (x .next) (suc k) (putReply o k x) (answerOf x)))
+    (λ d. rw (b, c, d) (executes-run t turns (i + commandAt t i .used) (x .next) (suc k) (putReply o k x)))
     (λ d. rw (b, c, d) refl))
     (λ c. rw (b, c) refl))
     (λ b. rw b refl)
 
--- a single command is that step, where its answer has room
-pub executes-one : (c : Command) (t : List ℕ) (z : State) (o : List ℕ) (a : Answer) → 10 ≤ length o →
-    executes (sourceOf true c t) 1 1 0 z 0 o a
-    ≡ executed (ran (step c z .next) 1 1 0 (putReply o 0 (step c z))) (answerOf (step c z))
-unfolding executes stopOf
-executes-one c t z o a h = rw (le-leb 10 (length o) h) refl
+pub told-all : (single : Bool) (c : Command) (t : List ℕ) (z : State) (o : List ℕ) (x : Run) →
+    x ≡ executes (sourceOf single c t) (endOf single t) (endOf single t) 0 z 0 o → single ≡ false → x ≡ runFrom t (length t) 0 z 0 o
+unfolding endOf
+told-all single c t z o x e s =
+    let f : x ≡ executes (commandAt t) (length t) (length t) 0 z 0 o = rw s at e in f ∙ executes-run t (length t) 0 z 0 o
 
--- what the loop makes of one given command, and of a trace: the definitions' own step and run
-module _ (single : Bool) (c : Command) (t : List ℕ) (z : State) (o : List ℕ) (x : Run) (a : Answer)
-    (e : executed x a ≡ executes (sourceOf single c t) (endOf single t) (endOf single t) 0 z 0 o noAnswer) where
-  pub told-one : single ≡ true → 10 ≤ length o → reply (a .number) (a .server) (a .value) (x .next) ≡ step c z
-  unfolding endOf
-  told-one s h =
-      let f : executed x a ≡ executes (sourceOf true c t) 1 1 0 z 0 o noAnswer = rw s at e in
-      ap (λ (y : Executed). reply (y .last .number) (y .last .server) (y .last .value) (y .run .next)) (f ∙ executes-one c t z o noAnswer h)
-      ∙ step-told c z
+-- ---- one given command is the first and the last of its loop: where the loop stands before it, nothing was done yet
+pub record Start (single : Bool) (ws₀ ws : List ℕ) (z₀ z : State) (at : ℕ) : Type 0 where
+  pub first : single ≡ true → at ≡ 0
+  pub words : at ≡ 0 → ws ≡ ws₀
+  pub before : at ≡ 0 → z ≡ z₀
 
-  pub told-all : single ≡ false → x ≡ runFrom t (length t) 0 z 0 o
+-- .. and it is taken, where its answer has room
+module _ (single : Bool) (c : Command) (t : List ℕ) (s : single ≡ true) where
+  sourced : (at : ℕ) → sourceOf single c t at ≡ decoded c 1
+  sourced at = rw s refl
+
+  given-is : (at : ℕ) (d : Next) → told d ≡ sourceOf single c t at → d .command ≡ c
+  given-is at d e = ap (λ (y : Decoded). y .found) (e ∙ sourced at)
+
+  pub given-done : (ws₀ ws : List ℕ) (z₀ z : State) (at : ℕ) (d : Next) (x : Reply) → Start single ws₀ ws z₀ z at → told d ≡ sourceOf single c t at →
+      x ≡ step (d .command) z → x ≡ step c z₀
+  given-done ws₀ ws z₀ z at d x h e ex = ex ∙ (λ i. step (given-is at d e i) (h .before (h .first s) i))
+
+  pub given-goes : (at k n : ℕ) (d : Next) (o : List ℕ) → told d ≡ sourceOf single c t at → k ≤ at → at ≡ 0 → n ≡ stopOf (d .ok) (length o) k → 10 ≤ length o → n ≡ 0
+  unfolding stopOf
+  given-goes at k n d o e le z en h =
+      let y : d .ok ≡ true = ap (λ (q : Decoded). q .ok) (e ∙ sourced at) in let k0 : k ≡ 0 = omega arith in
+      en ∙ rw (y, k0, le-leb 10 (length o) h) refl
+
+  pub given-turns : (end at : ℕ) → end ≡ endOf single t → at ≡ 0 → end ≤ at → ⊥
   unfolding endOf
-  told-all s =
-      let f : executed x a ≡ executes (commandAt t) (length t) (length t) 0 z 0 o noAnswer = rw s at e in
-      ap (λ (y : Executed). y .run) f ∙ executes-run t (length t) 0 z 0 o noAnswer
+  given-turns end at e z h = let one : end ≡ 1 = e ∙ rw s refl in absurd (omega arith)
 
 -- ---- how the loop goes on, stops and ends: what is left to do gives the whole
-module _ (source : ℕ → Decoded) (end at k : ℕ) (z : State) (o : List ℕ) (a : Answer) (whole : Executed) where
+module _ (source : ℕ → Decoded) (end at k : ℕ) (z : State) (o : List ℕ) (whole : Run) where
   pub turn : at < end → k ≤ at → (d : Next) → told d ≡ source at → stopOf (d .ok) (length o) k ≡ 0 → (x : Reply) → x ≡ step (d .command) z →
-      (o′ : List ℕ) → o′ ≡ putAnswer o k (x .number) (x .server) (x .value) → executes source end (end - k) at z k o a ≡ whole →
-      executes source end (end - (k + 1)) (at + d .used) (x .next) (k + 1) o′ (answerOf x) ≡ whole
+      (o′ : List ℕ) → o′ ≡ putAnswer o k (x .number) (x .server) (x .value) → executes source end (end - k) at z k o ≡ whole →
+      executes source end (end - (k + 1)) (at + d .used) (x .next) (k + 1) o′ ≡ whole
   unfolding executes
   turn h le d ed es x ex o′ eo inv =
       let n : end - k ≡ suc (end - (k + 1)) = omega arith in
@@ -114,7 +115,7 @@ module _ (source : ℕ → Decoded) (end at k : ℕ) (z : State) (o : List ℕ) 
       rw (eo, ex, add-one) (rw (← ed, add-one) at inv′)
 
   pub stopped : at < end → k ≤ at → (d : Next) → told d ≡ source at → (s : ℕ) → s ≡ stopOf (d .ok) (length o) k → (s ≡ 0 → ⊥) →
-      executes source end (end - k) at z k o a ≡ whole → executed (ran z at k s o) a ≡ whole
+      executes source end (end - k) at z k o ≡ whole → ran z at k s o ≡ whole
   unfolding executes
   stopped h le d ed s es ns inv =
       let n : end - k ≡ suc (end - (k + 1)) = omega arith in
@@ -122,7 +123,7 @@ module _ (source : ℕ → Decoded) (end at k : ℕ) (z : State) (o : List ℕ) 
       let t : eqb (stopOf (source at .ok) (length o) k) 0 ≡ false = ne-eqb (stopOf (source at .ok) (length o) k) 0 (λ e. ns (s′ ∙ e)) in
       rw s′ (rw (n, lt-ltb at end h, t) at inv)
 
-  pub at-end : (n : ℕ) → end ≤ at → executes source end n at z k o a ≡ whole → executed (ran z at k 0 o) a ≡ whole
+  pub at-end : (n : ℕ) → end ≤ at → executes source end n at z k o ≡ whole → ran z at k 0 o ≡ whole
   unfolding executes
   at-end zero h inv = inv
   at-end (suc n) h inv = rw (le-ltb at end h) at inv
@@ -187,26 +188,3 @@ answer-put o k n s v h o′ e =
   where
     long : (o : List ℕ) (k n s v : ℕ) → k * 10 + 10 ≤ length o → length (littleBytes v 8) ≡ 8 → k * 10 + length (n ∷ s ∷ littleBytes v 8) ≤ length o
     long o k n s v h b = omega arith
-
--- ---- a refused command leaves every word as it was: what the loop keeps of it. Before the first turn nothing was
--- changed; a single command has one turn only.
-abbrev pub Firm : Bool → List ℕ → List ℕ → ℕ → Answer → Type 0
-Firm single ws₀ ws at last = (at ≡ 0 → ws ≡ ws₀) × (single ≡ true → at ≢ 0 → last .number ≢ 0 → ws ≡ ws₀)
-
-module _ (single : Bool) (t : List ℕ) (ws₀ ws vs : List ℕ) (end at used : ℕ) (a b : Answer) (f : Firm single ws₀ ws at a) (ee : end ≡ endOf single t) where
-  -- one turn more
-  pub firm-next : at < end → 1 ≤ used → (b .number ≢ 0 → vs ≡ ws) → Firm single ws₀ vs (at + used) b
-  unfolding endOf
-  firm-next h u r = (
-    λ z. absurd (omega arith),
-    λ s _ n. let one : end ≡ 1 = ee ∙ (rw s refl) in let first : at ≡ 0 = omega arith in r n ∙ f .0 first,
-  )
-
-  -- the loop stops before a command, or has come to its end
-  pub firm-stops : at < end → single ≡ true → a .number ≢ 0 → ws ≡ ws₀
-  unfolding endOf
-  firm-stops h s n = let one : end ≡ 1 = ee ∙ (rw s refl) in let first : at ≡ 0 = omega arith in f .0 first
-
-  pub firm-ends : end ≤ at → single ≡ true → a .number ≢ 0 → ws ≡ ws₀
-  unfolding endOf
-  firm-ends h s n = let one : end ≡ 1 = ee ∙ (rw s refl) in f .1 s (λ z. absurd (omega arith)) n

@@ -6,7 +6,8 @@ ghost use mathlib.Core.Logic.{_≢_};
 ghost use mathlib.Core.Path.{_≡_};
 ghost use Prim.Native.Nat.{_+_, _*_, _≤_};
 ghost use lib.ListN.{length};
-ghost use Rattle.model.specs.Calls.{reply, step, ran, runFrom, putAnswer};
+ghost use Rattle.model.specs.Calls.{step, ran, runFrom, putAnswer};
+ghost use Rattle.access.specs.Serving.{answerOf};
 ghost use Rattle.tags.specs.Words.{recordWords, stateIn};
 ghost use Rattle.run.specs.Executed.{NextAt, endOf, stopOf, noAnswer};
 use access::Answer;
@@ -14,7 +15,7 @@ use decode::Decoded;
 use geometry::L2;
 use model::Command;
 
-// How far a run came, why it stopped, and the last answer.
+// How far a run came, and why it stopped; of one given command the answer.
 pub struct Ended {
     pub consumed: usize,
     pub count: usize,
@@ -25,11 +26,7 @@ pub struct Ended {
 fn no_answer() -> Answer
     ensures { λ r. ⌜ r ≡ noAnswer ⌝ }
 {
-    Answer {
-        number: 0,
-        server: 0,
-        value: 0,
-    }
+    access::plain(0, 0, 0)
 }
 
 fn end_of(single: bool, trace: &[u8]) -> usize
@@ -69,19 +66,19 @@ fn stop_of(ok: bool, len: usize, count: usize) -> u8
     0
 }
 
-fn put_answer(answers: &mut [u8], count: usize, a: Answer)
+fn put_answer(answers: &mut [u8], count: usize, number: u8, server: u8, value: u64)
     requires { ⌜ count * 10 + 10 ≤ length (now answers) ⌝ }
-    ensures { λ _. ⌜ now (answers .exit)
-        ≡ putAnswer (now (answers .entry)) count (a .number) (a .server) (a .value) ⌝ }
+    ensures { λ _. ⌜ now (answers .exit) ≡ putAnswer (now (answers .entry)) count number server value ⌝ }
 {
     let at = count * 10;
-    answers[at] = a.number;
-    answers[at + 1] = a.server;
-    memory::store8(answers, at + 2, a.value);
+    answers[at] = number;
+    answers[at + 1] = server;
+    memory::store8(answers, at + 2, value);
 }
 
 // One given command (`single`), or all of a trace. Who gives one command has room for its answer; the trace is then
-// not looked at.
+// not looked at. The loop is left with the answer of a given command, and carries none from turn to turn: what an
+// access reports (02, U2) is not asked for in a trace, and a run pays nothing for it.
 pub fn run(
     tags: &mut [u32],
     single: bool,
@@ -94,7 +91,7 @@ pub fn run(
 ) -> Ended
     requires { ⌜ length (now tags) ≡ recordWords ⌝ }
     ensures one { λ q. ⌜ (single ≡ true → 10 ≤ length (now (answers .entry)) →
-        reply (q .last .number) (q .last .server) (q .last .value) (stateIn (now (tags .exit)) (now (l1d .exit)) (now (l2 .exit)) (now (ext .exit)))
+        answerOf (q .last) (stateIn (now (tags .exit)) (now (l1d .exit)) (now (l2 .exit)) (now (ext .exit)))
         ≡ step given (stateIn (now (tags .entry)) (now (l1d .entry)) (now (l2 .entry)) (now (ext .entry)))) ⌝ }
     ensures refused { λ q. ⌜ (single ≡ true → q .last .number ≢ 0 → now (tags .exit) ≡ now (tags .entry)) ⌝ }
     ensures all { λ q. ⌜ (single ≡ false →
@@ -104,7 +101,6 @@ pub fn run(
 {
     let mut at: usize = 0;
     let mut count: usize = 0;
-    let mut last = no_answer();
     let mut sets = L2::sets(tags::mode_of(tags));
     let mut sram = L2::sram(tags::l2len_of(tags), tags::mode_of(tags));
     let end = end_of(single, trace);
@@ -116,18 +112,21 @@ pub fn run(
                 consumed: at,
                 count: count,
                 stop: stop,
-                last: last,
+                last: no_answer(),
             };
         }
         let c = d.command;
         if 2 <= c.code {
             let n = commands::execute(tags, sram, sets, c, l1d, l2, ext);
-            last = Answer {
-                number: n,
-                server: 0,
-                value: 0,
-            };
-            put_answer(answers, count, last);
+            if single {
+                return Ended {
+                    consumed: 1,
+                    count: 1,
+                    stop: 0,
+                    last: access::plain(n, 0, 0),
+                };
+            }
+            put_answer(answers, count, n, 0, 0);
             sets = L2::sets(tags::mode_of(tags));
             sram = L2::sram(tags::l2len_of(tags), tags::mode_of(tags));
             at += d.used;
@@ -135,8 +134,15 @@ pub fn run(
             continue;
         }
         let a = access::access(tags, sram, sets, c, l1d, l2, ext);
-        last = a;
-        put_answer(answers, count, last);
+        if single {
+            return Ended {
+                consumed: 1,
+                count: 1,
+                stop: 0,
+                last: a,
+            };
+        }
+        put_answer(answers, count, a.number, a.server, a.value);
         at += d.used;
         count += 1;
     }
@@ -144,6 +150,6 @@ pub fn run(
         consumed: at,
         count: count,
         stop: 0,
-        last: last,
+        last: no_answer(),
     }
 }

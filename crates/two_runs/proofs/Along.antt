@@ -19,9 +19,9 @@ use Rattle.model.specs.Calls.{freshOk}
 use Rattle.model.specs.Laws.{bool, false-true}
 use Rattle.two_runs.specs.TwoRuns.{SameButStored, SameButOneByte, SameStateBut}
 use Rattle.two_runs.proofs.Areas.{Area}
-use Rattle.two_runs.proofs.Pair.{Layout, layoutOf, Pair}
+use Rattle.two_runs.proofs.Pair.{Layout, layoutOf, Pair, pair-stored}
 use Rattle.two_runs.proofs.Calling.{start-pair}
-use Rattle.two_runs.proofs.Behaviour.{pair-stored, pair-legal}
+use Rattle.two_runs.proofs.Behaviour.{pair-legal}
 
 -- bytes c and d stand for address a
 pub record Byte (x a c d : ℕ) : Type 0 where

@@ -3,7 +3,7 @@
 -- any two bytes may stand for an address: a `Pair` then says that two states have one record and equal lengths.
 use Prim.Native.Nat.{ℕ}
 use mathlib.Core.Bool.{true, false}
-use mathlib.Core.Path.{_≡_, refl, sym}
+use mathlib.Core.Path.{_≡_, refl}
 use mathlib.Core.List.{List}
 use lib.ListN.{length}
 use lib.Dec.{eqb}
@@ -18,7 +18,7 @@ use Rattle.model.specs.Laws.{length-littleBytes, cond-both}
 use Rattle.two_runs.specs.TwoRuns.{SameButStored, FitAlike, SameButWritten, sameCommand, sameStart, sameLook, ListsSameButWritten, Shared, SharedAlong, SameBehaviour}
 use Rattle.two_runs.specs.TwoRuns as Says
 use Rattle.two_runs.proofs.Areas.{Pairing, Twins, Area}
-use Rattle.two_runs.proofs.Pair.{Layout, layoutOf, Pair, one-record}
+use Rattle.two_runs.proofs.Pair.{Layout, layoutOf, Pair, pair-stored, one-record}
 use Rattle.two_runs.proofs.Calling.{Replies, start-pair, step-both}
 
 -- ---- what goes by the record and the lengths alone
@@ -29,9 +29,6 @@ lent-due z z′ s = rw (s .rec, s .l1d, s .l2, s .ext) refl
 pub view-due : (z z′ : State) → SameButStored z z′ → (a : ℕ) → viewDue (z .rec) (z .l2) (z .ext) a ≡ viewDue (z′ .rec) (z′ .l2) (z′ .ext) a
 unfolding viewDue viewLentDue lentL2 lentExternal
 view-due z z′ s a = rw (s .rec, s .l2, s .ext) refl
-
-pub pair-stored : {P : Pairing} {g : Layout} {z z′ : State} → Pair P g z z′ → SameButStored z z′
-pair-stored q = record { rec = q .same; l1d = sym (q .sizes .l1dSame); l2 = sym (q .sizes .l2Same); ext = sym (q .sizes .extSame) }
 
 pub pair-legal : {P : Pairing} {g : Layout} {z z′ : State} → Pair P g z z′ → freshOk (z .l1d) (z .l2) (z .ext) ≡ true
 unfolding freshOk
@@ -86,10 +83,11 @@ any = record { byte = λ _ _. refl }
 record Same (x x′ : Reply) : Type 0 where
   number : x .number ≡ x′ .number
   server : x .server ≡ x′ .server
+  report : x .report ≡ x′ .report
   next : SameButStored (x .next) (x′ .next)
 
 shared : {x x′ : Reply} → Same x x′ → Shared x x′
-shared r = record { number = r .number; server = r .server; rec = r .next .rec }
+shared r = record { number = r .number; server = r .server; report = r .report; rec = r .next .rec }
 
 command-same : (z z′ : State) → SameButStored z z′ → (k a b v v′ : ℕ) → (k ≡ 1 → FitAlike a v v′) →
     Same (call (command k a b v) z) (call (command k a b v′) z′)
@@ -97,18 +95,18 @@ command-same z z′ s k a b v v′ f =
     call-both Any (λ _. refl) z z′ s
     (λ u. start-pair Any z z′ (s .rec) (s .l1d) (s .l2) (s .ext) u (λ _ _ _. any) (λ _ _ _. any) any any)
     k a b v v′ (λ e. (f e, record { long = length-littleBytes v a; long′ = length-littleBytes v′ a; byte = λ _ _. refl }))
-    Same (λ n. record { number = refl; server = refl; next = s })
+    Same (λ n. record { number = refl; server = refl; report = refl; next = s })
     (λ x x′ r. let p = r .next in
-    record { number = r .number; server = r .server; next = pair-stored (p .1) })
+    record { number = r .number; server = r .server; report = r .report; next = pair-stored (p .1) })
 
 fresh-same : (z z′ : State) → SameButStored z z′ → Same (called freshStart z) (called freshStart z′)
 fresh-same z z′ s =
-    fresh-both z z′ s Same (record { number = refl; server = refl; next = fresh-stored z z′ s })
-    (λ _. record { number = refl; server = refl; next = record { rec = refl; l1d = s .l1d; l2 = s .l2; ext = s .ext } })
+    fresh-both z z′ s Same (record { number = refl; server = refl; report = refl; next = fresh-stored z z′ s })
+    (λ _. record { number = refl; server = refl; report = refl; next = record { rec = refl; l1d = s .l1d; l2 = s .l2; ext = s .ext } })
 
 look-same : (z z′ : State) → SameButStored z z′ → (a : ℕ) → Same (called (look a) z) (called (look a) z′)
 unfolding viewDone
-look-same z z′ s a = record { number = view-due z z′ s a; server = refl; next = s }
+look-same z z′ s a = record { number = view-due z z′ s a; server = refl; report = refl; next = s }
 
 called-same : (c c′ : Call) → SameButWritten c c′ → (z z′ : State) → SameButStored z z′ → Same (called c z) (called c′ z′)
 called-same (oneCommand c) (oneCommand c′) (sameCommand {k} {a} {b} {v} {v′} f) z z′ s = command-same z z′ s k a b v v′ f

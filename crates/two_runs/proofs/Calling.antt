@@ -1,5 +1,5 @@
 -- One command, in two runs at once. Shown: where checks 1 and 2 find nothing, two states of one record are a `Pair`
--- (`start-pair`); a command on such states gives the same number and server, bytes that stand for the same addresses,
+-- (`start-pair`); a command on such states gives the same number, server and report, bytes that stand for the same addresses,
 -- and a `Pair` again (`step-both`). Why: checks 3 to 10 go by the record and the call's numbers; of a value they ask
 -- only whether it fits.
 use Prim.Native.Nat.{ℕ, zero, suc, _+_, _%_, _≤_, _<_}
@@ -31,8 +31,9 @@ use Rattle.agreement.proofs.Due.{access-tells, mode-tells}
 use Rattle.agreement.proofs.Steps.{codes, other-code}
 use Rattle.agreement.proofs.Tested.{legalL2-tells, legalExternal-tells}
 use Rattle.two_runs.proofs.Areas.{Pairing, Twins, no-twins, Area}
-use Rattle.two_runs.proofs.Pair.{Layout, layoutOf, L1dOk, L2Ok, Pair, Keeps, twin}
+use Rattle.two_runs.proofs.Pair.{Layout, layoutOf, L1dOk, L2Ok, Pair, pair-stored, Keeps, twin}
 use Rattle.two_runs.proofs.Serving.{Fits, read-both, write-both}
+use Rattle.two_runs.proofs.Reporting.{read-report, write-report}
 use Rattle.two_runs.proofs.Sweeping.{inMode, code-2, code-3, code-4, code-5, code-6, code-7, code-8, code-9, code-10, code-11, code-12}
 
 -- ---- a test over a list tells of each element, or there is none at that index
@@ -166,6 +167,7 @@ pub record Answer (P : Pairing) (k a b v v′ : ℕ) : Type 0 where
 pub record Replies (P : Pairing) (k a b : ℕ) (x x′ : Reply) : Type 0 where
   pub number : x .number ≡ x′ .number
   pub server : x .server ≡ x′ .server
+  pub report : x .report ≡ x′ .report
   pub answer : Answer P k a b (x .value) (x′ .value)
   pub bytes : x .bytes ≡ x′ .bytes
   pub next : (g : Layout) × Pair P g (x .next) (x′ .next)
@@ -194,11 +196,11 @@ module _ {P : Pairing} (none : (a : ℕ) → P a 0 0) {g : Layout} {z : State} {
     unless-refused : (k n : ℕ) (x x′ : Reply) → (n ≡ 0 → Replies P k a b x x′) → Replies P k a b (cond (eqb n 0) x (refused n z)) (cond (eqb n 0) x′ (refused n other))
     unless-refused k n x x′ h =
         cond-both (Replies P k a b) (eqb n 0) x (refused n z) x′ (refused n other) (λ t. h (eqb-true n 0 t))
-        (λ _. record { number = refl; server = refl; answer = no-answer P k a b; bytes = refl; next = (g, q) })
+        (λ _. record { number = refl; server = refl; report = refl; answer = no-answer P k a b; bytes = refl; next = (g, q) })
 
     -- a command that is neither a read nor a write
     carried : (k : ℕ) (y y′ : State) → Pair P g y y′ → Replies P k a b (carriedOut y) (carriedOut y′)
-    carried k y y′ p = record { number = refl; server = refl; answer = no-answer P k a b; bytes = refl; next = (g, p) }
+    carried k y y′ p = record { number = refl; server = refl; report = refl; answer = no-answer P k a b; bytes = refl; next = (g, p) }
 
     abbrev At : ℕ → Type 0
     At k = Replies P k a b (step (command k a b v) z) (step (command k a b v′) other)
@@ -211,6 +213,7 @@ module _ {P : Pairing} (none : (a : ℕ) → P a 0 0) {g : Layout} {z : State} {
         record {
           number = refl;
           server = x .server;
+          report = read-report a b z other (pair-stored q);
           answer = record {
             count = a;
             bs = readAccess a b z .bytes;
@@ -230,7 +233,8 @@ module _ {P : Pairing} (none : (a : ℕ) → P a 0 0) {g : Layout} {z : State} {
         rw (← (due-alike (sramOf (z .rec)) (z .rec .extlen) a b v v′ f))
         (unless-refused 1 (accessDue (sramOf (z .rec)) (z .rec .extlen) a b v) (writeDone a b v z) (writeDone a b v′ other)
         (λ u. let x = write-both (fits a b v u) tw z other q in
-        record { number = refl; server = x .server; answer = no-answer P 1 a b; bytes = refl; next = (g, x .next) }))
+        let r = write-report b (littleBytes v a) (littleBytes v′ a) (tw .long ∙ sym (tw .long′)) z other (pair-stored q) in
+        record { number = refl; server = x .server; report = r; answer = no-answer P 1 a b; bytes = refl; next = (g, x .next) }))
 
     step-2 : At 2
     unfolding step commandDue accepted commandState
@@ -277,6 +281,7 @@ module _ {P : Pairing} (none : (a : ℕ) → P a 0 0) {g : Layout} {z : State} {
         record {
           number = refl;
           server = refl;
+          report = refl;
           answer = no-answer P 10 a b;
           bytes = refl;
           next = (inMode g a, code-10 none a (omega arith) z other q);
@@ -297,7 +302,7 @@ module _ {P : Pairing} (none : (a : ℕ) → P a 0 0) {g : Layout} {z : State} {
     step-other : (k : ℕ) → 13 ≤ k → At k
     step-other k h =
         let e₁ = other-code k a b v z h in let e₂ = other-code k a b v′ other h in
-        rw (e₁, e₂) (record { number = refl; server = refl; answer = no-answer P k a b; bytes = refl; next = (g, q) })
+        rw (e₁, e₂) (record { number = refl; server = refl; report = refl; answer = no-answer P k a b; bytes = refl; next = (g, q) })
 
     pub step-both : (k : ℕ) → (k ≡ 1 → (sizeOk a ≡ true → valueOk a v ≡ valueOk a v′) × Twins P b a (littleBytes v a) (littleBytes v′ a)) → At k
     step-both k f =

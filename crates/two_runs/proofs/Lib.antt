@@ -3,6 +3,7 @@ pub mod Held
 pub mod Pair
 pub mod Leaving
 pub mod Serving
+pub mod Reporting
 pub mod Sweeping
 pub mod Calling
 pub mod Behaviour

@@ -28,6 +28,7 @@ use Rattle.two_runs.proofs.Looking.{look-bytes}
 record Stays (x : ℕ) (c : Call) (y y′ : Reply) : Type 0 where
   number : y .number ≡ y′ .number
   server : y .server ≡ y′ .server
+  report : y .report ≡ y′ .report
   answer : SameAnswerBut x c y y′
   along : Along x (y .next) (y′ .next)
 
@@ -35,12 +36,13 @@ equal-bytes : {Stands : ℕ → Type 0} {bs bs′ : List ℕ} → bs ≡ bs′ �
 equal-bytes e = record { long = ap length e; byte = λ k _. ap (λ (l : List ℕ). getD l k 0) e }
 
 -- a reply that is the same but for the state
-same-reply : {x : ℕ} {c : Call} {y y′ : Reply} → y .number ≡ y′ .number → y .server ≡ y′ .server → y .value ≡ y′ .value → y .bytes ≡ y′ .bytes →
+same-reply : {x : ℕ} {c : Call} {y y′ : Reply} → y .number ≡ y′ .number → y .server ≡ y′ .server → y .report ≡ y′ .report → y .value ≡ y′ .value → y .bytes ≡ y′ .bytes →
     Along x (y .next) (y′ .next) → Stays x c y y′
-same-reply n s v b h =
+same-reply n s q v b h =
     record {
       number = n;
       server = s;
+      report = q;
       answer = record { value = equal-bytes (ap (λ (w : ℕ). littleBytes w 8) v); handedBack = equal-bytes b };
       along = h;
     }
@@ -96,11 +98,12 @@ command-stays x z z′ h k a b v =
         byte = λ i _. equal-byte refl (written-byte v a i);
       },
     ))
-    (Stays x (oneCommand (command k a b v))) (λ n. same-reply refl refl refl refl h)
+    (Stays x (oneCommand (command k a b v))) (λ n. same-reply refl refl refl refl refl h)
     (λ y y′ r. let p = r .next in
     record {
       number = r .number;
       server = r .server;
+      report = r .report;
       answer = record { value = same-value x k a b v (y .value) (y′ .value) (r .answer); handedBack = equal-bytes (r .bytes) };
       along = pair-along (h .external) (p .1);
     })
@@ -151,8 +154,8 @@ module _ (x : ℕ) (z z′ : State) (h : Along x z z′) where
 
   fresh-stays : Stays x freshStart (freshCall (z .l1d) (z .l2) (z .ext)) (freshCall (z′ .l1d) (z′ .l2) (z′ .ext))
   fresh-stays =
-      fresh-both z z′ (h .stored) (Stays x freshStart) (same-reply refl refl refl refl started)
-      (λ u. same-reply refl refl refl refl (not-started u))
+      fresh-both z z′ (h .stored) (Stays x freshStart) (same-reply refl refl refl refl refl started)
+      (λ u. same-reply refl refl refl refl refl (not-started u))
 
   -- ---- one look behind L1D
   look-stays : (a : ℕ) → Stays x (look a) (called (look a) z) (called (look a) z′)
@@ -161,6 +164,7 @@ module _ (x : ℕ) (z z′ : State) (h : Along x z z′) where
       record {
         number = view-due z z′ (h .stored) a;
         server = refl;
+        report = refl;
         answer = record { value = equal-bytes refl; handedBack = look-bytes x z z′ h a };
         along = h;
       }
@@ -174,7 +178,7 @@ called-stays x (look a) z z′ h = look-stays x z z′ h a
 says : (x : ℕ) (c : Call) (y y′ : Reply) → Stays x c y y′ → SameBut x c y y′
 says x c y y′ r =
     record {
-      shared = record { number = r .number; server = r .server; rec = r .along .stored .rec };
+      shared = record { number = r .number; server = r .server; report = r .report; rec = r .along .stored .rec };
       answer = r .answer;
       after = along-says x (y .next) (y′ .next) (r .along);
     }

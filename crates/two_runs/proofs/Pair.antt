@@ -5,7 +5,7 @@
 -- Why: which step is taken goes by the record alone, and it moves each byte to a place that stands for the same
 -- address.
 use Prim.Native.Nat.{ℕ, _+_, _*_, _-_, _%_, _≤_, _<_}
-use mathlib.Core.Bool.{Bool, true, false, cond}
+use mathlib.Core.Bool.{true}
 use mathlib.Core.Path.{_≡_, refl, sym, _∙_, subst}
 use mathlib.Core.Logic.{inl, inr, ⊎-elim}
 use mathlib.Core.List.{List}
@@ -24,6 +24,7 @@ use Rattle.model.specs.declared.Line.{Line}
 use Rattle.model.specs.declared.Record.{Record}
 use Rattle.agreement.proofs.Tables.{l1dStore, l2Store}
 use Rattle.agreement.proofs.Good.{slot-bound, l1d-apart, l2-apart, l1d-used-line, l2-used-line}
+use Rattle.two_runs.specs.TwoRuns.{SameButStored}
 use Rattle.two_runs.proofs.Areas.{Pairing, Twins, Area, area-part, area-stored, area-elsewhere}
 use Rattle.two_runs.proofs.Held.{replaces, Held, held-same, held-emptied, held-put}
 
@@ -77,6 +78,10 @@ pub record Pair (P : Pairing) (g : Layout) (z z′ : State) : Type 0 where
   pub l2 : Held P (L2Ok g) 128 (l2LineAt (z .rec)) (l2Data (z .rec)) (z .l2) (z′ .l2)
   pub sram : Area P 0 0 (g .sram) (z .l2) (z′ .l2)
   pub ext : Area P externalBase 0 (g .ext) (z .ext) (z′ .ext)
+
+-- one record and memories of equal lengths
+pub pair-stored : {P : Pairing} {g : Layout} {z z′ : State} → Pair P g z z′ → SameButStored z z′
+pair-stored q = record { rec = q .same; l1d = sym (q .sizes .l1dSame); l2 = sym (q .sizes .l2Same); ext = sym (q .sizes .extSame) }
 
 -- a step that keeps it
 abbrev pub Keeps : Pairing → Layout → (State → State) → Type 0

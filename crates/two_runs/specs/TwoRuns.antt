@@ -44,11 +44,13 @@ pub data ListsSameButWritten : List Call → List Call → Type 0 where
   end : ListsSameButWritten [] []
   next : {c c′ : Call} {cs cs′ : List Call} → SameButWritten c c′ → ListsSameButWritten cs cs′ → ListsSameButWritten (c ∷ cs) (c′ ∷ cs′)
 
--- ---- "share all refusals, servers, counts and the record": what is observed of two calls is the same. (No single call
--- counts anything yet; what a trace's run counts is left out with it.)
+-- ---- "share all refusals, servers, counts and the record": what is observed of two calls is the same. The counts are
+-- those that an access reports (02, U2), and with them which lines left their ways; what a trace's run counts is left
+-- out with it.
 pub record Shared (x x′ : Reply) : Type 0 where
   pub number : x .number ≡ x′ .number
   pub server : x .server ≡ x′ .server
+  pub report : x .report ≡ x′ .report
   pub rec : x .next .rec ≡ x′ .next .rec
 
 -- at every place of the lists

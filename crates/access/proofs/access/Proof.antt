@@ -1,13 +1,9 @@
-use Rattle.access.specs.Serving.{step-done, due-is, size-of, step-refused, step-accepted, uncached-external, read-uncached, write-uncached, way-of, read-hits, write-hits, read-misses, write-misses}
+use Rattle.access.specs.Serving.{answerOf, due-is, size-of, step-refused, step-accepted, uncached-external, by-passing, by-hit, by-miss, way-of}
+use Rattle.access.specs.declared.Answer.{Answer}
 use Rattle.tags.specs.Words.{recordIn}
 use Rattle.model.specs.Records.{state}
-use mathlib.Core.Path.{refl, sym, _∙_}
+use mathlib.Core.Path.{refl, sym, ap, _∙_}
 use borrow.Author.Tests.{not-true, not-false}
-use Rattle.model.specs.Bytes.{littleBytes}
-use mathlib.Core.List.{[]}
-use Rattle.model.specs.Calls.{reply}
-use Rattle.model.specs.Homes.{memoryPart, putMemory}
-use Rattle.model.specs.Access.{access, readHit, writeHit, readMiss, writeMiss}
 use borrow.Author.Needs.{needs}
 use Rattle.access.proofs.access.Statement.{statement}
 use Rattle.access.proofs.access.Tie as tie
@@ -23,6 +19,7 @@ use Rattle.access.proofs.is_cacheable.Reads as is-cacheable-reads
 use Rattle.access.proofs.miss.Reads as miss-reads
 use Rattle.tags.proofs.extlen_of.Reads as extlen-of-reads
 use Rattle.tags.proofs.l1d_find.Reads as l1d-find-reads
+use Rattle.access.proofs.plain.Reads as plain-reads
 
 -- src/lib.rt:269:36
 cast-access-due : tie.Need-cast-access-due
@@ -40,19 +37,24 @@ checked-value-requires c κs = search needs
 access-due-requires : tie.Need-access-due-requires
 access-due-requires c κs = search needs
 
+-- src/lib.rt:299:9
+plain-requires : tie.Need-plain-requires
+plain-requires c κs = search needs
+
 -- src/lib.rt:271:9
 same-length : tie.Need-same-length
 same-length c = search needs
 
 -- src/lib.rt:271:9
 returns : tie.Need-returns
-returns c = (
-  let a = (c .before .before .before .before .before .before .before .before .before) .args in let k = (c .before .before .before .before .before .before .before .before .before) .pre in let r = recordIn (a .tags .now) in let z = state r (a .l1d .now) (a .l2 .now) (a .ext .now) in
-      let due = (c .before .access-due) .ensures in
-      let en = due-is (a .c) z ((c .before .access-due) .result) (a .sram) ((c .before .before .before .extlen-of) .result) ((c .before .before .checked-value) .result) (k .0) (k .1 .1 .1 .0) ((c .before .before .before .extlen-of) .ensures) ((c .before .before .checked-value) .ensures) due in
-      step-refused (a .c) z ((c .before .access-due) .result) en ((c .if1) .taken),
-  λ _. refl,
-)
+returns c =
+    let p-if1 = c .before in let p-access-due = p-if1 .before in let p-checked-value = p-access-due .before in
+    let p-extlen-of = p-checked-value .before in
+    let p-start = p-extlen-of .before .before .before .before .before .before in
+    let a = p-start .args in let k = p-start .pre in let r = recordIn (a .tags .now) in let z = state r (a .l1d .now) (a .l2 .now) (a .ext .now) in
+    let n = (p-access-due .access-due) in let x = (p-extlen-of .extlen-of) in let v = (p-checked-value .checked-value) in
+    let en = due-is (a .c) z (n .result) (a .sram) (x .result) (v .result) (k .0) (k .1 .1 .1 .0) (x .ensures) (v .ensures) (n .ensures) in
+    (ap (λ (q : Answer). answerOf q z) ((c .plain) .ensures) ∙ step-refused (a .c) z (n .result) en ((p-if1 .if1) .taken), λ _. refl)
 
 -- src/lib.rt:277:9
 is-cacheable-requires : tie.Need-is-cacheable-requires
@@ -80,17 +82,19 @@ same-length-3 c = search needs
 
 -- src/lib.rt:279:9
 returns-2 : tie.Need-returns-2
-returns-2 c = (
-  let a = (c .before .before .before .before .before .before .before .before .before .before .before .before .before .before .before .before) .args in let k = (c .before .before .before .before .before .before .before .before .before .before .before .before .before .before .before .before) .pre in let r = recordIn (a .tags .now) in let z = state r (a .l1d .now) (a .l2 .now) (a .ext .now) in
-      let due = (c .before .before .before .before .before .before .before .before .access-due) .ensures in
-      let en = due-is (a .c) z ((c .before .before .before .before .before .before .before .before .access-due) .result) (a .sram) ((c .before .before .before .before .before .before .before .before .before .before .extlen-of) .result) ((c .before .before .before .before .before .before .before .before .before .checked-value) .result) (k .0) (k .1 .1 .1 .0) ((c .before .before .before .before .before .before .before .before .before .before .extlen-of) .ensures) ((c .before .before .before .before .before .before .before .before .before .checked-value) .ensures) due in
-      let cf = sym ((c .before .before .before .before .before .is-cacheable) .ensures) ∙ not-true ((c .before .before .before .before .before .is-cacheable) .result) ((c .before .before .before .before .if2) .taken) in
-      let g = (c .before .before .uncached) in
-      step-accepted (a .c) z ((c .before .before .before .before .before .before .before .before .access-due) .result) (reply 0 4 (g .result) (state r (a .l1d .now) (a .l2 .now) (g .last .1 .0))) (access 4 (memoryPart (a .c .second) (a .c .first) z) z) (access 4 [] (putMemory (a .c .second) (littleBytes (a .c .value) (a .c .first)) z)) (k .0) en ((c .before .before .before .before .before .before .before .if1) .left)
-      (read-uncached z (a .c .first) (a .c .second) cf) (write-uncached z (a .c .second) (littleBytes (a .c .value) (a .c .first)) cf)
-      (g .ensures z refl),
-  λ n. absurd (n refl),
-)
+returns-2 c =
+    let p-uncached = c .before .before in let p-if2 = p-uncached .before .before in
+    let p-is-cacheable = p-if2 .before in
+    let p-if1 = p-is-cacheable .before .before in
+    let p-access-due = p-if1 .before in let p-checked-value = p-access-due .before in
+    let p-extlen-of = p-checked-value .before in
+    let p-start = p-extlen-of .before .before .before .before .before .before in
+    let a = p-start .args in let k = p-start .pre in let r = recordIn (a .tags .now) in let z = state r (a .l1d .now) (a .l2 .now) (a .ext .now) in
+    let n = (p-access-due .access-due) in let x = (p-extlen-of .extlen-of) in let v = (p-checked-value .checked-value) in let i = (p-is-cacheable .is-cacheable) in
+    let en = due-is (a .c) z (n .result) (a .sram) (x .result) (v .result) (k .0) (k .1 .1 .1 .0) (x .ensures) (v .ensures) (n .ensures) in
+    let cf = sym (i .ensures) ∙ not-true (i .result) ((p-if2 .if2) .taken) in let g = (p-uncached .uncached) in
+    let d = step-accepted (a .c) z (n .result) (answerOf (g .result) (state r (a .l1d .now) (a .l2 .now) (g .last .1 .0))) (k .0) en ((p-if1 .if1) .left)
+    (g .ensures z refl ∙ by-passing (a .c) z cf) in (d .0, λ m. absurd (m (d .1)))
 
 -- src/lib.rt:285:9
 set-of-requires : tie.Need-set-of-requires
@@ -116,6 +120,10 @@ hit-requires c κs =
     let sz = size-of (a .sram) ((p-extlen-of .extlen-of) .result) (a .c .first) (a .c .second) ((p-checked-value .checked-value) .result) ((p-access-due .access-due) .result) due ((p-if1 .if1) .left) in
     ((((p-set-of .set-of) .ensures .1, (c .before .before .if3) .taken), k .1 .0), ((p-set-of .set-of) .ensures .0, sz))
 
+-- src/lib.rt:308:9
+plain-requires-2 : tie.Need-plain-requires-2
+plain-requires-2 c κs = search needs
+
 -- src/lib.rt:289:9
 same-length-4 : tie.Need-same-length-4
 same-length-4 c = search needs
@@ -126,18 +134,24 @@ same-length-5 c = search needs
 
 -- src/lib.rt:289:9
 returns-3 : tie.Need-returns-3
-returns-3 c = (
-  let a = (c .before .before .before .before .before .before .before .before .before .before .before .before .before .before .before .before .before .before .before .before .before .before .before .before) .args in let k = (c .before .before .before .before .before .before .before .before .before .before .before .before .before .before .before .before .before .before .before .before .before .before .before .before) .pre in let r = recordIn (a .tags .now) in let z = state r (a .l1d .now) (a .l2 .now) (a .ext .now) in
-      let due = (c .before .before .before .before .before .before .before .before .before .before .before .before .before .before .before .before .access-due) .ensures in
-      let en = due-is (a .c) z ((c .before .before .before .before .before .before .before .before .before .before .before .before .before .before .before .before .access-due) .result) (a .sram) ((c .before .before .before .before .before .before .before .before .before .before .before .before .before .before .before .before .before .before .extlen-of) .result) ((c .before .before .before .before .before .before .before .before .before .before .before .before .before .before .before .before .before .checked-value) .result) (k .0) (k .1 .1 .1 .0) ((c .before .before .before .before .before .before .before .before .before .before .before .before .before .before .before .before .before .before .extlen-of) .ensures) ((c .before .before .before .before .before .before .before .before .before .before .before .before .before .before .before .before .before .checked-value) .ensures) due in
-      let ct = sym ((c .before .before .before .before .before .before .before .before .before .before .before .before .before .is-cacheable) .ensures) ∙ not-false ((c .before .before .before .before .before .before .before .before .before .before .before .before .before .is-cacheable) .result) ((c .before .before .before .before .before .before .before .before .before .before .before .before .if2) .left) in
-      let w = way-of z (a .c .second) ((c .before .before .before .before .before .before .before .before .before .before .before .set-of) .result) ((c .before .before .before .before .before .before .before .before .before .line-of) .result) ((c .before .before .before .before .before .before .before .before .l1d-find) .result) ((c .before .before .before .before .before .before .before .before .before .before .before .set-of) .ensures .0) ((c .before .before .before .before .before .before .before .before .before .line-of) .ensures) ((c .before .before .before .before .before .before .before .before .l1d-find) .ensures .0) in
-      let g = (c .before .before .before .before .hit) in
-      step-accepted (a .c) z ((c .before .before .before .before .before .before .before .before .before .before .before .before .before .before .before .before .access-due) .result) (reply 0 1 (g .result) (state (recordIn (g .last .0)) (g .last .1 .1 .1 .1 .0) (a .l2 .now) (a .ext .now))) (readHit (a .c .first) (a .c .second) z) (writeHit (a .c .second) (littleBytes (a .c .value) (a .c .first)) z) (k .0) en ((c .before .before .before .before .before .before .before .before .before .before .before .before .before .before .before .if1) .left)
-      (read-hits z (a .c .first) (a .c .second) ((c .before .before .before .before .before .before .before .before .l1d-find) .result) ct w ((c .before .before .before .before .before .before .before .if3) .taken)) (write-hits z (a .c .second) ((c .before .before .before .before .before .before .before .before .l1d-find) .result) (littleBytes (a .c .value) (a .c .first)) ct w ((c .before .before .before .before .before .before .before .if3) .taken))
-      (g .ensures (a .l2 .now) (a .ext .now) w),
-  λ n. absurd (n refl),
-)
+returns-3 c =
+    let p-hit = c .before .before .before .before .before in let p-if3 = p-hit .before .before .before in
+    let p-l1d-find = p-if3 .before in let p-line-of = p-l1d-find .before in
+    let p-set-of = p-line-of .before .before in let p-if2 = p-set-of .before in let p-is-cacheable = p-if2 .before in
+    let p-if1 = p-is-cacheable .before .before in
+    let p-access-due = p-if1 .before in let p-checked-value = p-access-due .before in
+    let p-extlen-of = p-checked-value .before in
+    let p-start = p-extlen-of .before .before .before .before .before .before in
+    let a = p-start .args in let k = p-start .pre in let r = recordIn (a .tags .now) in let z = state r (a .l1d .now) (a .l2 .now) (a .ext .now) in
+    let n = (p-access-due .access-due) in let x = (p-extlen-of .extlen-of) in let v = (p-checked-value .checked-value) in let i = (p-is-cacheable .is-cacheable) in
+    let en = due-is (a .c) z (n .result) (a .sram) (x .result) (v .result) (k .0) (k .1 .1 .1 .0) (x .ensures) (v .ensures) (n .ensures) in
+    let s = (p-set-of .set-of) in let l = (p-line-of .line-of) in let f = (p-l1d-find .l1d-find) in
+    let ct = sym (i .ensures) ∙ not-false (i .result) ((p-if2 .if2) .left) in
+    let w = way-of z (a .c .second) (s .result) (l .result) (f .result) (s .ensures .0) (l .ensures) (f .ensures .0) in
+    let g = (p-hit .hit) in let y = state (recordIn (g .last .0)) (g .last .1 .1 .1 .1 .0) (a .l2 .now) (a .ext .now) in
+    let d = step-accepted (a .c) z (n .result) (answerOf ((c .plain2) .result) y) (k .0) en ((p-if1 .if1) .left)
+    (ap (λ (q : Answer). answerOf q y) ((c .plain2) .ensures) ∙ g .ensures (a .l2 .now) (a .ext .now) w ∙ by-hit (a .c) z (f .result) ct w ((p-if3 .if3) .taken)) in
+    (d .0, λ m. absurd (m (d .1)))
 
 -- src/lib.rt:295:5
 miss-requires : tie.Need-miss-requires
@@ -172,20 +186,21 @@ returns-4 : tie.Need-returns-4
 returns-4 c =
     let p-miss = c .before .before .before .before .before .before .before .before in
     let p-if3 = p-miss .before .before .before .before .before in let p-l1d-find = p-if3 .before in
-    let p-line-of = p-l1d-find .before in let p-set-of = p-line-of .before .before in
-    let p-if2 = p-set-of .before in let p-is-cacheable = p-if2 .before in
-    let p-if1 = p-is-cacheable .before .before in let p-access-due = p-if1 .before in
-    let p-checked-value = p-access-due .before in let p-extlen-of = p-checked-value .before in
+    let p-line-of = p-l1d-find .before in let p-set-of = p-line-of .before .before in let p-if2 = p-set-of .before in
+    let p-is-cacheable = p-if2 .before in
+    let p-if1 = p-is-cacheable .before .before in
+    let p-access-due = p-if1 .before in let p-checked-value = p-access-due .before in
+    let p-extlen-of = p-checked-value .before in
     let p-start = p-extlen-of .before .before .before .before .before .before in
     let a = p-start .args in let k = p-start .pre in let r = recordIn (a .tags .now) in let z = state r (a .l1d .now) (a .l2 .now) (a .ext .now) in
-    let due = (p-access-due .access-due) .ensures in
-    let en = due-is (a .c) z ((p-access-due .access-due) .result) (a .sram) ((p-extlen-of .extlen-of) .result) ((p-checked-value .checked-value) .result) (k .0) (k .1 .1 .1 .0) ((p-extlen-of .extlen-of) .ensures) ((p-checked-value .checked-value) .ensures) due in
-    let ct = sym ((p-is-cacheable .is-cacheable) .ensures) ∙ not-false ((p-is-cacheable .is-cacheable) .result) ((p-if2 .if2) .left) in
-    let w = way-of z (a .c .second) ((p-set-of .set-of) .result) ((p-line-of .line-of) .result) ((p-l1d-find .l1d-find) .result) ((p-set-of .set-of) .ensures .0) ((p-line-of .line-of) .ensures) ((p-l1d-find .l1d-find) .ensures .0) in
-    let g = (p-miss .miss) in let q = g .result in
-    let s = step-done (a .c) z ((p-access-due .access-due) .result) (reply (q .number) (q .server) (q .value) (state (recordIn (g .last .0)) (g .last .1 .1 .1 .1 .1 .0) (g .last .1 .1 .1 .1 .1 .1 .0) (g .last .1 .1 .1 .1 .1 .1 .1 .0))) (readMiss (a .c .first) (a .c .second) z) (writeMiss (a .c .second) (littleBytes (a .c .value) (a .c .first)) z) (k .0) en ((p-if1 .if1) .left)
-    (read-misses z (a .c .first) (a .c .second) ((p-l1d-find .l1d-find) .result) ct w ((p-if3 .if3) .left)) (write-misses z (a .c .second) ((p-l1d-find .l1d-find) .result) (littleBytes (a .c .value) (a .c .first)) ct w ((p-if3 .if3) .left))
-    (g .ensures) in (s .0, λ n. absurd (n (s .1)))
+    let n = (p-access-due .access-due) in let x = (p-extlen-of .extlen-of) in let v = (p-checked-value .checked-value) in let i = (p-is-cacheable .is-cacheable) in
+    let en = due-is (a .c) z (n .result) (a .sram) (x .result) (v .result) (k .0) (k .1 .1 .1 .0) (x .ensures) (v .ensures) (n .ensures) in
+    let s = (p-set-of .set-of) in let l = (p-line-of .line-of) in let f = (p-l1d-find .l1d-find) in
+    let ct = sym (i .ensures) ∙ not-false (i .result) ((p-if2 .if2) .left) in
+    let w = way-of z (a .c .second) (s .result) (l .result) (f .result) (s .ensures .0) (l .ensures) (f .ensures .0) in
+    let g = (p-miss .miss) in
+    let d = step-accepted (a .c) z (n .result) (answerOf (g .result) (state (recordIn (g .last .0)) (g .last .1 .1 .1 .1 .1 .0) (g .last .1 .1 .1 .1 .1 .1 .0) (g .last .1 .1 .1 .1 .1 .1 .1 .0))) (k .0) en ((p-if1 .if1) .left)
+    (g .ensures ∙ by-miss (a .c) z (f .result) ct w ((p-if3 .if3) .left)) in (d .0, λ m. absurd (m (d .1)))
 
 pub access-spec : {M : Type 1} → statement M
 access-spec =
@@ -195,6 +210,7 @@ access-spec =
     extlen-of-requires
     checked-value-requires
     access-due-requires
+    plain-requires
     same-length
     returns
     is-cacheable-requires
@@ -206,6 +222,7 @@ access-spec =
     line-of-requires
     l1d-find-requires
     hit-requires
+    plain-requires-2
     same-length-4
     same-length-5
     returns-3

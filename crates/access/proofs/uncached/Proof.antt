@@ -7,10 +7,15 @@ use Rattle.access.proofs.uncached.Lts as lts
 use Rattle.memory.proofs.load.Reads as load-reads
 use Rattle.memory.proofs.store.Reads as store-reads
 use Rattle.geometry.proofs.external_place.Reads as external-place-reads
+use Rattle.memory.proofs.held.Reads as held-reads
 
 -- src/lib.rt:244:9
 external-place-requires : tie.Need-external-place-requires
 external-place-requires c κs = search needs
+
+-- src/lib.rt:240:9
+held-requires : tie.Need-held-requires
+held-requires c κs = search needs
 
 -- src/lib.rt:246:9
 store-requires : tie.Need-store-requires
@@ -23,9 +28,10 @@ same-length c = search needs
 -- src/lib.rt:247:9
 returns : tie.Need-returns
 returns c =
-    let p-if1 = c .before .before .before .before in let p-external-place = p-if1 .before .before in
-    let p-start = p-external-place .before .before in
-    λ z q. uncached-write (p-start .args .c) z (p-start .args .ext .now) ((c .before .before .store) .last .0) ((p-external-place .external-place) .result) ((p-if1 .if1) .taken) (p-start .pre .1) q ((p-external-place .external-place) .ensures .0) ((c .before .before .store) .ensures)
+    let p-store = c .before .before in let p-if1 = p-store .before .before in let p-held = p-if1 .before .before in
+    let p-external-place = p-held .before .before in let p-start = p-external-place .before .before in
+    let a = p-start .args in let o = (p-external-place .external-place) in let n = (p-held .held) in let m = (p-store .store) in
+    λ z q. uncached-write (a .c) z (a .ext .now) (m .last .0) (o .result) (n .result) ((p-if1 .if1) .taken) (p-start .pre .1) q (o .ensures .0) (n .ensures .0) (m .ensures)
 
 -- src/lib.rt:249:5
 load-requires : tie.Need-load-requires
@@ -38,14 +44,17 @@ same-length-2 c = search needs
 -- src/lib.rt:239:1
 returns-2 : tie.Need-returns-2
 returns-2 c =
-    let p-external-place = c .before .before .before .before in let p-start = p-external-place .before .before in
-    λ z q. uncached-read (p-start .args .c) z (p-start .args .ext .now) ((p-external-place .external-place) .result) ((c .load) .result) ((c .before .before .if1) .left) (p-start .pre .1) q ((p-external-place .external-place) .ensures .0) ((c .load) .ensures)
+    let p-if1 = c .before .before in let p-held = p-if1 .before .before in
+    let p-external-place = p-held .before .before in let p-start = p-external-place .before .before in
+    let a = p-start .args in let o = (p-external-place .external-place) in let n = (p-held .held) in let m = (c .load) in
+    λ z q. uncached-read (a .c) z (a .ext .now) (o .result) (m .result) (n .result) ((p-if1 .if1) .left) (p-start .pre .1) q (o .ensures .0) (n .ensures .0) (m .ensures)
 
 pub uncached-spec : {M : Type 1} → statement M
 uncached-spec =
     tie.close
     (tie.spec
     external-place-requires
+    held-requires
     store-requires
     same-length
     returns

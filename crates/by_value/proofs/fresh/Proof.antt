@@ -2,7 +2,7 @@
 use Rattle.model.specs.Records.{state}
 use Rattle.model.specs.declared.Record.{Record}
 use mathlib.Core.Path.{ap, _∙_}
-use Rattle.model.specs.Calls.{reply}
+use Rattle.access.specs.Serving.{answerOf}
 use borrow.Author.Needs.{needs}
 use Rattle.by_value.proofs.fresh.Statement.{statement}
 use Rattle.by_value.proofs.fresh.Tie as tie
@@ -32,7 +32,7 @@ returns : tie.Need-returns
 returns c =
     let p-fresh = c .before .before .before .before .before .before .before .before .before in
     let x = (p-fresh .fresh) .result in
-    ap (λ (q : Record). reply (x .number) (x .server) (x .value) (state q ((p-fresh .fresh) .last .1 .0) ((p-fresh .fresh) .last .1 .1 .0) ((p-fresh .fresh) .last .1 .1 .1 .0))) ((c .unpack) .ensures) ∙ (p-fresh .fresh) .ensures
+    ap (λ (q : Record). answerOf x (state q ((p-fresh .fresh) .last .1 .0) ((p-fresh .fresh) .last .1 .1 .0) ((p-fresh .fresh) .last .1 .1 .1 .0))) ((c .unpack) .ensures) ∙ (p-fresh .fresh) .ensures
 
 pub fresh-spec : {M : Type 1} → statement M
 fresh-spec =

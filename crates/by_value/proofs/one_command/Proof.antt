@@ -4,7 +4,8 @@ use Rattle.model.specs.Records.{state}
 use Rattle.model.specs.declared.Record.{Record}
 use mathlib.Core.Path.{ap, _∙_}
 use Rattle.model.specs.Trace.{command}
-use Rattle.model.specs.Calls.{reply, call}
+use Rattle.access.specs.Serving.{answerOf}
+use Rattle.model.specs.Calls.{call}
 use borrow.Author.Needs.{needs}
 use Rattle.by_value.proofs.one_command.Statement.{statement}
 use Rattle.by_value.proofs.one_command.Tie as tie
@@ -42,7 +43,7 @@ returns c =
     let p-pack = p-carry-out .before .before .before .before .before .before in
     let p-start = p-pack .before .before .before .before .before in
     let a = p-start .args in let x = (p-carry-out .carry-out) .result in
-    ap (λ (q : Record). reply (x .number) (x .server) (x .value) (state q ((p-carry-out .carry-out) .last .1 .1 .1 .1 .1 .0) ((p-carry-out .carry-out) .last .1 .1 .1 .1 .1 .1 .0) ((p-carry-out .carry-out) .last .1 .1 .1 .1 .1 .1 .1 .0))) ((c .unpack) .ensures)
+    ap (λ (q : Record). answerOf x (state q ((p-carry-out .carry-out) .last .1 .1 .1 .1 .1 .0) ((p-carry-out .carry-out) .last .1 .1 .1 .1 .1 .1 .0) ((p-carry-out .carry-out) .last .1 .1 .1 .1 .1 .1 .1 .0))) ((c .unpack) .ensures)
     ∙ (p-carry-out .carry-out) .ensures .0
     ∙ ap (λ (q : Record). call (command (a .code) (a .first) (a .second) (a .value)) (state q (a .l1d .now) (a .l2 .now) (a .ext .now))) ((p-pack .pack) .ensures)
 

@@ -3,7 +3,8 @@ use Rattle.tags.specs.Words.{recordIn}
 use Rattle.model.specs.Records.{state}
 use mathlib.Core.Path.{refl, ap, _∙_}
 use Rattle.calls.specs.Done.{call-refused, call-done}
-use Rattle.model.specs.Calls.{reply, call}
+use Rattle.access.specs.Serving.{answerOf}
+use Rattle.model.specs.Calls.{call}
 use Rattle.model.specs.Trace.{command}
 use Rattle.model.specs.declared.Command.{Command}
 use lib.ListN.{length-replicate}
@@ -71,7 +72,7 @@ returns-2 c =
     let a = p-start .args in let z = state (recordIn (a .tags .now)) (a .l1d .now) (a .l2 .now) (a .ext .now) in
     let q = (p-run .run) .result in let y = state (recordIn ((p-run .run) .last .0)) ((p-run .run) .last .1 .1 .1 .1 .0) ((p-run .run) .last .1 .1 .1 .1 .1 .0) ((p-run .run) .last .1 .1 .1 .1 .1 .1 .0) in
     let room : 10 ≤ 10 = omega arith in (
-      call-done z ((p-lent-due .lent-due) .result) ((p-lent-due .lent-due) .ensures) ((p-command-of .command-of) .result) (reply (q .last .number) (q .last .server) (q .last .value) y) ((p-if1 .if1) .left)
+      call-done z ((p-lent-due .lent-due) .result) ((p-lent-due .lent-due) .ensures) ((p-command-of .command-of) .result) (answerOf (q .last) y) ((p-if1 .if1) .left)
           ((p-run .run) .ensures .0 refl (rw (length-replicate {A = ℕ} 10 0) room)) ∙ ap (λ (k : Command). call k z) ((p-command-of .command-of) .ensures),
       (p-run .run) .ensures .1 .0 refl,
     )

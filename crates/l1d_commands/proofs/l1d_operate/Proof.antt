@@ -26,7 +26,7 @@ returns c =
     let p-evict-l1d = c .before .before .before .before .before .before in
     let p-if1 = p-evict-l1d .before .before .before .before in
     let p-args = p-if1 .before .before .before .before .before in
-    let a = p-args .args in act-7 (a .code) (a .s) (a .w) (state (recordIn (p-evict-l1d .evict-l1d .last .0)) (a .l1d .now) (p-evict-l1d .evict-l1d .last .1 .1 .1 .1 .1 .1 .0) (p-evict-l1d .evict-l1d .last .1 .1 .1 .1 .1 .1 .1 .0)) (state (recordIn (a .tags .now)) (a .l1d .now) (a .l2 .now) (a .ext .now)) (p-if1 .if1 .taken) (p-evict-l1d .evict-l1d .ensures)
+    let a = p-args .args in act-7 (a .code) (a .s) (a .w) (state (recordIn (p-evict-l1d .evict-l1d .last .0)) (a .l1d .now) (p-evict-l1d .evict-l1d .last .1 .1 .1 .1 .1 .1 .0) (p-evict-l1d .evict-l1d .last .1 .1 .1 .1 .1 .1 .1 .0)) (state (recordIn (a .tags .now)) (a .l1d .now) (a .l2 .now) (a .ext .now)) (p-if1 .if1 .taken) (p-evict-l1d .evict-l1d .ensures .0)
 
 writeback-l1d-requires : tie.Need-writeback-l1d-requires
 writeback-l1d-requires c κs = search needs

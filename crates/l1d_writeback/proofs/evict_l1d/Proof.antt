@@ -1,7 +1,7 @@
-use Rattle.l1d_writeback.specs.Going.{back-none, back-dirty, evicted}
+use Rattle.l1d_writeback.specs.Going.{back-none, back-dirty, evicted, gone-dirty, gone-clean, gone-none}
 use Rattle.tags.specs.Words.{recordIn}
 use Rattle.model.specs.Records.{state}
-use mathlib.Core.Path.{sym, _∙_}
+use mathlib.Core.Path.{refl, sym, _∙_}
 use borrow.Author.Needs.{needs}
 use Rattle.l1d_writeback.proofs.evict_l1d.Statement.{statement}
 use Rattle.l1d_writeback.proofs.evict_l1d.Tie as tie
@@ -13,6 +13,7 @@ use Rattle.geometry.proofs.L1d.data_at.Reads as data-at-reads
 use Rattle.geometry.proofs.empty_line.Reads as empty-line-reads
 use Rattle.tags.proofs.l1d_line.Reads as l1d-line-reads
 use Rattle.tags.proofs.l1d_put.Reads as l1d-put-reads
+use Rattle.geometry.proofs.left_by.Reads as left-by-reads
 
 -- src/lib.rt:67:9
 l1d-line-requires : tie.Need-l1d-line-requires
@@ -63,7 +64,11 @@ returns c =
     let p-start = p-l1d-line .before .before .before .before .before .before in
     let a = p-start .args in let z = state (recordIn (a .tags .now)) (a .l1d .now) (a .l2 .now) (a .ext .now) in
     let p = (p-put-home .put-home) in let y = state (recordIn (p .last .0)) (a .l1d .now) (p .last .1 .1 .1 .1 .1 .1 .0) (p .last .1 .1 .1 .1 .1 .1 .1 .0) in
-    evicted z y (recordIn ((c .before .before .l1d-put) .last .0)) (a .i) (a .w) ((p-empty-line .empty-line) .result) (back-dirty z y (a .i) (a .w) ((p-data-at .data-at) .result) ((p-l1d-line .l1d-line) .result) ((p-l1d-line .l1d-line) .ensures) (sym ((p-goes-home .goes-home) .ensures) ∙ (p-if1 .if1) .taken) ((p-data-at .data-at) .ensures .0) (p .ensures)) ((p-empty-line .empty-line) .ensures) ((c .before .before .l1d-put) .ensures)
+    let x = (p-l1d-line .l1d-line) in let d = (p-data-at .data-at) in
+    let h = sym ((p-goes-home .goes-home) .ensures) ∙ (p-if1 .if1) .taken in (
+      evicted z y (recordIn ((c .before .before .l1d-put) .last .0)) (a .i) (a .w) ((p-empty-line .empty-line) .result) (back-dirty z y (a .i) (a .w) (d .result) (x .result) (x .ensures) h (d .ensures .0) (p .ensures .0)) ((p-empty-line .empty-line) .ensures) ((c .before .before .l1d-put) .ensures),
+      gone-dirty z (a .i) (a .w) (d .result) (p .result) (x .result) _ (x .ensures) h (d .ensures .0) (p .ensures .1) refl,
+    )
 
 -- src/lib.rt:73:31
 empty-line-requires-2 : tie.Need-empty-line-requires-2
@@ -80,11 +85,32 @@ same-length-4 c = search needs
 -- src/lib.rt:61:1
 returns-2 : tie.Need-returns-2
 returns-2 c =
-    let p-empty-line2 = c .before .before .before in let p-if1 = p-empty-line2 .before .before in
-    let p-goes-home = p-if1 .before in let p-l1d-line = p-goes-home .before in
+    let p-l1d-put2 = c .before .before .before in let p-empty-line2 = p-l1d-put2 .before in
+    let p-if1 = p-empty-line2 .before .before in let p-goes-home = p-if1 .before in
+    let p-l1d-line = p-goes-home .before in
     let p-start = p-l1d-line .before .before .before .before .before .before in
     let a = p-start .args in let z = state (recordIn (a .tags .now)) (a .l1d .now) (a .l2 .now) (a .ext .now) in
-    evicted z z (recordIn ((c .before .before .l1d-put2) .last .0)) (a .i) (a .w) ((p-empty-line2 .empty-line2) .result) (back-none z (a .i) (a .w) ((p-l1d-line .l1d-line) .result) ((p-l1d-line .l1d-line) .ensures) (sym ((p-goes-home .goes-home) .ensures) ∙ (p-if1 .if1) .left)) ((p-empty-line2 .empty-line2) .ensures) ((c .before .before .l1d-put2) .ensures)
+    let x = (p-l1d-line .l1d-line) in let h = sym ((p-goes-home .goes-home) .ensures) ∙ (p-if1 .if1) .left in (
+      evicted z z (recordIn ((p-l1d-put2 .l1d-put2) .last .0)) (a .i) (a .w) ((p-empty-line2 .empty-line2) .result) (back-none z (a .i) (a .w) (x .result) (x .ensures) h) ((p-empty-line2 .empty-line2) .ensures) ((p-l1d-put2 .l1d-put2) .ensures),
+      gone-clean z (a .i) (a .w) (x .result) _ (x .ensures) h (c .if2 .taken) refl,
+    )
+
+-- src/lib.rt:101:1
+same-length-5 : tie.Need-same-length-5
+same-length-5 c = search needs
+
+-- src/lib.rt:101:1
+returns-3 : tie.Need-returns-3
+returns-3 c =
+    let p-l1d-put2 = c .before .before .before in let p-empty-line2 = p-l1d-put2 .before in
+    let p-if1 = p-empty-line2 .before .before in let p-goes-home = p-if1 .before in
+    let p-l1d-line = p-goes-home .before in
+    let p-start = p-l1d-line .before .before .before .before .before .before in
+    let a = p-start .args in let z = state (recordIn (a .tags .now)) (a .l1d .now) (a .l2 .now) (a .ext .now) in
+    let x = (p-l1d-line .l1d-line) in let h = sym ((p-goes-home .goes-home) .ensures) ∙ (p-if1 .if1) .left in (
+      evicted z z (recordIn ((p-l1d-put2 .l1d-put2) .last .0)) (a .i) (a .w) ((p-empty-line2 .empty-line2) .result) (back-none z (a .i) (a .w) (x .result) (x .ensures) h) ((p-empty-line2 .empty-line2) .ensures) ((p-l1d-put2 .l1d-put2) .ensures),
+      gone-none z (a .i) (a .w) (x .result) _ (x .ensures) (c .if2 .left) refl,
+    )
 
 pub evict-l1d-spec : {M : Type 1} → statement M
 evict-l1d-spec =
@@ -103,4 +129,6 @@ evict-l1d-spec =
     empty-line-requires-2
     l1d-put-requires-2
     same-length-4
-    returns-2)
+    returns-2
+    same-length-5
+    returns-3)

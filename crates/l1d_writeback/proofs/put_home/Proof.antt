@@ -1,6 +1,8 @@
-use Rattle.l1d_writeback.specs.Going.{put-sram, put-external, put-nowhere, put-inside}
+use Rattle.l1d_writeback.specs.Going.{put-sram, put-external, put-nowhere, put-inside, told-sram, told-external, told-l2}
 use Rattle.tags.specs.Words.{recordIn}
 use Rattle.model.specs.Bytes.{part}
+use Rattle.model.specs.Records.{state}
+use native.Mathlib.Omega.{arith}
 use mathlib.Core.Path.{_∙_}
 use borrow.Author.Needs.{needs}
 use Rattle.l1d_writeback.proofs.put_home.Statement.{statement}
@@ -42,8 +44,11 @@ returns c =
     let p-place-of = c .before .before .before in let p-if1 = p-place-of .before .before in
     let p-is-external = p-if1 .before in let p-start = p-is-external .before .before .before .before .before in
     let a = p-start .args in let h = p-start .pre in let r = recordIn (a .tags .now) in let bs = part (a .l1d .now) (a .from) 64 in
-    put-sram r (a .l1d .now) (a .l2 .now) ((c .before .before .move64) .last .0) (a .ext .now) bs (a .a) ((p-place-of .place-of) .result)
-    ((p-is-external .is-external) .ensures ∙ (p-if1 .if1) .taken) ((p-place-of .place-of) .ensures .0) ((c .before .before .move64) .ensures)
+    let o = (p-is-external .is-external) .ensures ∙ (p-if1 .if1) .taken in (
+      put-sram r (a .l1d .now) (a .l2 .now) ((c .before .before .move64) .last .0) (a .ext .now) bs (a .a) ((p-place-of .place-of) .result)
+          o ((p-place-of .place-of) .ensures .0) ((c .before .before .move64) .ensures .0),
+      (told-sram (state r (a .l1d .now) (a .l2 .now) (a .ext .now)) bs (a .a) o, omega arith),
+    )
 
 -- src/lib.rt:24:29
 external-place-requires : tie.Need-external-place-requires
@@ -64,8 +69,15 @@ returns-2 c =
     let p-if1 = p-if2 .before in let p-is-external = p-if1 .before in
     let p-start = p-is-external .before .before .before .before .before in
     let a = p-start .args in let h = p-start .pre in let r = recordIn (a .tags .now) in let bs = part (a .l1d .now) (a .from) 64 in
-    put-external r (a .l1d .now) (a .l2 .now) (a .ext .now) ((c .before .before .move642) .last .0) bs (a .a) (a .sets) ((p-external-place .external-place) .result)
-    ((p-is-external .is-external) .ensures ∙ (p-if1 .if1) .left) (h .1 .1 .1) ((p-if2 .if2) .taken) ((p-external-place .external-place) .ensures .0) ((c .before .before .move642) .ensures)
+    let o = (p-is-external .is-external) .ensures ∙ (p-if1 .if1) .left in let m = (c .before .before .move642) in (
+      put-external r (a .l1d .now) (a .l2 .now) (a .ext .now) (m .last .0) bs (a .a) (a .sets) ((p-external-place .external-place) .result)
+          o (h .1 .1 .1) ((p-if2 .if2) .taken) ((p-external-place .external-place) .ensures .0) (m .ensures .0),
+      (
+        told-external (state r (a .l1d .now) (a .l2 .now) (a .ext .now)) bs (a .a) (a .sets) ((p-external-place .external-place) .result) (m .result)
+            o (h .1 .1 .1) ((p-if2 .if2) .taken) ((p-external-place .external-place) .ensures .0) (m .ensures .1 .0),
+        m .ensures .1 .1,
+      ),
+    )
 
 -- src/lib.rt:27:9
 set-of-requires : tie.Need-set-of-requires
@@ -88,9 +100,11 @@ returns-3 : tie.Need-returns-3
 returns-3 c =
     let p-set-of = c .before .before .before .before in let p-if2 = p-set-of .before in let p-if1 = p-if2 .before in
     let p-is-external = p-if1 .before in let p-start = p-is-external .before .before .before .before .before in
-    let a = p-start .args in let h = p-start .pre in let r = recordIn (a .tags .now) in let bs = part (a .l1d .now) (a .from) 64 in
-    put-nowhere r (a .l1d .now) (a .l2 .now) (a .ext .now) bs (a .a) (a .sets) ((p-set-of .set-of) .result) ((c .before .before .line-of) .result) ((c .before .l2-find) .result)
-    ((p-is-external .is-external) .ensures ∙ (p-if1 .if1) .left) (h .1 .1 .1) ((p-if2 .if2) .left) ((p-set-of .set-of) .ensures .0 ((p-if2 .if2) .left)) ((c .before .before .line-of) .ensures) ((c .before .l2-find) .ensures .0) ((c .if3) .taken)
+    let a = p-start .args in let h = p-start .pre in let r = recordIn (a .tags .now) in let bs = part (a .l1d .now) (a .from) 64 in (
+      put-nowhere r (a .l1d .now) (a .l2 .now) (a .ext .now) bs (a .a) (a .sets) ((p-set-of .set-of) .result) ((c .before .before .line-of) .result) ((c .before .l2-find) .result)
+          ((p-is-external .is-external) .ensures ∙ (p-if1 .if1) .left) (h .1 .1 .1) ((p-if2 .if2) .left) ((p-set-of .set-of) .ensures .0 ((p-if2 .if2) .left)) ((c .before .before .line-of) .ensures) ((c .before .l2-find) .ensures .0) ((c .if3) .taken),
+      (told-l2 (state r (a .l1d .now) (a .l2 .now) (a .ext .now)) bs (a .a) (a .sets) ((p-is-external .is-external) .ensures ∙ (p-if1 .if1) .left) (h .1 .1 .1) ((p-if2 .if2) .left), omega arith),
+    )
 
 -- src/lib.rt:32:24
 data-at-requires : tie.Need-data-at-requires
@@ -137,11 +151,13 @@ returns-4 c =
     let p-line-of = p-l2-find .before in let p-set-of = p-line-of .before .before in let p-if2 = p-set-of .before in
     let p-if1 = p-if2 .before in let p-is-external = p-if1 .before in
     let p-start = p-is-external .before .before .before .before .before in
-    let a = p-start .args in let h = p-start .pre in let r = recordIn (a .tags .now) in let bs = part (a .l1d .now) (a .from) 64 in
-    put-inside r (recordIn ((c .before .before .l2-put) .last .0)) (a .l1d .now) (a .l2 .now) ((p-move643 .move643) .last .0) (a .ext .now) bs (a .a) (a .sram) (a .sets) ((p-set-of .set-of) .result) ((p-line-of .line-of) .result)
-    ((p-l2-find .l2-find) .result) ((p-data-at .data-at) .result) ((p-offset-of .offset-of) .result) ((p-l2-line .l2-line) .result) ((p-line-at .line-at) .result)
-    ((p-is-external .is-external) .ensures ∙ (p-if1 .if1) .left) (h .1 .1 .0) (h .1 .1 .1) ((p-if2 .if2) .left) ((p-set-of .set-of) .ensures .0 ((p-if2 .if2) .left)) ((p-line-of .line-of) .ensures) ((p-l2-find .l2-find) .ensures .0) ((p-if3 .if3) .left)
-    ((p-data-at .data-at) .ensures .0) ((p-offset-of .offset-of) .ensures .0) ((p-move643 .move643) .ensures) ((p-l2-line .l2-line) .ensures) ((p-line-at .line-at) .ensures) ((c .before .before .l2-put) .ensures)
+    let a = p-start .args in let h = p-start .pre in let r = recordIn (a .tags .now) in let bs = part (a .l1d .now) (a .from) 64 in (
+      put-inside r (recordIn ((c .before .before .l2-put) .last .0)) (a .l1d .now) (a .l2 .now) ((p-move643 .move643) .last .0) (a .ext .now) bs (a .a) (a .sram) (a .sets) ((p-set-of .set-of) .result) ((p-line-of .line-of) .result)
+          ((p-l2-find .l2-find) .result) ((p-data-at .data-at) .result) ((p-offset-of .offset-of) .result) ((p-l2-line .l2-line) .result) ((p-line-at .line-at) .result)
+          ((p-is-external .is-external) .ensures ∙ (p-if1 .if1) .left) (h .1 .1 .0) (h .1 .1 .1) ((p-if2 .if2) .left) ((p-set-of .set-of) .ensures .0 ((p-if2 .if2) .left)) ((p-line-of .line-of) .ensures) ((p-l2-find .l2-find) .ensures .0) ((p-if3 .if3) .left)
+          ((p-data-at .data-at) .ensures .0) ((p-offset-of .offset-of) .ensures .0) ((p-move643 .move643) .ensures .0) ((p-l2-line .l2-line) .ensures) ((p-line-at .line-at) .ensures) ((c .before .before .l2-put) .ensures),
+      (told-l2 (state r (a .l1d .now) (a .l2 .now) (a .ext .now)) bs (a .a) (a .sets) ((p-is-external .is-external) .ensures ∙ (p-if1 .if1) .left) (h .1 .1 .1) ((p-if2 .if2) .left), omega arith),
+    )
 
 pub put-home-spec : {M : Type 1} → statement M
 put-home-spec =

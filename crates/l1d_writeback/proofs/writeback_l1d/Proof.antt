@@ -61,7 +61,7 @@ returns-2 c =
     let p-start = p-l1d-line .before .before .before .before .before .before in
     let a = p-start .args in let z = state (recordIn (a .tags .now)) (a .l1d .now) (a .l2 .now) (a .ext .now) in
     let p = (p-put-home .put-home) in let y = state (recordIn (p .last .0)) (a .l1d .now) (p .last .1 .1 .1 .1 .1 .1 .0) (p .last .1 .1 .1 .1 .1 .1 .1 .0) in
-    back-dirty z y (a .i) (a .w) ((p-data-at .data-at) .result) ((p-l1d-line .l1d-line) .result) ((p-l1d-line .l1d-line) .ensures) (sym ((p-goes-home .goes-home) .ensures) ∙ not-false ((p-goes-home .goes-home) .result) ((p-if1 .if1) .left)) ((p-data-at .data-at) .ensures .0) (p .ensures)
+    back-dirty z y (a .i) (a .w) ((p-data-at .data-at) .result) ((p-l1d-line .l1d-line) .result) ((p-l1d-line .l1d-line) .ensures) (sym ((p-goes-home .goes-home) .ensures) ∙ not-false ((p-goes-home .goes-home) .result) ((p-if1 .if1) .left)) ((p-data-at .data-at) .ensures .0) (p .ensures .0)
 
 pub writeback-l1d-spec : {M : Type 1} → statement M
 writeback-l1d-spec =

@@ -31,7 +31,7 @@ returns c =
     let p-args = p-write-out-l2 .before .before .before .before .before .before in
     let a = p-args .args in let y = p-write-out-l2 .write-out-l2 in let q = recordIn (p-l2-put .l2-put .last .0) in
     λ d. let z₁ = stateIn (y .last .0) d (a .l2 .now) (y .last .1 .1 .1 .1 .1 .1 .0) in
-    cleared (a .t) (a .v) (state q d (z₁ .l2) (z₁ .ext)) z₁ (stateIn (a .tags .now) d (a .l2 .now) (a .ext .now)) (y .ensures d)
+    cleared (a .t) (a .v) (state q d (z₁ .l2) (z₁ .ext)) z₁ (stateIn (a .tags .now) d (a .l2 .now) (a .ext .now)) (y .ensures .0 d)
     (emptied-l2 z₁ q (a .t) (a .v) (p-l2-put .l2-put .ensures ∙ ap (withL2Line (z₁ .rec) (a .t) (a .v)) (p-empty-line .empty-line .ensures)))
 
 pub clear-l2-spec : {M : Type 1} → statement M

@@ -41,7 +41,7 @@ returns-2 c =
     let p-if2 = p-write-out-l2 .before .before .before .before in
     let p-args = p-if2 .before .before .before .before .before .before in
     let a = p-args .args in let y = p-write-out-l2 .write-out-l2 in
-    act-10 (a .code) (a .t) (a .v) (stateIn (y .last .0) (a .l1d .now) (a .l2 .now) (y .last .1 .1 .1 .1 .1 .1 .0)) (stateIn (a .tags .now) (a .l1d .now) (a .l2 .now) (a .ext .now)) (p-if2 .if2 .taken) (y .ensures (a .l1d .now))
+    act-10 (a .code) (a .t) (a .v) (stateIn (y .last .0) (a .l1d .now) (a .l2 .now) (y .last .1 .1 .1 .1 .1 .1 .0)) (stateIn (a .tags .now) (a .l1d .now) (a .l2 .now) (a .ext .now)) (p-if2 .if2 .taken) (y .ensures .0 (a .l1d .now))
 
 clear-l2-requires : tie.Need-clear-l2-requires
 clear-l2-requires c κs = search needs
@@ -81,7 +81,7 @@ returns-4 c =
     let p-writeback-l2 = p-if4 .before .before .before .before .before .before .before in
     let p-args = p-writeback-l2 .before .before .before .before .before .before .before .before .before .before .before in
     let a = p-args .args in let y = p-writeback-l2 .writeback-l2 in
-    act-4 (a .code) (a .t) (a .v) (stateIn (y .last .0) (a .l1d .now) (y .last .1 .1 .1 .1 .1 .1 .0) (y .last .1 .1 .1 .1 .1 .1 .1 .0)) (stateIn (a .tags .now) (a .l1d .now) (a .l2 .now) (a .ext .now)) (p-if4 .if4 .taken) (y .ensures)
+    act-4 (a .code) (a .t) (a .v) (stateIn (y .last .0) (a .l1d .now) (y .last .1 .1 .1 .1 .1 .1 .0) (y .last .1 .1 .1 .1 .1 .1 .1 .0)) (stateIn (a .tags .now) (a .l1d .now) (a .l2 .now) (a .ext .now)) (p-if4 .if4 .taken) (y .ensures .0)
 
 empty-line-requires : tie.Need-empty-line-requires
 empty-line-requires c κs = search needs
@@ -110,7 +110,7 @@ returns-5 c =
     let p-args = p-if1 .before .before .before .before .before in
     let a = p-args .args in let x = p-writeback-l2 .writeback-l2 in let q = recordIn (p-l2-put .l2-put .last .0) in
     let y = stateIn (x .last .0) (a .l1d .now) (x .last .1 .1 .1 .1 .1 .1 .0) (x .last .1 .1 .1 .1 .1 .1 .1 .0) in
-    act-else (a .code) (a .t) (a .v) (state q (y .l1d) (y .l2) (y .ext)) y (stateIn (a .tags .now) (a .l1d .now) (a .l2 .now) (a .ext .now)) (p-if1 .if1 .left) (p-if2 .if2 .left) (p-if3 .if3 .left) (p-if4 .if4 .left) (x .ensures)
+    act-else (a .code) (a .t) (a .v) (state q (y .l1d) (y .l2) (y .ext)) y (stateIn (a .tags .now) (a .l1d .now) (a .l2 .now) (a .ext .now)) (p-if1 .if1 .left) (p-if2 .if2 .left) (p-if3 .if3 .left) (p-if4 .if4 .left) (x .ensures .0)
     (emptied-l2 y q (a .t) (a .v) (p-l2-put .l2-put .ensures ∙ ap (withL2Line (y .rec) (a .t) (a .v)) (p-empty-line .empty-line .ensures)))
 
 pub l2-operate-spec : {M : Type 1} → statement M

@@ -39,7 +39,12 @@ line-at-requires c κs = search needs
 
 -- src/lib.rt:44:5
 l2-put-requires : tie.Need-l2-put-requires
-l2-put-requires c κs = search needs
+l2-put-requires c κs =
+    let p-move128 = c .before .before .before .before in let p-external-place = p-move128 .before in
+    let p-data-at = p-external-place .before .before in
+    let p-evict-l2 = p-data-at .before .before .before .before .before .before .before .before in
+    let p-start = p-evict-l2 .before .before .before .before .before .before .before .before in
+    let k = p-start .pre in (k .0, (p-evict-l2 .evict-l2) .kept .0 ∙ k .1 .0)
 
 -- src/lib.rt:45:5
 l2-use-requires : tie.Need-l2-use-requires
@@ -71,10 +76,12 @@ returns c =
     let p-evict-l2 = p-data-at .before .before .before .before .before .before .before .before in
     let p-start = p-evict-l2 .before .before .before .before .before .before .before .before in
     let a = p-start .args in let k = p-start .pre in let r = recordIn (a .tags .now) in let z = state r (a .l1d .now) (a .l2 .now) (a .ext .now) in
-    let g = (p-evict-l2 .evict-l2) in let y = (state (recordIn (g .last .0)) (a .l1d .now) (g .last .1 .1 .1 .1 .1 .1 .0) (g .last .1 .1 .1 .1 .1 .1 .1 .0)) in let l = lent-next (a .sram) (a .sets) (a .tags .now) (g .last .0) y (evictL2 (a .t) (a .v) z) (k .1) (g .kept .0) (g .ensures) refl (same-evict-l2 (a .t) (a .v) z) in
-    brought z y (recordIn ((p-l2-put .l2-put) .last .0)) (recordIn ((c .before .before .l2-use) .last .0)) ((p-move128 .move128) .last .0) (a .t) (a .v) (a .b) (a .sram) (a .sets) ((p-data-at .data-at) .result) ((p-external-place .external-place) .result) ((p-line-at .line-at) .result)
-    (g .ensures) (l .1 .1 .0) (l .1 .1 .1) ((p-data-at .data-at) .ensures .0) ((p-external-place .external-place) .ensures .0) ((p-move128 .move128) .ensures)
-    ((p-line-at .line-at) .ensures) ((p-l2-put .l2-put) .ensures) ((c .before .before .l2-use) .ensures)
+    let g = (p-evict-l2 .evict-l2) in let y = (state (recordIn (g .last .0)) (a .l1d .now) (g .last .1 .1 .1 .1 .1 .1 .0) (g .last .1 .1 .1 .1 .1 .1 .1 .0)) in let l = lent-next (a .sram) (a .sets) (a .tags .now) (g .last .0) y (evictL2 (a .t) (a .v) z) (k .1) (g .kept .0) (g .ensures .0) refl (same-evict-l2 (a .t) (a .v) z) in (
+      brought z y (recordIn ((p-l2-put .l2-put) .last .0)) (recordIn ((c .before .before .l2-use) .last .0)) ((p-move128 .move128) .last .0) (a .t) (a .v) (a .b) (a .sram) (a .sets) ((p-data-at .data-at) .result) ((p-external-place .external-place) .result) ((p-line-at .line-at) .result)
+          (g .ensures .0) (l .1 .1 .0) (l .1 .1 .1) ((p-data-at .data-at) .ensures .0) ((p-external-place .external-place) .ensures .0) ((p-move128 .move128) .ensures .0)
+          ((p-line-at .line-at) .ensures) ((p-l2-put .l2-put) .ensures) ((c .before .before .l2-use) .ensures),
+      g .ensures .1,
+    )
 
 pub bring-l2-spec : {M : Type 1} → statement M
 bring-l2-spec =

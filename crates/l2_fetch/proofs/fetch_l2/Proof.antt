@@ -1,7 +1,9 @@
-use Rattle.l2_fetch.specs.Fetching.{fetch-none, fetch-found, fetch-brought, serves-sram, serves-external, serves-found, serves-brought}
+use mathlib.Core.Bool.{true, false}
+use Rattle.model.specs.declared.Left.the-variants.{NoWay}
+use Rattle.l2_fetch.specs.Fetching.{told-away, told-found, told-brought, fetch-none, fetch-found, fetch-brought, serves-sram, serves-external, serves-found, serves-brought}
 use Rattle.tags.specs.Words.{recordIn}
 use Rattle.model.specs.Records.{state}
-use mathlib.Core.Path.{_∙_}
+use mathlib.Core.Path.{refl, _∙_}
 use Rattle.tags.specs.Home.{home-sram, home-external}
 use borrow.Author.Needs.{needs}
 use Rattle.l2_fetch.proofs.fetch_l2.Statement.{statement}
@@ -15,6 +17,8 @@ use Rattle.l2_fetch.proofs.bring_l2.Reads as bring-l2-reads
 use Rattle.tags.proofs.l2_find.Reads as l2-find-reads
 use Rattle.tags.proofs.l2_use.Reads as l2-use-reads
 use Rattle.tags.proofs.l2_victim.Reads as l2-victim-reads
+use Rattle.geometry.proofs.external_place.Reads as external-place-reads
+use Rattle.memory.proofs.held.Reads as held-reads
 
 -- src/lib.rt:55:9
 is-external-requires : tie.Need-is-external-requires
@@ -24,15 +28,18 @@ is-external-requires c κs = search needs
 returns : tie.Need-returns
 returns c =
     let p-start = c .before .before .before .before .before .before in
-    let a = p-start .args in let k = p-start .pre in let r = recordIn (a .tags .now) in let z = state r (a .l1d .now) (a .l2 .now) (a .ext .now) in
-    let t = (c .before .is-external) .ensures ∙ (c .if1) .taken in (serves-sram z (a .a) t, fetch-none z (a .a) (home-sram r (a .a) t))
+    let a = p-start .args in let r = recordIn (a .tags .now) in let z = state r (a .l1d .now) (a .l2 .now) (a .ext .now) in
+    let t = (c .before .is-external) .ensures ∙ (c .if1) .taken in let o = home-sram r (a .a) t in
+    (serves-sram z (a .a) t, (fetch-none z (a .a) o, told-away z (a .a) (record { homed = false; set = 0; way = 0; server = 2; left = NoWay; read = 0; written = 0 }) o refl refl refl))
 
 -- src/lib.rt:64:9
 returns-2 : tie.Need-returns-2
 returns-2 c =
     let p-start = c .before .before .before .before .before .before .before in
     let a = p-start .args in let k = p-start .pre in let r = recordIn (a .tags .now) in let z = state r (a .l1d .now) (a .l2 .now) (a .ext .now) in
-    let t = ((c .before .before .is-external) .ensures ∙ (c .before .if1) .left) in (serves-external z (a .a) (a .sets) t (k .1 .1 .1) ((c .if2) .taken), fetch-none z (a .a) (home-external r (a .a) (a .sets) t (k .1 .1 .1) ((c .if2) .taken)))
+    let t = (c .before .before .is-external) .ensures ∙ (c .before .if1) .left in
+    let o = home-external r (a .a) (a .sets) t (k .1 .1 .1) ((c .if2) .taken) in
+    (serves-external z (a .a) (a .sets) t (k .1 .1 .1) ((c .if2) .taken), (fetch-none z (a .a) o, told-away z (a .a) (record { homed = false; set = 0; way = 0; server = 4; left = NoWay; read = 0; written = 0 }) o refl refl refl))
 
 -- src/lib.rt:71:9
 set-of-requires : tie.Need-set-of-requires
@@ -61,9 +68,14 @@ returns-3 c =
     let p-line-of = p-l2-find .before .before in let p-set-of = p-line-of .before in let p-if2 = p-set-of .before in
     let p-if1 = p-if2 .before in let p-is-external = p-if1 .before in
     let p-start = p-is-external .before .before .before .before .before in
-    let a = p-start .args in let k = p-start .pre in let r = recordIn (a .tags .now) in let z = state r (a .l1d .now) (a .l2 .now) (a .ext .now) in (
-      serves-found z (a .a) (a .sets) ((p-set-of .set-of) .result) ((p-line-of .line-of) .result) ((p-l2-find .l2-find) .result) ((p-is-external .is-external) .ensures ∙ (p-if1 .if1) .left) (k .1 .1 .1) ((p-if2 .if2) .left) ((p-set-of .set-of) .ensures .0 ((p-if2 .if2) .left)) ((p-set-of .set-of) .ensures .1) ((p-line-of .line-of) .ensures) ((p-l2-find .l2-find) .ensures .0) ((p-if3 .if3) .taken),
-      fetch-found z (recordIn ((c .before .before .l2-use) .last .0)) (a .a) (a .sets) ((p-set-of .set-of) .result) ((p-line-of .line-of) .result) ((p-l2-find .l2-find) .result) ((p-is-external .is-external) .ensures ∙ (p-if1 .if1) .left) (k .1 .1 .1) ((p-if2 .if2) .left) ((p-set-of .set-of) .ensures .0 ((p-if2 .if2) .left)) ((p-line-of .line-of) .ensures) ((p-l2-find .l2-find) .ensures .0) ((p-if3 .if3) .taken) ((c .before .before .l2-use) .ensures),
+    let a = p-start .args in let k = p-start .pre in let r = recordIn (a .tags .now) in let z = state r (a .l1d .now) (a .l2 .now) (a .ext .now) in
+    let t = (p-set-of .set-of) in let b = (p-line-of .line-of) in let v = (p-l2-find .l2-find) in
+    let o = (p-is-external .is-external) .ensures ∙ (p-if1 .if1) .left in let n = (p-if2 .if2) .left in let et = t .ensures .0 n in (
+      serves-found z (a .a) (a .sets) (t .result) (b .result) (v .result) o (k .1 .1 .1) n et (t .ensures .1) (b .ensures) (v .ensures .0) ((p-if3 .if3) .taken),
+      (
+        fetch-found z (recordIn ((c .before .before .l2-use) .last .0)) (a .a) (a .sets) (t .result) (b .result) (v .result) o (k .1 .1 .1) n et (b .ensures) (v .ensures .0) ((p-if3 .if3) .taken) ((c .before .before .l2-use) .ensures),
+        told-found z (a .a) (a .sets) (t .result) (b .result) (v .result) (record { homed = true; set = t .result; way = v .result; server = 3; left = NoWay; read = 0; written = 0 }) o (k .1 .1 .1) n et (b .ensures) (v .ensures .0) ((p-if3 .if3) .taken) refl refl refl,
+      ),
     )
 
 -- src/lib.rt:83:9
@@ -73,6 +85,18 @@ l2-victim-requires c κs = search needs
 -- src/lib.rt:84:5
 bring-l2-requires : tie.Need-bring-l2-requires
 bring-l2-requires c κs = search needs
+
+-- src/lib.rt:124:31
+external-place-requires : tie.Need-external-place-requires
+external-place-requires c κs = search needs
+
+-- src/lib.rt:124:60
+cast-held : tie.Need-cast-held
+cast-held c = search needs
+
+-- src/lib.rt:124:9
+held-requires : tie.Need-held-requires
+held-requires c κs = search needs
 
 -- src/lib.rt:49:1
 same-length-2 : tie.Need-same-length-2
@@ -89,17 +113,22 @@ same-length-4 c = search needs
 -- src/lib.rt:49:1
 returns-4 : tie.Need-returns-4
 returns-4 c =
-    let p-bring-l2 = c .before .before .before .before .before .before in
+    let p-external-place = c .before in
+    let p-bring-l2 = p-external-place .before .before .before .before .before .before .before .before in
     let p-l2-victim = p-bring-l2 .before .before .before .before in let p-if3 = p-l2-victim .before .before in
-    let p-l2-find = p-if3 .before in let p-line-of = p-l2-find .before .before in
-    let p-set-of = p-line-of .before in let p-if2 = p-set-of .before in let p-if1 = p-if2 .before in
-    let p-is-external = p-if1 .before in let p-start = p-is-external .before .before .before .before .before in
+    let p-l2-find = p-if3 .before in let p-line-of = p-l2-find .before .before in let p-set-of = p-line-of .before in
+    let p-if2 = p-set-of .before in let p-if1 = p-if2 .before in let p-is-external = p-if1 .before in
+    let p-start = p-is-external .before .before .before .before .before in
     let a = p-start .args in let k = p-start .pre in let r = recordIn (a .tags .now) in let z = state r (a .l1d .now) (a .l2 .now) (a .ext .now) in
-    let g = (p-bring-l2 .bring-l2) in (
-      serves-brought z (a .a) (a .sets) ((p-set-of .set-of) .result) ((p-line-of .line-of) .result) ((p-l2-find .l2-find) .result) ((p-l2-victim .l2-victim) .result) ((p-is-external .is-external) .ensures ∙ (p-if1 .if1) .left) (k .1 .1 .1) ((p-if2 .if2) .left) ((p-set-of .set-of) .ensures .0 ((p-if2 .if2) .left)) ((p-set-of .set-of) .ensures .1) ((p-line-of .line-of) .ensures) ((p-l2-find .l2-find) .ensures .0) ((p-if3 .if3) .left)
-          ((p-l2-victim .l2-victim) .ensures .0) ((p-l2-victim .l2-victim) .ensures .1),
-      fetch-brought z (state (recordIn (g .last .0)) (a .l1d .now) (g .last .1 .1 .1 .1 .1 .1 .1 .0) (g .last .1 .1 .1 .1 .1 .1 .1 .1 .0)) (a .a) (a .sets) ((p-set-of .set-of) .result) ((p-line-of .line-of) .result) ((p-l2-find .l2-find) .result) ((p-l2-victim .l2-victim) .result) ((p-is-external .is-external) .ensures ∙ (p-if1 .if1) .left) (k .1 .1 .1) ((p-if2 .if2) .left) ((p-set-of .set-of) .ensures .0 ((p-if2 .if2) .left)) ((p-line-of .line-of) .ensures) ((p-l2-find .l2-find) .ensures .0) ((p-if3 .if3) .left)
-          ((p-l2-victim .l2-victim) .ensures .0) (g .ensures),
+    let t = (p-set-of .set-of) in let b = (p-line-of .line-of) in let v = (p-l2-find .l2-find) in let u = (p-l2-victim .l2-victim) in
+    let g = (p-bring-l2 .bring-l2) in let h = (c .held) in let q = (p-external-place .external-place) in
+    let y = state (recordIn (g .last .0)) (a .l1d .now) (g .last .1 .1 .1 .1 .1 .1 .1 .0) (g .last .1 .1 .1 .1 .1 .1 .1 .1 .0) in
+    let o = (p-is-external .is-external) .ensures ∙ (p-if1 .if1) .left in let n = (p-if2 .if2) .left in let et = t .ensures .0 n in (
+      serves-brought z (a .a) (a .sets) (t .result) (b .result) (v .result) (u .result) (h .result) (g .result .written) (g .result .left) o (k .1 .1 .1) n et (t .ensures .1) (b .ensures) (v .ensures .0) ((p-if3 .if3) .left) (u .ensures .0) (u .ensures .1),
+      (
+        fetch-brought z y (a .a) (a .sets) (t .result) (b .result) (v .result) (u .result) o (k .1 .1 .1) n et (b .ensures) (v .ensures .0) ((p-if3 .if3) .left) (u .ensures .0) (g .ensures .0),
+        told-brought z y (a .a) (a .sets) (t .result) (b .result) (v .result) (u .result) (q .result) (h .result) (g .result) (record { homed = true; set = t .result; way = u .result; server = 4; left = g .result .left; read = h .result; written = g .result .written }) o (k .1 .1 .1) n et (b .ensures) (v .ensures .0) ((p-if3 .if3) .left) (u .ensures .0) (g .ensures .0) (g .ensures .1) (q .ensures .0) (h .ensures) refl refl refl,
+      ),
     )
 
 pub fetch-l2-spec : {M : Type 1} → statement M
@@ -117,6 +146,9 @@ fetch-l2-spec =
     returns-3
     l2-victim-requires
     bring-l2-requires
+    external-place-requires
+    cast-held
+    held-requires
     same-length-2
     same-length-3
     same-length-4

@@ -1,5 +1,10 @@
+use Rattle.model.specs.Lines.{l1dLine}
+use Rattle.model.specs.Records.{state}
+use Rattle.model.specs.Memories.{externalBase}
+use Prim.Native.Nat.{ℕ, _-_}
+use native.Mathlib.Omega.{arith}
 use mathlib.Core.Bool.{not}
-use Rattle.l2_fetch.specs.Fetching.{filled-homed, filled-external, filled-sram}
+use Rattle.l2_fetch.specs.Fetching.{moved-homed, moved-sram, moved-external, filled-homed, filled-external, filled-sram}
 use Rattle.tags.specs.Words.{recordIn}
 use mathlib.Core.Path.{ap, _∙_}
 use borrow.Author.Needs.{needs}
@@ -17,6 +22,7 @@ use Rattle.geometry.proofs.is_external.Reads as is-external-reads
 use Rattle.geometry.proofs.line_at.Reads as line-at-reads
 use Rattle.geometry.proofs.place_of.Reads as place-of-reads
 use Rattle.tags.proofs.l1d_put.Reads as l1d-put-reads
+use Rattle.memory.proofs.held.Reads as held-reads
 
 -- src/lib.rt:161:9
 line-of-requires : tie.Need-line-of-requires
@@ -65,10 +71,12 @@ returns c =
     let p-if1 = p-data-at2 .before .before in let p-l1d-put = p-if1 .before .before .before in
     let p-line-at = p-l1d-put .before in let p-data-at = p-line-at .before .before in
     let p-line-of = p-data-at .before in let p-start = p-line-of .before .before .before .before .before in
-    let a = p-start .args in let k = p-start .pre in let r = recordIn (a .tags .now) in
-    filled-homed r (recordIn ((p-l1d-put .l1d-put) .last .0)) (a .l1d .now) ((c .before .before .move64) .last .0) (a .l2 .now) (a .ext .now) (a .a) (a .i) (a .w) (a .sram) (a .sets) ((p-line-of .line-of) .result) ((p-data-at .data-at) .result)
-    ((p-data-at2 .data-at2) .result) ((p-offset-of .offset-of) .result) (a .h) ((p-line-at .line-at) .result) (k .0 .1) (k .1 .0 .1 .1 .0) (k .1 .0 .1 .1 .1) (k .1 .1) ((p-if1 .if1) .taken) ((p-line-of .line-of) .ensures) ((p-data-at .data-at) .ensures .0) ((p-data-at2 .data-at2) .ensures .0) ((p-offset-of .offset-of) .ensures .0)
-    ((c .before .before .move64) .ensures) ((p-line-at .line-at) .ensures) ((p-l1d-put .l1d-put) .ensures)
+    let a = p-start .args in let k = p-start .pre in let r = recordIn (a .tags .now) in (
+      filled-homed r (recordIn ((p-l1d-put .l1d-put) .last .0)) (a .l1d .now) ((c .before .before .move64) .last .0) (a .l2 .now) (a .ext .now) (a .a) (a .i) (a .w) (a .sram) (a .sets) ((p-line-of .line-of) .result) ((p-data-at .data-at) .result)
+          ((p-data-at2 .data-at2) .result) ((p-offset-of .offset-of) .result) (a .h) ((p-line-at .line-at) .result) (k .0 .1) (k .1 .0 .1 .1 .0) (k .1 .0 .1 .1 .1) (k .1 .1) ((p-if1 .if1) .taken) ((p-line-of .line-of) .ensures) ((p-data-at .data-at) .ensures .0) ((p-data-at2 .data-at2) .ensures .0) ((p-offset-of .offset-of) .ensures .0)
+          ((c .before .before .move64) .ensures .0) ((p-line-at .line-at) .ensures) ((p-l1d-put .l1d-put) .ensures),
+      (moved-homed (a .h) (a .a) (l1dLine (a .a)) 64 (state r (a .l1d .now) (a .l2 .now) (a .ext .now)) (k .1 .1) ((p-if1 .if1) .taken), omega arith),
+    )
 
 -- src/lib.rt:168:8
 is-external-requires : tie.Need-is-external-requires
@@ -82,6 +90,14 @@ external-place-requires c κs = search needs
 move64-requires-2 : tie.Need-move64-requires-2
 move64-requires-2 c κs = search needs
 
+-- src/lib.rt:175:40
+cast-held : tie.Need-cast-held
+cast-held c = search needs
+
+-- src/lib.rt:175:9
+held-requires : tie.Need-held-requires
+held-requires c κs = search needs
+
 -- src/lib.rt:170:9
 same-length-3 : tie.Need-same-length-3
 same-length-3 c = search needs
@@ -93,14 +109,22 @@ same-length-4 c = search needs
 -- src/lib.rt:170:9
 returns-2 : tie.Need-returns-2
 returns-2 c =
-    let p-external-place = c .before .before .before in let p-if2 = p-external-place .before .before in
-    let p-is-external = p-if2 .before in let p-if1 = p-is-external .before in
+    let p-move642 = c .before .before .before in let p-external-place = p-move642 .before .before in
+    let p-if2 = p-external-place .before in let p-is-external = p-if2 .before in let p-if1 = p-is-external .before in
     let p-l1d-put = p-if1 .before .before .before in let p-line-at = p-l1d-put .before in
     let p-data-at = p-line-at .before .before in let p-line-of = p-data-at .before in
     let p-start = p-line-of .before .before .before .before .before in
     let a = p-start .args in let k = p-start .pre in let r = recordIn (a .tags .now) in
-    filled-external r (recordIn ((p-l1d-put .l1d-put) .last .0)) (a .l1d .now) ((c .before .before .move642) .last .0) (a .l2 .now) (a .ext .now) (a .a) (a .i) (a .w) ((p-line-of .line-of) .result) ((p-data-at .data-at) .result)
-    ((p-external-place .external-place) .result) (a .h) ((p-line-at .line-at) .result) (k .0 .1) (k .1 .1) ((p-if1 .if1) .left) ((p-line-of .line-of) .ensures) ((p-is-external .is-external) .ensures ∙ ap not ((p-if2 .if2) .taken)) ((p-data-at .data-at) .ensures .0) ((p-external-place .external-place) .ensures .0) ((c .before .before .move642) .ensures) ((p-line-at .line-at) .ensures) ((p-l1d-put .l1d-put) .ensures)
+    let b = (p-line-of .line-of) in let q = (p-external-place .external-place) in
+    let x = (p-is-external .is-external) .ensures ∙ ap not ((p-if2 .if2) .taken) in (
+      filled-external r (recordIn ((p-l1d-put .l1d-put) .last .0)) (a .l1d .now) ((p-move642 .move642) .last .0) (a .l2 .now) (a .ext .now) (a .a) (a .i) (a .w) ((p-line-of .line-of) .result) ((p-data-at .data-at) .result)
+          ((p-external-place .external-place) .result) (a .h) ((p-line-at .line-at) .result) (k .0 .1) (k .1 .1) ((p-if1 .if1) .left) ((p-line-of .line-of) .ensures) ((p-is-external .is-external) .ensures ∙ ap not ((p-if2 .if2) .taken)) ((p-data-at .data-at) .ensures .0) ((p-external-place .external-place) .ensures .0) ((p-move642 .move642) .ensures .0) ((p-line-at .line-at) .ensures) ((p-l1d-put .l1d-put) .ensures),
+      (
+        moved-external (a .h) (a .a) (l1dLine (a .a)) 64 (q .result) ((c .held) .result) (state r (a .l1d .now) (a .l2 .now) (a .ext .now)) (k .1 .1) ((p-if1 .if1) .left) (rw (← b .ensures) x)
+            (q .ensures .0 ∙ ap (λ (n : ℕ). n - externalBase) (b .ensures)) ((c .held) .ensures .0),
+        (c .held) .ensures .1,
+      ),
+    )
 
 -- src/lib.rt:172:33
 place-of-requires : tie.Need-place-of-requires
@@ -127,8 +151,11 @@ returns-3 c =
     let p-data-at = p-line-at .before .before in let p-line-of = p-data-at .before in
     let p-start = p-line-of .before .before .before .before .before in
     let a = p-start .args in let k = p-start .pre in let r = recordIn (a .tags .now) in
-    filled-sram r (recordIn ((p-l1d-put .l1d-put) .last .0)) (a .l1d .now) ((c .before .before .move643) .last .0) (a .l2 .now) (a .ext .now) (a .a) (a .i) (a .w) ((p-line-of .line-of) .result) ((p-data-at .data-at) .result)
-    ((p-place-of .place-of) .result) (a .h) ((p-line-at .line-at) .result) (k .0 .1) (k .1 .1) ((p-if1 .if1) .left) ((p-line-of .line-of) .ensures) ((p-is-external .is-external) .ensures ∙ ap not ((p-if2 .if2) .left)) ((p-data-at .data-at) .ensures .0) ((p-place-of .place-of) .ensures .0) ((c .before .before .move643) .ensures) ((p-line-at .line-at) .ensures) ((p-l1d-put .l1d-put) .ensures)
+    let x = (p-is-external .is-external) .ensures ∙ ap not ((p-if2 .if2) .left) in (
+      filled-sram r (recordIn ((p-l1d-put .l1d-put) .last .0)) (a .l1d .now) ((c .before .before .move643) .last .0) (a .l2 .now) (a .ext .now) (a .a) (a .i) (a .w) ((p-line-of .line-of) .result) ((p-data-at .data-at) .result)
+          ((p-place-of .place-of) .result) (a .h) ((p-line-at .line-at) .result) (k .0 .1) (k .1 .1) ((p-if1 .if1) .left) ((p-line-of .line-of) .ensures) ((p-is-external .is-external) .ensures ∙ ap not ((p-if2 .if2) .left)) ((p-data-at .data-at) .ensures .0) ((p-place-of .place-of) .ensures .0) ((c .before .before .move643) .ensures .0) ((p-line-at .line-at) .ensures) ((p-l1d-put .l1d-put) .ensures),
+      (moved-sram (a .h) (a .a) (l1dLine (a .a)) 64 (state r (a .l1d .now) (a .l2 .now) (a .ext .now)) (k .1 .1) ((p-if1 .if1) .left) (rw (← (p-line-of .line-of) .ensures) x), omega arith),
+    )
 
 pub fill-l1d-spec : {M : Type 1} → statement M
 fill-l1d-spec =
@@ -148,6 +175,8 @@ fill-l1d-spec =
     is-external-requires
     external-place-requires
     move64-requires-2
+    cast-held
+    held-requires
     same-length-3
     same-length-4
     returns-2

@@ -1,5 +1,7 @@
+use Rattle.model.specs.Records.{state}
+use native.Mathlib.Omega.{arith}
 use mathlib.Core.Bool.{not}
-use Rattle.l2_fetch.specs.Fetching.{wrote-homed, wrote-external, wrote-sram}
+use Rattle.l2_fetch.specs.Fetching.{moved-homed, moved-sram, moved-external, wrote-homed, wrote-external, wrote-sram}
 use Rattle.tags.specs.Words.{recordIn}
 use mathlib.Core.Path.{ap, _∙_}
 use Rattle.model.specs.Bytes.{littleBytes}
@@ -17,6 +19,7 @@ use Rattle.geometry.proofs.line_at.Reads as line-at-reads
 use Rattle.geometry.proofs.place_of.Reads as place-of-reads
 use Rattle.tags.proofs.l2_line.Reads as l2-line-reads
 use Rattle.tags.proofs.l2_put.Reads as l2-put-reads
+use Rattle.memory.proofs.held.Reads as held-reads
 
 -- src/lib.rt:184:27
 data-at-requires : tie.Need-data-at-requires
@@ -61,10 +64,12 @@ returns c =
     let p-store = p-l2-line .before .before .before .before in let p-offset-of = p-store .before in
     let p-data-at = p-offset-of .before in let p-if1 = p-data-at .before .before in
     let p-start = p-if1 .before .before .before .before in
-    let a = p-start .args in let k = p-start .pre in let r = recordIn (a .tags .now) in
-    λ d. wrote-homed r (recordIn ((c .before .before .l2-put) .last .0)) d (a .l2 .now) ((p-store .store) .last .0) (a .ext .now) (littleBytes (a .v) (a .n)) (a .a) (a .sram) (a .sets) ((p-data-at .data-at) .result) ((p-offset-of .offset-of) .result) (a .h)
-    ((p-l2-line .l2-line) .result) ((p-line-at .line-at) .result) (k .1 .0 .1 .1 .0) (k .1 .0 .1 .1 .1) (k .1 .1) ((p-if1 .if1) .taken) ((p-data-at .data-at) .ensures .0) ((p-offset-of .offset-of) .ensures .0) ((p-store .store) .ensures) ((p-l2-line .l2-line) .ensures)
-    ((p-line-at .line-at) .ensures) ((c .before .before .l2-put) .ensures)
+    let a = p-start .args in let k = p-start .pre in let r = recordIn (a .tags .now) in (
+      λ d. wrote-homed r (recordIn ((c .before .before .l2-put) .last .0)) d (a .l2 .now) ((p-store .store) .last .0) (a .ext .now) (littleBytes (a .v) (a .n)) (a .a) (a .sram) (a .sets) ((p-data-at .data-at) .result) ((p-offset-of .offset-of) .result) (a .h)
+          ((p-l2-line .l2-line) .result) ((p-line-at .line-at) .result) (k .1 .0 .1 .1 .0) (k .1 .0 .1 .1 .1) (k .1 .1) ((p-if1 .if1) .taken) ((p-data-at .data-at) .ensures .0) ((p-offset-of .offset-of) .ensures .0) ((p-store .store) .ensures) ((p-l2-line .l2-line) .ensures)
+          ((p-line-at .line-at) .ensures) ((c .before .before .l2-put) .ensures),
+      (λ d. moved-homed (a .h) (a .a) (a .a) (a .n) (state r d (a .l2 .now) (a .ext .now)) (k .1 .1) ((p-if1 .if1) .taken), omega arith),
+    )
 
 -- src/lib.rt:189:8
 is-external-requires : tie.Need-is-external-requires
@@ -73,6 +78,10 @@ is-external-requires c κs = search needs
 -- src/lib.rt:190:28
 external-place-requires : tie.Need-external-place-requires
 external-place-requires c κs = search needs
+
+-- src/lib.rt:253:13
+held-requires : tie.Need-held-requires
+held-requires c κs = search needs
 
 -- src/lib.rt:190:9
 store-requires-2 : tie.Need-store-requires-2
@@ -85,12 +94,20 @@ same-length-3 c = search needs
 -- src/lib.rt:191:9
 returns-2 : tie.Need-returns-2
 returns-2 c =
-    let p-external-place = c .before .before .before in let p-if2 = p-external-place .before .before in
+    let p-store2 = c .before .before in let p-held = p-store2 .before .before in
+    let p-external-place = p-held .before .before in let p-if2 = p-external-place .before in
     let p-is-external = p-if2 .before in let p-if1 = p-is-external .before in
     let p-start = p-if1 .before .before .before .before in
     let a = p-start .args in let k = p-start .pre in let r = recordIn (a .tags .now) in
-    λ d. wrote-external r d (a .l2 .now) (a .ext .now) ((c .before .before .store2) .last .0) (littleBytes (a .v) (a .n)) (a .a) ((p-external-place .external-place) .result) (a .h) (k .1 .1) ((p-if1 .if1) .left)
-    ((p-is-external .is-external) .ensures ∙ ap not ((p-if2 .if2) .taken)) ((p-external-place .external-place) .ensures .0) ((c .before .before .store2) .ensures)
+    let q = (p-external-place .external-place) in let n = (p-held .held) in (
+      λ d. wrote-external r d (a .l2 .now) (a .ext .now) ((p-store2 .store2) .last .0) (littleBytes (a .v) (a .n)) (a .a) ((p-external-place .external-place) .result) (a .h) (k .1 .1) ((p-if1 .if1) .left)
+          ((p-is-external .is-external) .ensures ∙ ap not ((p-if2 .if2) .taken)) ((p-external-place .external-place) .ensures .0) ((p-store2 .store2) .ensures),
+      (
+        λ d. moved-external (a .h) (a .a) (a .a) (a .n) (q .result) (n .result) (state r d (a .l2 .now) (a .ext .now)) (k .1 .1) ((p-if1 .if1) .left)
+            ((p-is-external .is-external) .ensures ∙ ap not ((p-if2 .if2) .taken)) (q .ensures .0) (n .ensures .0),
+        n .ensures .1,
+      ),
+    )
 
 -- src/lib.rt:193:23
 place-of-requires : tie.Need-place-of-requires
@@ -110,9 +127,11 @@ returns-3 c =
     let p-place-of = c .before .before .before in let p-if2 = p-place-of .before .before in
     let p-is-external = p-if2 .before in let p-if1 = p-is-external .before in
     let p-start = p-if1 .before .before .before .before in
-    let a = p-start .args in let k = p-start .pre in let r = recordIn (a .tags .now) in
-    λ d. wrote-sram r d (a .l2 .now) ((c .before .before .store3) .last .0) (a .ext .now) (littleBytes (a .v) (a .n)) (a .a) ((p-place-of .place-of) .result) (a .h) (k .1 .1) ((p-if1 .if1) .left)
-    ((p-is-external .is-external) .ensures ∙ ap not ((p-if2 .if2) .left)) ((p-place-of .place-of) .ensures .0) ((c .before .before .store3) .ensures)
+    let a = p-start .args in let k = p-start .pre in let r = recordIn (a .tags .now) in (
+      λ d. wrote-sram r d (a .l2 .now) ((c .before .before .store3) .last .0) (a .ext .now) (littleBytes (a .v) (a .n)) (a .a) ((p-place-of .place-of) .result) (a .h) (k .1 .1) ((p-if1 .if1) .left)
+          ((p-is-external .is-external) .ensures ∙ ap not ((p-if2 .if2) .left)) ((p-place-of .place-of) .ensures .0) ((c .before .before .store3) .ensures),
+      (λ d. moved-sram (a .h) (a .a) (a .a) (a .n) (state r d (a .l2 .now) (a .ext .now)) (k .1 .1) ((p-if1 .if1) .left) ((p-is-external .is-external) .ensures ∙ ap not ((p-if2 .if2) .left)), omega arith),
+    )
 
 pub write-home-spec : {M : Type 1} → statement M
 write-home-spec =
@@ -130,6 +149,7 @@ write-home-spec =
     returns
     is-external-requires
     external-place-requires
+    held-requires
     store-requires-2
     same-length-3
     returns-2

@@ -42,7 +42,7 @@ returns c =
     let p-start = p-writeback-l2 .before .before .before .before .before .before .before .before in
     let a = p-start .args in let k = p-start .pre in let d = a .l1d .now in let e = a .ext .now in let z = state (recordIn (a .tags .now)) d (a .l2 .now) e in
     let p = (p-writeback-l2 .writeback-l2) in let y = state (recordIn (p .last .0)) d (p .last .1 .1 .1 .1 .1 .1 .0) (p .last .1 .1 .1 .1 .1 .1 .1 .0) in
-    evicted z y (recordIn ((c .before .before .l2-put) .last .0)) (a .t) (a .v) ((p-empty-line .empty-line) .result) (p .ensures) ((p-empty-line .empty-line) .ensures) ((c .before .before .l2-put) .ensures)
+    (evicted z y (recordIn ((c .before .before .l2-put) .last .0)) (a .t) (a .v) ((p-empty-line .empty-line) .result) (p .ensures .0) ((p-empty-line .empty-line) .ensures) ((c .before .before .l2-put) .ensures), p .ensures .1)
 
 pub evict-l2-spec : {M : Type 1} → statement M
 evict-l2-spec =

@@ -75,7 +75,7 @@ returns c =
     (a .t) (a .v) (a .b) (a .i) (l1dLine (a .b)) (a .w) (a .sram) (a .sets) ((p-data-at .data-at) .result) ((p-offset-of .offset-of) .result) ((p-data-at2 .data-at2) .result)
     ((p-l1d-line .l1d-line) .result) ((p-l2-line .l2-line) .result) ((p-line-at .line-at) .result) ((p-empty-line .empty-line) .result)
     (h .1 .1 .0) refl (h .1 .1 .1) (h .0 .1 .1) ((p-l1d-line .l1d-line) .ensures) ((p-if1 .if1) .taken) (h .1 .0 .1 .1 .0) (h .1 .0 .1 .1 .1)
-    ((p-data-at .data-at) .ensures .0) ((p-data-at2 .data-at2) .ensures .0) ((p-offset-of .offset-of) .ensures .0) ((p-move64 .move64) .ensures) ((p-l2-line .l2-line) .ensures)
+    ((p-data-at .data-at) .ensures .0) ((p-data-at2 .data-at2) .ensures .0) ((p-offset-of .offset-of) .ensures .0) ((p-move64 .move64) .ensures .0) ((p-l2-line .l2-line) .ensures)
     ((p-line-at .line-at) .ensures) ((p-l2-put .l2-put) .ensures) ((p-empty-line .empty-line) .ensures) ((c .before .before .l1d-put) .ensures)
 
 empty-line-requires-2 : tie.Need-empty-line-requires-2

@@ -1,6 +1,8 @@
-use Rattle.l2_writeback.specs.Halves.{out-none, out-clean, out-dirty}
+use Rattle.l2_writeback.specs.Halves.{out-none, out-clean, out-dirty, told-none, told-clean, told-dirty}
 use Rattle.tags.specs.Words.{recordIn}
+use Rattle.model.specs.Records.{state}
 use borrow.Author.Tests.{not-true, not-false}
+use native.Mathlib.Omega.{arith}
 use borrow.Author.Needs.{needs}
 use Rattle.l2_writeback.proofs.write_out_l2.Statement.{statement}
 use Rattle.l2_writeback.proofs.write_out_l2.Tie as tie
@@ -26,7 +28,10 @@ returns : tie.Need-returns
 returns c =
     let p-start = c .before .before .before .before .before .before .before in
     let a = p-start .args in let h = p-start .pre in let r = recordIn (a .tags .now) in
-    λ d. out-none r d (a .l2 .now) (a .ext .now) (a .t) (a .v) ((c .before .before .l2-line) .result) ((c .before .before .l2-line) .ensures) (not-true ((c .before .before .l2-line) .result .valid) ((c .if1) .taken))
+    let x = (c .before .before .l2-line) in let n = not-true (x .result .valid) ((c .if1) .taken) in (
+      λ d. out-none r d (a .l2 .now) (a .ext .now) (a .t) (a .v) (x .result) (x .ensures) n,
+      (λ d. told-none (state r d (a .l2 .now) (a .ext .now)) (a .t) (a .v) (x .result) (x .ensures) n, omega arith),
+    )
 
 -- src/lib.rt:47:9
 same-length-2 : tie.Need-same-length-2
@@ -38,7 +43,11 @@ returns-2 c =
     let p-l2-line = c .before .before .before .before in
     let p-start = p-l2-line .before .before .before .before .before in
     let a = p-start .args in let h = p-start .pre in let r = recordIn (a .tags .now) in
-    λ d. out-clean r d (a .l2 .now) (a .ext .now) (a .t) (a .v) ((p-l2-line .l2-line) .result) ((p-l2-line .l2-line) .ensures) (not-false ((p-l2-line .l2-line) .result .valid) ((c .before .before .if1) .left)) (not-true ((p-l2-line .l2-line) .result .dirty) ((c .if2) .taken))
+    let x = (p-l2-line .l2-line) in
+    let k = not-false (x .result .valid) ((c .before .before .if1) .left) in let n = not-true (x .result .dirty) ((c .if2) .taken) in (
+      λ d. out-clean r d (a .l2 .now) (a .ext .now) (a .t) (a .v) (x .result) (x .ensures) k n,
+      (λ d. told-clean (state r d (a .l2 .now) (a .ext .now)) (a .t) (a .v) (x .result) (x .ensures) k n, omega arith),
+    )
 
 -- src/lib.rt:49:26
 external-place-requires : tie.Need-external-place-requires
@@ -76,8 +85,12 @@ returns-3 c =
     let p-if2 = p-external-place .before .before in let p-if1 = p-if2 .before .before in
     let p-l2-line = p-if1 .before .before in let p-start = p-l2-line .before .before .before .before .before in
     let a = p-start .args in let h = p-start .pre in let r = recordIn (a .tags .now) in
-    λ d. out-dirty r (recordIn ((c .before .before .l2-put) .last .0)) d (a .l2 .now) (a .ext .now) ((p-move128 .move128) .last .0) (a .t) (a .v) (a .sram) (a .sets) ((p-data-at .data-at) .result)
-    ((p-external-place .external-place) .result) ((p-l2-line .l2-line) .result) ((p-line-at .line-at) .result) ((p-l2-line .l2-line) .ensures) (not-false ((p-l2-line .l2-line) .result .valid) ((p-if1 .if1) .left)) (not-false ((p-l2-line .l2-line) .result .dirty) ((p-if2 .if2) .left)) (h .1 .1 .1 .0) (h .1 .1 .1 .1) ((p-data-at .data-at) .ensures .0) ((p-external-place .external-place) .ensures .0) ((p-move128 .move128) .ensures) ((p-line-at .line-at) .ensures) ((c .before .before .l2-put) .ensures)
+    let x = (p-l2-line .l2-line) in let o = (p-external-place .external-place) in let q = (p-data-at .data-at) in let m = (p-move128 .move128) in
+    let k = not-false (x .result .valid) ((p-if1 .if1) .left) in let y = not-false (x .result .dirty) ((p-if2 .if2) .left) in (
+      λ d. out-dirty r (recordIn ((c .before .before .l2-put) .last .0)) d (a .l2 .now) (a .ext .now) (m .last .0) (a .t) (a .v) (a .sram) (a .sets) (q .result)
+          (o .result) (x .result) ((p-line-at .line-at) .result) (x .ensures) k y (h .1 .1 .1 .0) (h .1 .1 .1 .1) (q .ensures .0) (o .ensures .0) (m .ensures .0) ((p-line-at .line-at) .ensures) ((c .before .before .l2-put) .ensures),
+      (λ d. told-dirty (state r d (a .l2 .now) (a .ext .now)) (a .t) (a .v) (a .sram) (a .sets) (q .result) (o .result) (m .result) (x .result) (x .ensures) k y (h .1 .1 .1 .0) (h .1 .1 .1 .1) (q .ensures .0) (o .ensures .0) (m .ensures .1 .0), m .ensures .1 .1),
+    )
 
 pub write-out-l2-spec : {M : Type 1} → statement M
 write-out-l2-spec =

@@ -1,4 +1,4 @@
-use Rattle.l2_writeback.specs.Halves.{back-none, back-all}
+use Rattle.l2_writeback.specs.Halves.{back-none, back-all, gone-none, gone-all}
 use Rattle.tags.specs.Words.{recordIn}
 use Rattle.model.specs.Lines.{upperHalf}
 use Rattle.model.specs.Records.{state}
@@ -14,6 +14,8 @@ use Rattle.l2_writeback.proofs.writeback_l2.Lts as lts
 use Rattle.l2_writeback.proofs.take_half.Reads as take-half-reads
 use Rattle.l2_writeback.proofs.write_out_l2.Reads as write-out-l2-reads
 use Rattle.tags.proofs.l2_line.Reads as l2-line-reads
+use Rattle.geometry.proofs.left_by.Reads as left-by-reads
+use Rattle.l2_writeback.proofs.take_upper.Reads as take-upper-reads
 
 -- src/lib.rt:60:9
 l2-line-requires : tie.Need-l2-line-requires
@@ -27,8 +29,9 @@ same-length c = search needs
 returns : tie.Need-returns
 returns c =
     let p-start = c .before .before .before .before .before .before .before .before in
-    let a = p-start .args in let k = p-start .pre in let d = a .l1d .now in let e = a .ext .now in let z = state (recordIn (a .tags .now)) d (a .l2 .now) e in
-    back-none z (a .t) (a .v) ((c .before .before .l2-line) .result) ((c .before .before .l2-line) .ensures) (not-true ((c .before .before .l2-line) .result .valid) ((c .if1) .taken))
+    let a = p-start .args in let z = state (recordIn (a .tags .now)) (a .l1d .now) (a .l2 .now) (a .ext .now) in
+    let x = (c .before .before .l2-line) in let n = not-true (x .result .valid) ((c .if1) .taken) in
+    (back-none z (a .t) (a .v) (x .result) (x .ensures) n, gone-none z (a .t) (a .v) (x .result) _ (x .ensures) n refl)
 
 -- src/lib.rt:64:5
 take-half-requires : tie.Need-take-half-requires
@@ -45,12 +48,21 @@ take-upper-requires c κs =
     let l₁ = lent-next (a .sram) (a .sets) (a .tags .now) (h .last .0) z₁ (takeHalf (a .t) (a .v) ((p-l2-line .l2-line) .result .address) z) (k .1) (h .kept .0) (h .ensures e) refl (same-take-half (a .t) (a .v) ((p-l2-line .l2-line) .result .address) z) in
     (k .0, l₁)
 
+-- src/lib.rt:167:31
+l2-line-requires-2 : tie.Need-l2-line-requires-2
+l2-line-requires-2 c κs = search needs
+
+-- src/lib.rt:167:9
+left-by-requires : tie.Need-left-by-requires
+left-by-requires c κs = search needs
+
 -- src/lib.rt:66:5
 write-out-l2-requires : tie.Need-write-out-l2-requires
 write-out-l2-requires c κs =
-    let p-take-upper = c .before .before .before .before .before .before .before in
+    let p-left-by = c .before .before .before in let p-l2-line2 = p-left-by .before in
+    let p-take-upper = p-l2-line2 .before .before .before .before .before .before in
     let p-take-half = p-take-upper .before .before .before .before .before .before .before in
-    let p-l2-line = p-take-half .before .before .before .before .before in
+    let p-if1 = p-take-half .before .before .before in let p-l2-line = p-if1 .before .before in
     let p-start = p-l2-line .before .before .before .before .before .before in
     let a = p-start .args in let k = p-start .pre in let d = a .l1d .now in let e = a .ext .now in let z = state (recordIn (a .tags .now)) d (a .l2 .now) e in
     let h = (p-take-half .take-half) in let z₁ = state (recordIn (h .last .0)) d (h .last .1 .1 .1 .1 .1 .1 .1 .0) e in
@@ -75,16 +87,21 @@ same-length-4 c = search needs
 returns-2 : tie.Need-returns-2
 returns-2 c =
     let p-write-out-l2 = c .before .before .before .before in
-    let p-take-upper = p-write-out-l2 .before .before .before .before .before .before .before .before in
+    let p-left-by = p-write-out-l2 .before .before .before .before in let p-l2-line2 = p-left-by .before in
+    let p-take-upper = p-l2-line2 .before .before .before .before .before .before in
     let p-take-half = p-take-upper .before .before .before .before .before .before .before in
     let p-if1 = p-take-half .before .before .before in let p-l2-line = p-if1 .before .before in
     let p-start = p-l2-line .before .before .before .before .before .before in
-    let a = p-start .args in let k = p-start .pre in let d = a .l1d .now in let e = a .ext .now in let z = state (recordIn (a .tags .now)) d (a .l2 .now) e in
+    let a = p-start .args in let d = a .l1d .now in let e = a .ext .now in let z = state (recordIn (a .tags .now)) d (a .l2 .now) e in
     let h = (p-take-half .take-half) in let z₁ = state (recordIn (h .last .0)) d (h .last .1 .1 .1 .1 .1 .1 .1 .0) e in
     let g = (p-take-upper .take-upper) in let z₂ = state (recordIn (g .last .0)) d (g .last .1 .1 .1 .1 .1 .1 .1 .0) e in
-    let o = (p-write-out-l2 .write-out-l2) in
-    back-all z z₁ z₂ (state (recordIn (o .last .0)) d (z₂ .l2) (o .last .1 .1 .1 .1 .1 .1 .0)) (a .t) (a .v) (upperHalf ((p-l2-line .l2-line) .result .address)) ((p-l2-line .l2-line) .result) ((p-l2-line .l2-line) .ensures) (not-false ((p-l2-line .l2-line) .result .valid) ((p-if1 .if1) .left)) refl
-    (h .ensures e) (g .ensures e) (o .ensures d)
+    let o = (p-write-out-l2 .write-out-l2) in let x = (p-l2-line .l2-line) in let y = (p-l2-line2 .l2-line2) in let l = (p-left-by .left-by) in
+    let u = upperHalf (x .result .address) in let v = not-false (x .result .valid) ((p-if1 .if1) .left) in (
+      back-all z z₁ z₂ (state (recordIn (o .last .0)) d (z₂ .l2) (o .last .1 .1 .1 .1 .1 .1 .0)) (a .t) (a .v) u (x .result) (x .ensures) v refl
+          (h .ensures e) (g .ensures e) (o .ensures .0 d),
+      gone-all z z₁ z₂ (a .t) (a .v) u (o .result) (x .result) (y .result) (l .result) _ (x .ensures) v refl
+          (h .ensures e) (g .ensures e) (y .ensures) (l .ensures) (o .ensures .1 .0 d, o .ensures .1 .1) refl,
+    )
 
 pub writeback-l2-spec : {M : Type 1} → statement M
 writeback-l2-spec =
@@ -95,6 +112,8 @@ writeback-l2-spec =
     returns
     take-half-requires
     take-upper-requires
+    l2-line-requires-2
+    left-by-requires
     write-out-l2-requires
     same-length-2
     same-length-3

@@ -2,7 +2,7 @@
 -- `moved-both`), any other is not.
 use Prim.Native.Nat.{ℕ, _+_}
 use Rattle.model.specs.Bytes.{part, stored}
-use Rattle.memory.specs.Copied.{Inside, both-inside, move-short, move-full}
+use Rattle.memory.specs.Copied.{Inside, both-inside, move-short, move-full, told-short, told-full, told-in}
 use Rattle.memory.specs.Values.{moved-both}
 use lib.ListN.{length}
 use lib.Dec.{leb}
@@ -30,13 +30,16 @@ fits-requires : tie.Need-fits-requires
 fits-requires c κs = search needs
 
 returns : tie.Need-returns
-returns c = move-short _ _ _ _ 128 (sym (c .before .fits2 .ensures) ∙ not-true _ (c .if1 .taken))
+returns c =
+    let o = sym (c .before .fits2 .ensures) ∙ not-true _ (c .if1 .taken) in (move-short _ _ _ _ 128 o, (told-short _ _ _ _ 128 o, omega arith))
 
 fits-requires-2 : tie.Need-fits-requires-2
 fits-requires-2 c κs = search needs
 
 returns-2 : tie.Need-returns-2
-returns-2 c = move-full _ _ _ _ 128 (has (c .before .before)) (sym (c .before .fits3 .ensures) ∙ not-true _ (c .if2 .taken))
+returns-2 c =
+    let h = has (c .before .before) in let o = sym (c .before .fits3 .ensures) ∙ not-true _ (c .if2 .taken) in
+    (move-full _ _ _ _ 128 h o, (told-full _ _ _ _ 128 h o, omega arith))
 
 move64-requires : tie.Need-move64-requires
 move64-requires c κs = search needs
@@ -60,9 +63,11 @@ returns-3 c =
     let p-move642 = c .before .before in
     let p-move64 = p-move642 .before .before .before .before in
     let p-if2 = p-move64 .before .before in
-    let a = at-start (p-if2 .before .before) .args in let h = inside p-if2 in
-    p-move642 .move642 .ensures ∙ ap (λ (m : List ℕ). stored m (a .a + 64) (part (a .src .now) (a .b + 64) 64)) (p-move64 .move64 .ensures)
-    ∙ moved-both (a .dst .now) (a .src .now) (a .a) (a .b) 64 64 (h .to) (h .from)
+    let a = at-start (p-if2 .before .before) .args in let h = inside p-if2 in (
+      p-move642 .move642 .ensures .0 ∙ ap (λ (m : List ℕ). stored m (a .a + 64) (part (a .src .now) (a .b + 64) 64)) (p-move64 .move64 .ensures .0)
+          ∙ moved-both (a .dst .now) (a .src .now) (a .a) (a .b) 64 64 (h .to) (h .from),
+      (told-in _ _ _ _ 128 h, omega arith),
+    )
 
 pub move128-spec : {M : Type 1} → statement M
 move128-spec =

@@ -1,6 +1,6 @@
 -- `memory::move64` meets its contract: the three ways through it are the three laws of specs/Copied.
 use Prim.Native.Nat.{_+_}
-use Rattle.memory.specs.Copied.{Inside, both-inside, move-short, move-full, move-in}
+use Rattle.memory.specs.Copied.{Inside, both-inside, move-short, move-full, told-short, told-full, told-in, move-in}
 use lib.ListN.{length, length-take, length-drop}
 use lib.Dec.{leb}
 use borrow.Author.Tests.{not-true, not-false}
@@ -26,13 +26,16 @@ fits-requires : tie.Need-fits-requires
 fits-requires c κs = search needs
 
 returns : tie.Need-returns
-returns c = move-short _ _ _ _ 64 (sym (c .before .fits2 .ensures) ∙ not-true _ (c .if1 .taken))
+returns c =
+    let o = sym (c .before .fits2 .ensures) ∙ not-true _ (c .if1 .taken) in (move-short _ _ _ _ 64 o, (told-short _ _ _ _ 64 o, omega arith))
 
 fits-requires-2 : tie.Need-fits-requires-2
 fits-requires-2 c κs = search needs
 
 returns-2 : tie.Need-returns-2
-returns-2 c = move-full _ _ _ _ 64 (has (c .before .before)) (sym (c .before .fits3 .ensures) ∙ not-true _ (c .if2 .taken))
+returns-2 c =
+    let h = has (c .before .before) in let o = sym (c .before .fits3 .ensures) ∙ not-true _ (c .if2 .taken) in
+    (move-full _ _ _ _ 64 h o, (told-full _ _ _ _ 64 h o, omega arith))
 
 sub-load64 : tie.Need-sub-load64
 sub-load64 c = let h = inside c in omega arith
@@ -65,7 +68,8 @@ returns-3 : tie.Need-returns-3
 returns-3 c =
     let p-store64 = c .before .before in
     let p-load64 = p-store64 .before .before in
-    rw (p-store64 .store64 .ensures) (move-in _ _ _ _ 64 (inside (p-load64 .before .before)) (p-load64 .load64 .result) (p-load64 .load64 .ensures))
+    let h = inside (p-load64 .before .before) in
+    (rw (p-store64 .store64 .ensures) (move-in _ _ _ _ 64 h (p-load64 .load64 .result) (p-load64 .load64 .ensures)), (told-in _ _ _ _ 64 h, omega arith))
 
 pub move64-spec : {M : Type 1} → statement M
 move64-spec =

@@ -32,7 +32,7 @@ returns : tie.Need-returns
 returns c =
     let p-store8 = c .before .before in
     let p-args = p-store8 .before .before .before in
-    answer-put (p-args .args .answers .now) (p-args .args .count) (p-args .args .a .number) (p-args .args .a .server) (p-args .args .a .value)
+    answer-put (p-args .args .answers .now) (p-args .args .count) (p-args .args .number) (p-args .args .server) (p-args .args .value)
     (p-args .pre) _ (p-store8 .store8 .ensures)
 
 pub put-answer-spec : {M : Type 1} → statement M

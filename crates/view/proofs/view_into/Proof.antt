@@ -38,7 +38,7 @@ returns-3 c =
     let p-is-external = p-if3 .before in let p-if2 = p-is-external .before in let p-view-due = p-if2 .before in
     let p-if1 = p-view-due .before in let p-start = p-if1 .before .before .before .before .before in
     let a = p-start .args in into-external (recordIn (a .tags .now)) (a .address) (a .l2 .now) (a .ext .now) (a .seen .now) ((p-if1 .if1) .left) ((p-view-due .view-due) .result) ((p-view-due .view-due) .ensures) ((p-if2 .if2) .left)
-    ((c .before .before .move64) .last .0) ((p-external-place .external-place) .result) ((p-is-external .is-external) .ensures ∙ ap not ((p-if3 .if3) .taken)) ((p-external-place .external-place) .ensures .0) ((c .before .before .move64) .ensures)
+    ((c .before .before .move64) .last .0) ((p-external-place .external-place) .result) ((p-is-external .is-external) .ensures ∙ ap not ((p-if3 .if3) .taken)) ((p-external-place .external-place) .ensures .0) ((c .before .before .move64) .ensures .0)
 
 place-of-requires : tie.Need-place-of-requires
 place-of-requires c κs = search needs
@@ -55,7 +55,7 @@ returns-4 c =
     let p-is-external = p-if3 .before in let p-if2 = p-is-external .before in let p-view-due = p-if2 .before in
     let p-if1 = p-view-due .before in let p-start = p-if1 .before .before .before .before .before in
     let a = p-start .args in into-sram (recordIn (a .tags .now)) (a .address) (a .l2 .now) (a .ext .now) (a .seen .now) ((p-if1 .if1) .left) ((p-view-due .view-due) .result) ((p-view-due .view-due) .ensures) ((p-if2 .if2) .left)
-    ((c .before .before .move642) .last .0) ((p-place-of .place-of) .result) ((p-is-external .is-external) .ensures ∙ ap not ((p-if3 .if3) .left)) ((p-place-of .place-of) .ensures .0) ((c .before .before .move642) .ensures)
+    ((c .before .before .move642) .last .0) ((p-place-of .place-of) .result) ((p-is-external .is-external) .ensures ∙ ap not ((p-if3 .if3) .left)) ((p-place-of .place-of) .ensures .0) ((c .before .before .move642) .ensures .0)
 
 pub view-into-spec : {M : Type 1} → statement M
 view-into-spec =

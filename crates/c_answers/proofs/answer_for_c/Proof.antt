@@ -1,0 +1,31 @@
+use borrow.Author.Needs.{needs}
+use Rattle.c_answers.proofs.answer_for_c.Statement.{statement}
+use Rattle.c_answers.proofs.answer_for_c.Tie as tie
+use Rattle.c_answers.proofs.answer_for_c.Reads as reads
+use Rattle.c_answers.proofs.answer_for_c.Lts as lts
+use Rattle.c_answers.proofs.left_for_c.Reads as left-for-c-reads
+
+-- src/lib.rt:59:9
+left-for-c-requires : tie.Need-left-for-c-requires
+left-for-c-requires c κs = search needs
+
+-- src/lib.rt:60:9
+left-for-c-requires-2 : tie.Need-left-for-c-requires-2
+left-for-c-requires-2 c κs = search needs
+
+-- src/lib.rt:54:1
+returns : tie.Need-returns
+returns c =
+    let p-left-for-c = c .before in let x = (p-left-for-c .before) .args .x in
+    λ i. record {
+      value = x .value;
+      number = x .number;
+      server = x .server;
+      «l1d_left» = (p-left-for-c .left-for-c) .ensures i;
+      «l2_left» = (c .left-for-c2) .ensures i;
+      «external_read» = x .read;
+      «external_written» = x .written;
+    }
+
+pub answer-for-c-spec : {M : Type 1} → statement M
+answer-for-c-spec = tie.close (tie.spec left-for-c-requires left-for-c-requires-2 returns)
