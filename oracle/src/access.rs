@@ -2,25 +2,43 @@
 
 use crate::geometry::{external_offset, L1d};
 use crate::machine::{Home, Machine, SERVER_EXTERNAL, SERVER_L1D};
-use crate::record::{victim_way, Line};
+use crate::record::{victim_way, Left, Line};
 
-/// "1, 2, 4 or 8 bytes, little-endian": the number that stands there.
-pub fn load(memory: &[u8], offset: usize, size: u32) -> u64 {
-    let bytes = &memory[offset..offset + size as usize];
+/// "1, 2, 4 or 8 bytes, little-endian": the number that these bytes are.
+fn number_of(bytes: &[u8]) -> u64 {
     bytes.iter().rev().fold(0, |value, &byte| value << 8 | u64::from(byte))
 }
 
-/// "1, 2, 4 or 8 bytes, little-endian": the number put there.
+/// "1, 2, 4 or 8 bytes, little-endian": the bytes of a number.
+fn bytes_of(size: u32, value: u64) -> Vec<u8> {
+    value.to_le_bytes()[..size as usize].to_vec()
+}
+
+/// The number that stands in a memory.
+pub fn load(memory: &[u8], offset: usize, size: u32) -> u64 {
+    number_of(&memory[offset..offset + size as usize])
+}
+
+/// A number put into a memory.
 pub fn store(memory: &mut [u8], offset: usize, size: u32, value: u64) {
-    let bytes = &mut memory[offset..offset + size as usize];
-    bytes.copy_from_slice(&value.to_le_bytes()[..size as usize]);
+    memory[offset..offset + size as usize].copy_from_slice(&bytes_of(size, value));
+}
+
+/// The number that stands in external memory, just its bytes being read (02, U2).
+fn load_external(machine: &mut Machine, offset: usize, size: u32) -> u64 {
+    number_of(&machine.read_external(offset, size))
+}
+
+/// A number put into external memory, just its bytes being written (02, U2).
+fn store_external(machine: &mut Machine, offset: usize, size: u32, value: u64) {
+    machine.write_external(offset, &bytes_of(size, value));
 }
 
 /// A CPU read; gives back the server number and the value.
 pub fn read(machine: &mut Machine, size: u32, address: u32) -> (u8, u64) {
     // "External memory with MAR bit 0 is reached directly, touching no line."
     if machine.is_reached_directly(address) {
-        return (SERVER_EXTERNAL, load(machine.ext, external_offset(address), size));
+        return (SERVER_EXTERNAL, load_external(machine, external_offset(address), size));
     }
     // "read hit in L1D: its bytes, the way used." 02, U11: "Frozen, hits are
     // served as before but change no order".
@@ -37,15 +55,17 @@ pub fn read(machine: &mut Machine, size: u32, address: u32) -> (u8, u64) {
         let (home, server) = machine.reach_home(address);
         let value = match home {
             Home::Sram { offset } | Home::L2Line { offset, .. } => load(machine.l2, offset, size),
-            Home::External { offset } => load(machine.ext, offset, size),
+            Home::External { offset } => load_external(machine, offset, size),
         };
         return (server, value);
     }
     // "Read miss: the way is the lowest invalid one, else the last in order; a
     // dirty line there is written back to its home and the way emptied; then
-    // the line is fetched from its home, the way filled clean and used."
+    // the line is fetched from its home, the way filled clean and used." 02, U2: the
+    // choice tells what stood there, dirty or clean as it was then.
     let set = L1d::set_of(address);
     let way = victim_way(&machine.record.l1d[set].lines, &machine.record.l1d[set].order);
+    machine.report.l1d_left = Left::of(machine.record.l1d[set].lines[way]);
     machine.write_back_l1d_line(set, way);
     machine.empty_l1d_way(set, way);
     let line_address = L1d::line_address(address);
@@ -60,7 +80,7 @@ pub fn read(machine: &mut Machine, size: u32, address: u32) -> (u8, u64) {
 pub fn write(machine: &mut Machine, size: u32, address: u32, value: u64) -> u8 {
     // "External memory with MAR bit 0 is reached directly, touching no line."
     if machine.is_reached_directly(address) {
-        store(machine.ext, external_offset(address), size, value);
+        store_external(machine, external_offset(address), size, value);
         return SERVER_EXTERNAL;
     }
     // "Write hit: bytes changed, line dirty, way used." 02, U11: "Frozen, hits are
@@ -80,7 +100,7 @@ pub fn write(machine: &mut Machine, size: u32, address: u32, value: u64) -> u8 {
     let (home, server) = machine.reach_home(address);
     match home {
         Home::Sram { offset } => store(machine.l2, offset, size, value),
-        Home::External { offset } => store(machine.ext, offset, size, value),
+        Home::External { offset } => store_external(machine, offset, size, value),
         Home::L2Line { set, way, offset } => {
             store(machine.l2, offset, size, value);
             machine.record.l2[set].lines[way].dirty = true;
@@ -99,9 +119,11 @@ fn l1d_byte(set: usize, way: usize, address: u32) -> usize {
 fn fill_l1d_way(machine: &mut Machine, set: usize, way: usize, home: Home) {
     let length = L1d::LINE as usize;
     let to = L1d::offset(set, way);
-    let from = match home {
-        Home::Sram { offset } | Home::L2Line { offset, .. } => &machine.l2[offset..offset + length],
-        Home::External { offset } => &machine.ext[offset..offset + length],
+    let line = match home {
+        Home::Sram { offset } | Home::L2Line { offset, .. } => {
+            machine.l2[offset..offset + length].to_vec()
+        }
+        Home::External { offset } => machine.read_external(offset, L1d::LINE),
     };
-    machine.l1d[to..to + length].copy_from_slice(from);
+    machine.l1d[to..to + length].copy_from_slice(&line);
 }

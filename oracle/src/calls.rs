@@ -6,7 +6,7 @@ use crate::commands::{self, l1d_block, l2_all, l2_block, L1dAction, L2Action};
 use crate::geometry::{
     external_length_is_legal, l2_length_is_legal, mode_is_legal, place, L1D_BYTES,
 };
-use crate::machine::{Events, Machine, SERVER_NONE};
+use crate::machine::{Events, Machine, Report, SERVER_NONE};
 use crate::modes::{change_freeze, change_mar, change_mode, holds_a_line_of};
 use crate::record::Record;
 use crate::trace::Command;
@@ -27,6 +27,21 @@ impl Answer {
     /// "Value and server are 0 with it", a refusal.
     pub fn refused(number: u8) -> Answer {
         Answer { number, server: SERVER_NONE, value: 0 }
+    }
+}
+
+/// What a direct call gives back: "The trace's answers keep their 10 bytes; the direct
+/// call carries the rest." (02, U2)
+#[derive(Clone, Copy, PartialEq, Eq, Debug)]
+pub struct Reply {
+    pub answer: Answer,
+    pub report: Report,
+}
+
+impl Reply {
+    /// A refused call has chosen no way and moved no byte.
+    pub fn refused(number: u8) -> Reply {
+        Reply { answer: Answer::refused(number), report: Report::NONE }
     }
 }
 
@@ -140,17 +155,24 @@ pub fn check_command(record: &Record, command: &Command) -> u8 {
 /// record comes back as given". "The value is 0 for all but accepted reads.";
 /// the server is "0 for calls that aren't reads or writes". 02, U5: "Every operation
 /// keeps them right, transfers and drops included.": after each the lines are counted.
-pub fn carry_out(machine: &mut Machine, command: &Command) -> Answer {
+/// 02, U2: "An access also reports": a call that is no read or write reports nothing.
+pub fn carry_out(machine: &mut Machine, command: &Command) -> Reply {
     let number = check_command(machine.record, command);
     if number != 0 {
-        return Answer::refused(number);
+        return Reply::refused(number);
     }
     let mut server = SERVER_NONE;
     let mut value = 0;
+    let mut report = Report::NONE;
+    machine.report = Report::NONE;
     match *command {
-        Command::Read { size, address } => (server, value) = access::read(machine, size, address),
+        Command::Read { size, address } => {
+            (server, value) = access::read(machine, size, address);
+            report = machine.report;
+        }
         Command::Write { size, address, value } => {
-            server = access::write(machine, size, address, value)
+            server = access::write(machine, size, address, value);
+            report = machine.report;
         }
         Command::L2WritebackAll => l2_all(machine, L2Action::Writeback),
         Command::L2WritebackInvalidateAll => l2_all(machine, L2Action::WritebackInvalidate),
@@ -175,7 +197,7 @@ pub fn carry_out(machine: &mut Machine, command: &Command) -> Answer {
         Command::Freeze { frozen } => change_freeze(machine.record, frozen),
     }
     machine.record.write_counts();
-    Answer { number: 0, server, value }
+    Reply { answer: Answer { number: 0, server, value }, report }
 }
 
 /// A direct call: checks 1 and 2, then the rest. "a refused direct call
@@ -186,7 +208,7 @@ pub fn direct(
     l2: &mut [u8],
     ext: &mut [u8],
     command: &Command,
-) -> Answer {
+) -> Reply {
     direct_with_events(record, l1d, l2, ext, command).0
 }
 
@@ -197,14 +219,14 @@ pub fn direct_with_events(
     l2: &mut [u8],
     ext: &mut [u8],
     command: &Command,
-) -> (Answer, Events) {
+) -> (Reply, Events) {
     let number = check_lent_and_record(record, l1d.len(), l2.len(), ext.len());
     if number != 0 {
-        return (Answer::refused(number), Events::default());
+        return (Reply::refused(number), Events::default());
     }
     let mut machine = Machine::new(record, l1d, l2, ext);
-    let answer = carry_out(&mut machine, command);
-    (answer, machine.events)
+    let reply = carry_out(&mut machine, command);
+    (reply, machine.events)
 }
 
 /// "Fresh: mode 0, MAR bits 0, nothing valid, orders 1,0 and 3,2,1,0. L1D and
@@ -230,7 +252,7 @@ pub fn read(
     ext: &mut [u8],
     size: u32,
     address: u32,
-) -> Answer {
+) -> Reply {
     direct(record, l1d, l2, ext, &Command::Read { size, address })
 }
 
@@ -243,7 +265,7 @@ pub fn write(
     size: u32,
     address: u32,
     value: u64,
-) -> Answer {
+) -> Reply {
     direct(record, l1d, l2, ext, &Command::Write { size, address, value })
 }
 
@@ -253,7 +275,7 @@ pub fn l2_writeback_all(
     l1d: &mut [u8],
     l2: &mut [u8],
     ext: &mut [u8],
-) -> Answer {
+) -> Reply {
     direct(record, l1d, l2, ext, &Command::L2WritebackAll)
 }
 
@@ -263,7 +285,7 @@ pub fn l2_writeback_invalidate_all(
     l1d: &mut [u8],
     l2: &mut [u8],
     ext: &mut [u8],
-) -> Answer {
+) -> Reply {
     direct(record, l1d, l2, ext, &Command::L2WritebackInvalidateAll)
 }
 
@@ -276,7 +298,7 @@ pub fn l2_block_writeback(
     ext: &mut [u8],
     base: u32,
     count: u32,
-) -> Answer {
+) -> Reply {
     direct(record, l1d, l2, ext, &Command::L2BlockWriteback { base, count })
 }
 
@@ -289,7 +311,7 @@ pub fn l2_block_writeback_invalidate(
     ext: &mut [u8],
     base: u32,
     count: u32,
-) -> Answer {
+) -> Reply {
     direct(record, l1d, l2, ext, &Command::L2BlockWritebackInvalidate { base, count })
 }
 
@@ -302,7 +324,7 @@ pub fn l2_block_invalidate(
     ext: &mut [u8],
     base: u32,
     count: u32,
-) -> Answer {
+) -> Reply {
     direct(record, l1d, l2, ext, &Command::L2BlockInvalidate { base, count })
 }
 
@@ -314,7 +336,7 @@ pub fn l1d_block_writeback_invalidate(
     ext: &mut [u8],
     base: u32,
     count: u32,
-) -> Answer {
+) -> Reply {
     direct(record, l1d, l2, ext, &Command::L1dBlockWritebackInvalidate { base, count })
 }
 
@@ -326,7 +348,7 @@ pub fn l1d_block_invalidate(
     ext: &mut [u8],
     base: u32,
     count: u32,
-) -> Answer {
+) -> Reply {
     direct(record, l1d, l2, ext, &Command::L1dBlockInvalidate { base, count })
 }
 
@@ -336,7 +358,7 @@ pub fn l1d_invalidate_all(
     l1d: &mut [u8],
     l2: &mut [u8],
     ext: &mut [u8],
-) -> Answer {
+) -> Reply {
     direct(record, l1d, l2, ext, &Command::L1dInvalidateAll)
 }
 
@@ -347,7 +369,7 @@ pub fn mode_change(
     l2: &mut [u8],
     ext: &mut [u8],
     mode: u32,
-) -> Answer {
+) -> Reply {
     direct(record, l1d, l2, ext, &Command::Mode { mode })
 }
 
@@ -359,7 +381,7 @@ pub fn mar_change(
     ext: &mut [u8],
     number: u32,
     bit: u32,
-) -> Answer {
+) -> Reply {
     direct(record, l1d, l2, ext, &Command::Mar { number, bit })
 }
 
@@ -370,6 +392,6 @@ pub fn freeze(
     l2: &mut [u8],
     ext: &mut [u8],
     frozen: u32,
-) -> Answer {
+) -> Reply {
     direct(record, l1d, l2, ext, &Command::Freeze { frozen })
 }

@@ -2,11 +2,11 @@
 //! here is part of the model. Equal seeds give equal things.
 
 use crate::calls;
-use crate::geometry::{cache_size, mode_is_legal, L1d, EXTERNAL_BASE, L1D_BYTES, L2};
+use crate::geometry::{cache_size, mode_is_legal, sram_size, L1d, EXTERNAL_BASE, L1D_BYTES, L2};
 use crate::record::{Line, Record};
 use crate::trace::{run, Command, RunResult};
 use crate::wellformed::Clause;
-use crate::Answer;
+use crate::{Answer, Reply};
 
 /// The legal values of L: "a multiple of 32,768, from 32,768 to 262,144".
 pub const LEGAL_L: [u32; 8] = [32_768, 65_536, 98_304, 131_072, 163_840, 196_608, 229_376, 262_144];
@@ -135,8 +135,13 @@ impl Setup {
         self.record = well_formed_record_in_mode(rng, l, e, mode);
     }
 
-    /// The direct call of this command.
+    /// The direct call of this command: its number, server and value.
     pub fn call(&mut self, command: &Command) -> Answer {
+        self.reply(command).answer
+    }
+
+    /// The same with all that the direct call gives back (02, U2).
+    pub fn reply(&mut self, command: &Command) -> Reply {
         let (record, l1d, l2, ext) =
             (&mut *self.record, &mut *self.l1d, &mut *self.l2, &mut *self.ext);
         match *command {
@@ -1171,6 +1176,32 @@ pub fn hot(rng: &mut Rng, l: u32, e: u32) -> Hot {
         if rng.chance(1, 3) {
             lines.push(line ^ 64);
         }
+    }
+    Hot { l, e, lines }
+}
+
+/// The least E with which six lines of external memory lie in one set of L2 in this mode,
+/// and as many in one of L1D.
+pub fn crowded_e(mode: u32) -> u32 {
+    6 * L2::LINE * L2::sets(mode).max(L1d::SETS / 2) as u32
+}
+
+/// Lines that push each other out: both halves of six lines of external memory that lie in
+/// one set of L2 in this mode (as far as E reaches), and so in two of L1D, and now and
+/// then lines of SRAM in the same sets of L1D.
+pub fn crowded(rng: &mut Rng, mode: u32, l: u32, e: u32) -> Hot {
+    let apart = crowded_e(mode) / 6;
+    let first = L2::LINE * rng.below(apart.min(e) / L2::LINE);
+    let mut lines = Vec::new();
+    for turn in 0..6 {
+        let offset = first + turn * apart;
+        if offset < e {
+            lines.extend([EXTERNAL_BASE + offset, EXTERNAL_BASE + offset + L1d::LINE]);
+        }
+    }
+    let sets = L1d::LINE * L1d::SETS as u32;
+    if sram_size(l, mode) >= 2 * sets && rng.chance(1, 2) {
+        lines.extend([first % sets, first % sets + sets]);
     }
     Hot { l, e, lines }
 }

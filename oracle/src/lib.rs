@@ -22,6 +22,7 @@ pub mod view;
 pub mod wellformed;
 pub mod writer;
 
-pub use calls::Answer;
-pub use record::{L1dSet, L2Set, Line, Record};
+pub use calls::{Answer, Reply};
+pub use machine::Report;
+pub use record::{L1dSet, L2Set, Left, Line, Record};
 pub use trace::{Command, RunResult};

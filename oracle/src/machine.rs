@@ -5,7 +5,7 @@
 use std::ops::Range;
 
 use crate::geometry::{external_offset, L1d, EXTERNAL_BASE, L2};
-use crate::record::{used, victim_way, Line, Record};
+use crate::record::{used, victim_way, Left, Line, Record};
 
 /// "The server number is 1 for L1D, 2 SRAM, 3 L2 cache, 4 external (also when
 /// L2 had to fetch), 0 for calls that aren't reads or writes."
@@ -20,8 +20,28 @@ pub struct Machine<'a> {
     pub record: &'a mut Record,
     pub l1d: &'a mut [u8],
     pub l2: &'a mut [u8],
-    pub ext: &'a mut [u8],
+    /// Reached by `read_external` and `write_external` alone, which count the bytes.
+    ext: &'a mut [u8],
     pub events: Events,
+    pub report: Report,
+}
+
+/// What an access reports beside its answer (02, U2): what left the way that L1D chose
+/// and the one that L2 chose, and "the bytes it read from and wrote to external memory".
+/// It is written as the steps are done: "These counts equal the bytes moved in 01's
+/// steps".
+#[derive(Clone, Copy, PartialEq, Eq, Debug)]
+pub struct Report {
+    pub l1d_left: Left,
+    pub l2_left: Left,
+    pub external_read: u32,
+    pub external_written: u32,
+}
+
+impl Report {
+    /// No way was chosen, and no byte moved.
+    pub const NONE: Report =
+        Report { l1d_left: Left::None, l2_left: Left::None, external_read: 0, external_written: 0 };
 }
 
 /// What happened to lines, told by their addresses as it happened (02, U13).
@@ -56,11 +76,23 @@ impl<'a> Machine<'a> {
         l2: &'a mut [u8],
         ext: &'a mut [u8],
     ) -> Machine<'a> {
-        Machine { record, l1d, l2, ext, events: Events::default() }
+        Machine { record, l1d, l2, ext, events: Events::default(), report: Report::NONE }
     }
 }
 
 impl Machine<'_> {
+    /// Bytes out of external memory, counted as they are moved (02, U2).
+    pub fn read_external(&mut self, offset: usize, length: u32) -> Vec<u8> {
+        self.report.external_read += length;
+        self.ext[offset..offset + length as usize].to_vec()
+    }
+
+    /// Bytes into external memory, counted as they are moved (02, U2).
+    pub fn write_external(&mut self, offset: usize, bytes: &[u8]) {
+        self.report.external_written += bytes.len() as u32;
+        self.ext[offset..offset + bytes.len()].copy_from_slice(bytes);
+    }
+
     /// "External memory with MAR bit 0 is reached directly, touching no line."
     pub fn is_reached_directly(&self, address: u32) -> bool {
         address >= EXTERNAL_BASE && self.record.mar_bit(address) == 0
@@ -132,20 +164,21 @@ impl Machine<'_> {
 
     /// "the L2 way is chosen likewise; the line leaving it first takes in the
     /// dirty halves that L1D holds, both halves become invalid in L1D, and it
-    /// is written out if dirty; then 128 bytes are fetched, clean, and used."
+    /// is written out if dirty; then 128 bytes are fetched, clean, and used." What the
+    /// way has found is told of "an L2 line once it has taken in its halves" (02, U2).
     fn fetch_l2_line(&mut self, address: u32) -> (usize, usize) {
         let line_address = L2::line_address(address);
         let set = L2::set_of(self.record.mode, address).expect("an L2 cache has sets");
         let way = victim_way(&self.record.l2[set].lines, &self.record.l2[set].order);
         if self.record.l2[set].lines[way].valid {
             self.take_in_halves(set, way);
-            self.write_out_l2_line(set, way);
-            self.empty_l2_way(set, way);
         }
+        self.report.l2_left = Left::of(self.record.l2[set].lines[way]);
+        self.write_out_l2_line(set, way);
+        self.empty_l2_way(set, way);
+        let fetched = self.read_external(external_offset(line_address), L2::LINE);
         let to = self.l2_offset(set, way);
-        let from = external_offset(line_address);
-        let length = L2::LINE as usize;
-        self.l2[to..to + length].copy_from_slice(&self.ext[from..from + length]);
+        self.l2[to..to + fetched.len()].copy_from_slice(&fetched);
         self.record.l2[set].lines[way] = Line { valid: true, dirty: false, address: line_address };
         self.use_l2_way(set, way);
         (set, way)
@@ -204,19 +237,19 @@ impl Machine<'_> {
         }
         let length = L1d::LINE as usize;
         let from = L1d::offset(set, way);
-        let bytes = &self.l1d[from..from + length];
+        let bytes = self.l1d[from..from + length].to_vec();
         let whole = line.address..line.address + L1d::LINE;
         match self.standing_home(line.address).expect("an external L1D line lies in an L2 line") {
             Home::Sram { offset } => {
-                self.l2[offset..offset + length].copy_from_slice(bytes);
+                self.l2[offset..offset + length].copy_from_slice(&bytes);
                 self.events.reached.push(whole);
             }
             Home::External { offset } => {
-                self.ext[offset..offset + length].copy_from_slice(bytes);
+                self.write_external(offset, &bytes);
                 self.events.reached.push(whole);
             }
             Home::L2Line { set, way, offset } => {
-                self.l2[offset..offset + length].copy_from_slice(bytes);
+                self.l2[offset..offset + length].copy_from_slice(&bytes);
                 self.record.l2[set].lines[way].dirty = true;
             }
         }
@@ -231,8 +264,8 @@ impl Machine<'_> {
         }
         let length = L2::LINE as usize;
         let from = self.l2_offset(set, way);
-        let to = external_offset(line.address);
-        self.ext[to..to + length].copy_from_slice(&self.l2[from..from + length]);
+        let bytes = self.l2[from..from + length].to_vec();
+        self.write_external(external_offset(line.address), &bytes);
         self.events.reached.push(line.address..line.address + L2::LINE);
         self.record.l2[set].lines[way].dirty = false;
     }

@@ -157,6 +157,29 @@ pub fn used<const N: usize>(order: [u8; N], way: u8) -> [u8; N] {
     new
 }
 
+/// What the choice of a way has found there: "The choice of a way must tell whether it
+/// was empty or which line address left it dirty or clean" (02, U2). `None` where no
+/// way was chosen, which is another answer than an empty one.
+#[derive(Clone, Copy, PartialEq, Eq, Debug)]
+pub enum Left {
+    None,
+    Empty,
+    Clean { address: u32 },
+    Dirty { address: u32 },
+}
+
+impl Left {
+    /// What is told of a way that was chosen, by the line that stands there.
+    pub fn of(line: Line) -> Left {
+        let Line { valid, dirty, address } = line;
+        match (valid, dirty) {
+            (false, _) => Left::Empty,
+            (true, false) => Left::Clean { address },
+            (true, true) => Left::Dirty { address },
+        }
+    }
+}
+
 /// "the way is the lowest invalid one, else the last in order".
 pub fn victim_way<const N: usize>(lines: &[Line; N], order: &[u8; N]) -> usize {
     for way in 0..N {

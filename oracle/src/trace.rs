@@ -123,7 +123,8 @@ pub struct RunResult {
     pub stop: u8,
 }
 
-/// "Each answer is 10 bytes: number, server, value (8 bytes, little-endian)."
+/// "Each answer is 10 bytes: number, server, value (8 bytes, little-endian)." "The trace's
+/// answers keep their 10 bytes; the direct call carries the rest." (02, U2)
 pub const ANSWER_BYTES: usize = 10;
 
 /// "A run checks 1 and 2 first; either one stops it with nothing consumed,
@@ -155,7 +156,7 @@ pub fn run(
             result.stop = 12;
             return result;
         }
-        let answer = carry_out(&mut machine, &command);
+        let answer = carry_out(&mut machine, &command).answer;
         answers[place] = answer.number;
         answers[place + 1] = answer.server;
         answers[place + 2..place + ANSWER_BYTES].copy_from_slice(&answer.value.to_le_bytes());

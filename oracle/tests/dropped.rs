@@ -19,8 +19,8 @@ fn cached(mode: u32) -> Setup {
 
 fn events(setup: &mut Setup, command: Command) -> Events {
     let Setup { record, l1d, l2, ext } = setup;
-    let (answer, events) = direct_with_events(record, l1d, l2, ext, &command);
-    assert_eq!(answer.number, 0);
+    let (reply, events) = direct_with_events(record, l1d, l2, ext, &command);
+    assert_eq!(reply.answer.number, 0);
     events
 }
 

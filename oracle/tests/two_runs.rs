@@ -6,7 +6,7 @@
 
 use oracle::gen::{command, hot_for, l_for, look_address, Mix, Rng, Setup, LEGAL_MODES};
 use oracle::geometry::{L1d, EXTERNAL_BASE, L2};
-use oracle::{Command, Line};
+use oracle::{Command, Line, Reply};
 
 /// Random memories under a record of this mode.
 fn setup(rng: &mut Rng, mode: u32) -> Setup {
@@ -44,8 +44,9 @@ fn data_steers_nothing() {
                 }
                 same => same,
             };
-            let (ours, theirs) = (one.call(&first), other.call(&second));
-            assert_eq!((ours.number, ours.server), (theirs.number, theirs.server), "{first:?}");
+            let (ours, theirs) = (one.reply(&first), other.reply(&second));
+            let shared = |reply: Reply| (reply.answer.number, reply.answer.server, reply.report);
+            assert_eq!(shared(ours), shared(theirs), "{first:?}");
             assert!(one.record == other.record, "{first:?}");
             let address = look_address(&mut rng, &lines);
             assert_eq!(one.look_number(address), other.look_number(address));
