@@ -83,9 +83,10 @@ extern "C" {
  * be changed or compiled again: another layout of a struct, other arguments, another meaning of a number. MINOR goes
  * up when calls are added, or when one does more than it did, and programs stay as they are. Version 1 passed the
  * record by value; since 2.4 the L2 commands reach all of L1D; since 2.5 L1D can be frozen, and a byte of the record
- * that was padding says whether it is; since 3.0 two counts of dirty lines stand in front of the record's sets.
+ * that was padding says whether it is; since 3.0 two counts of dirty lines stand in front of the record's sets; since
+ * 4.0 an answer also tells which lines an access put out and how many bytes of external memory it moved.
  */
-#define C64X_VERSION_MAJOR 3
+#define C64X_VERSION_MAJOR 4
 #define C64X_VERSION_MINOR 0
 
 /* The stack that a call needs at most, in bytes. */
@@ -164,16 +165,57 @@ typedef struct {
 } c64x_record;
 
 /*
+ * Which line was put out. An access that brings a line into a cache chooses a way of its set for it: the lowest that is
+ * empty, else the one used longest ago. What stood there leaves. `kind` says what that was:
+ *
+ *   0  no way was chosen: nothing came into this cache
+ *   1  the way was empty: something came, and nothing left
+ *   2  a clean line left: the memory behind has its bytes already
+ *   3  a dirty line left: its bytes went to the memory behind
+ *
+ * `address` is that of the first byte of the line that left; 0 for kinds 0 and 1. Lines that put each other out again
+ * and again, one of them coming for each that leaves, are lines of one set that are more than it has ways: in L1D three
+ * or more at a distance of 8,192 bytes or a multiple; in L2 five or more, the distance being 8,192 bytes in mode 1,
+ * 16,384 in 2, 32,768 in 3 and 65,536 in 7. examples/thrash.c shows both.
+ */
+typedef struct {
+    uint32_t address;
+    uint8_t kind;
+} c64x_left;
+
+/*
  * What a call returns.
- *   value    what an accepted read has read; 0 for every other call
- *   number   0, or why the call was refused: the table above
- *   server   who served an accepted read or write: 1 L1D, 2 SRAM, 3 the L2 cache, 4 external memory (also where the
- *            L2 cache had to fetch the line first); 0 for every other call
+ *   value             what an accepted read has read; 0 for every other call
+ *   number            0, or why the call was refused: the table above
+ *   server            who served an accepted read or write: 1 L1D, 2 SRAM, 3 the L2 cache, 4 external memory (also
+ *                     where the L2 cache had to fetch the line first); 0 for every other call
+ *   l1d_left          what the access put out of L1D, dirty or clean as it was when its way was chosen. Only a read of
+ *                     what L1D does not hold brings a line into it, and not while L1D is frozen: a hit, and every
+ *                     write, has kind 0
+ *   l2_left           what the access put out of the L2 cache, where that had to fetch a line, for a read or a write. A
+ *                     line that leaves L2 first takes in what is dirty of it in L1D, and is told dirty if it is so
+ *                     then: in the record before the access it may have been clean
+ *   external_read     how many bytes the access took out of external memory
+ *   external_written  how many bytes it put there
+ *
+ * Neither count is ever above 128. A line that L2 fetches is 128 bytes read, a dirty one that leaves it 128 written. In
+ * mode 0 nothing stands between L1D and external memory: a line that comes from there into L1D is 64 read, a dirty one
+ * that goes back 64 written. An access to external memory itself counts its own 1, 2, 4 or 8 bytes: with MAR bit 0, and
+ * in mode 0 a write of what L1D does not hold, or a read of it while L1D is frozen. What moves between L1D, SRAM and
+ * the L2 cache does not count.
+ *
+ * L1D lines that go because their L2 line is put out are told by neither `left`: no way was chosen for them. A refused
+ * call, and every call that is no read or write, has kind 0 in both and counts of 0, whatever it wrote back. The
+ * answers of a run carry none of this: to see what an access puts out, make it as a call of its own.
  */
 typedef struct {
     uint64_t value;
     uint8_t number;
     uint8_t server;
+    c64x_left l1d_left;
+    c64x_left l2_left;
+    uint32_t external_read;
+    uint32_t external_written;
 } c64x_answer;
 
 /*
@@ -243,10 +285,17 @@ C64X_ASSERT(offsetof(c64x_record, dirty_l1d) == 12, "c64x_record");
 C64X_ASSERT(offsetof(c64x_record, dirty_l2) == 16, "c64x_record");
 C64X_ASSERT(offsetof(c64x_record, l1d) == 20, "c64x_record");
 C64X_ASSERT(offsetof(c64x_record, l2) == 2580, "c64x_record");
-C64X_ASSERT(sizeof(c64x_answer) == 16, "c64x_answer");
+C64X_ASSERT(sizeof(c64x_left) == 8, "c64x_left");
+C64X_ASSERT(offsetof(c64x_left, address) == 0, "c64x_left");
+C64X_ASSERT(offsetof(c64x_left, kind) == 4, "c64x_left");
+C64X_ASSERT(sizeof(c64x_answer) == 40, "c64x_answer");
 C64X_ASSERT(offsetof(c64x_answer, value) == 0, "c64x_answer");
 C64X_ASSERT(offsetof(c64x_answer, number) == 8, "c64x_answer");
 C64X_ASSERT(offsetof(c64x_answer, server) == 9, "c64x_answer");
+C64X_ASSERT(offsetof(c64x_answer, l1d_left) == 12, "c64x_answer");
+C64X_ASSERT(offsetof(c64x_answer, l2_left) == 20, "c64x_answer");
+C64X_ASSERT(offsetof(c64x_answer, external_read) == 28, "c64x_answer");
+C64X_ASSERT(offsetof(c64x_answer, external_written) == 32, "c64x_answer");
 C64X_ASSERT(sizeof(c64x_ran) == 24, "c64x_ran");
 C64X_ASSERT(offsetof(c64x_ran, consumed) == 0, "c64x_ran");
 C64X_ASSERT(offsetof(c64x_ran, count) == 8, "c64x_ran");
@@ -278,7 +327,8 @@ c64x_answer c64x_fresh(c64x_record *record, C64X_LENT);
 
 /*
  * A load or a store by the CPU, of 1, 2, 4 or 8 bytes, the lowest byte first in memory. SRAM begins at address 0 and
- * external memory at 80000000h. Refused: 1 to 5, a write also 6.
+ * external memory at 80000000h. The answer tells which lines it put out, and what it moved from and to external memory:
+ * a program that thrashes a set shows there. Refused: 1 to 5, a write also 6.
  */
 c64x_answer c64x_read(c64x_record *record, uint32_t size, uint32_t address, C64X_LENT);
 c64x_answer c64x_write(c64x_record *record, uint32_t size, uint32_t address, uint64_t value, C64X_LENT);

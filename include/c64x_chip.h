@@ -47,6 +47,14 @@ enum {
     C64X_SERVER_EXTERNAL = 4
 };
 
+/* What an access put out of a cache: the kinds of c64x_left. */
+enum {
+    C64X_LEFT_NONE = 0,
+    C64X_LEFT_EMPTY = 1,
+    C64X_LEFT_CLEAN = 2,
+    C64X_LEFT_DIRTY = 3
+};
+
 /* What a number says. A number that no call gives back has a text too. */
 static inline const char *c64x_number_text(unsigned number)
 {
@@ -81,6 +89,18 @@ static inline const char *c64x_server_text(unsigned server)
     case C64X_SERVER_L2_CACHE: return "L2 cache";
     case C64X_SERVER_EXTERNAL: return "external memory";
     default: return "unknown server";
+    }
+}
+
+/* What a kind of c64x_left is called. */
+static inline const char *c64x_left_text(unsigned kind)
+{
+    switch (kind) {
+    case C64X_LEFT_NONE: return "none";
+    case C64X_LEFT_EMPTY: return "empty";
+    case C64X_LEFT_CLEAN: return "clean";
+    case C64X_LEFT_DIRTY: return "dirty";
+    default: return "unknown kind";
     }
 }
 
@@ -235,7 +255,10 @@ static inline uint8_t c64x_trace_put(c64x_trace_writer *writer, uint32_t code, u
     return put.number;
 }
 
-/* Answer number `index` of a run, counted from 0, out of the answer bytes. */
+/*
+ * Answer number `index` of a run, counted from 0, out of the answer bytes. They do not tell what an access put out and
+ * moved: both kinds are C64X_LEFT_NONE and both counts 0 here, whatever it did.
+ */
 static inline c64x_answer c64x_answer_at(const uint8_t *answers, size_t index)
 {
     const uint8_t *bytes = answers + index * C64X_ANSWER_BYTES;
@@ -243,6 +266,9 @@ static inline c64x_answer c64x_answer_at(const uint8_t *answers, size_t index)
     int i;
     answer.number = bytes[0];
     answer.server = bytes[1];
+    answer.l1d_left.address = answer.l2_left.address = 0;
+    answer.l1d_left.kind = answer.l2_left.kind = C64X_LEFT_NONE;
+    answer.external_read = answer.external_written = 0;
     answer.value = 0;
     for (i = C64X_ANSWER_BYTES - 1; i >= 2; i--)
         answer.value = answer.value << 8 | bytes[i];

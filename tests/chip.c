@@ -1,9 +1,10 @@
 /*
  * Every call of include/c64x_chip.h, on cases whose outcome the papers give: the worked example, C5, C6, C8, C9 and
  * C10, what each cache command does to a dirty line and L2's to lines that L1D alone holds, each number of the refusal
- * table with nothing changed, and short runs at the ends of each length; a frozen L1D; the trace of the worked example,
- * C3 and C4 are written through c64x_put_command; a load by hand; after these the counts of dirty lines. It is compiled
- * as C and as C++. Prints how many checks passed; exit status 1 where one failed.
+ * table with nothing changed, and short runs at the ends of each length; a frozen L1D; which lines accesses put out,
+ * and the bytes of external memory that they move; the trace of the worked example, C3 and C4 are written through
+ * c64x_put_command; a load by hand; after these the counts of dirty lines. It is compiled as C and as C++. Prints how
+ * many checks passed; exit status 1 where one failed.
  */
 #include <stdio.h>
 #include <string.h>
@@ -34,9 +35,21 @@ static int is(c64x_answer answer, unsigned number, unsigned server, uint64_t val
     return answer.number == number && answer.server == server && answer.value == value;
 }
 
+static int left_is(c64x_left left, unsigned kind, uint32_t address)
+{
+    return left.kind == kind && left.address == address;
+}
+
+/* No way was chosen in either cache, and so many bytes of external memory were read and written. */
+static int moved(c64x_answer answer, unsigned read, unsigned written)
+{
+    return left_is(answer.l1d_left, C64X_LEFT_NONE, 0) && left_is(answer.l2_left, C64X_LEFT_NONE, 0) &&
+           answer.external_read == read && answer.external_written == written;
+}
+
 static int done(c64x_answer answer)
 {
-    return is(answer, C64X_ACCEPTED, C64X_SERVER_NONE, 0);
+    return is(answer, C64X_ACCEPTED, C64X_SERVER_NONE, 0) && moved(answer, 0, 0);
 }
 
 /* The record says that so many lines are dirty in L1D and in L2, and so many are. */
@@ -79,7 +92,7 @@ static int kept(void)
 
 static int refused(c64x_answer answer, unsigned number)
 {
-    return is(answer, number, C64X_SERVER_NONE, 0) && kept();
+    return is(answer, number, C64X_SERVER_NONE, 0) && moved(answer, 0, 0) && kept();
 }
 
 /* The line of L1D, or of L2, with this address; NULL if there is none. */
@@ -330,6 +343,143 @@ static void frozen(void)
     CHECK(clean(l1d_line(0)) && chip.record.frozen == 0);
 }
 
+/* What an accepted read or write reports: what left L1D and L2, by kind and address, and the bytes of external memory
+   that were read and written. */
+static int reports(c64x_answer answer, unsigned l1d_kind, uint32_t l1d_address, unsigned l2_kind, uint32_t l2_address,
+                   unsigned read, unsigned written)
+{
+    return answer.number == C64X_ACCEPTED && left_is(answer.l1d_left, l1d_kind, l1d_address) &&
+           left_is(answer.l2_left, l2_kind, l2_address) && answer.external_read == read &&
+           answer.external_written == written;
+}
+
+/* A chip with MAR 128 on, in a mode. */
+static void cached(unsigned mode)
+{
+    start(sizeof l2);
+    CHECK(done(c64x_chip_change_mar(&chip, 128, 1)));
+    CHECK(done(c64x_chip_change_mode(&chip, mode)));
+}
+
+static c64x_answer read_word(uint32_t address)
+{
+    return c64x_chip_read(&chip, 4, address);
+}
+
+static c64x_answer write_word(uint32_t address)
+{
+    return c64x_chip_write(&chip, 4, address, 7);
+}
+
+/* A line comes from external memory, and is made dirty in L1D. */
+static void dirty_line(uint32_t address)
+{
+    CHECK(read_word(address).server == C64X_SERVER_EXTERNAL);
+    CHECK(moved(write_word(address), 0, 0) && dirty(l1d_line(address)));
+}
+
+/* Lines 8,192 bytes apart lie in one set of L1D, and in mode 1 in one of L2. */
+enum { APART = 8192 };
+
+/* Three lines of one L1D set in mode 0: empty ways, a clean line, a dirty one; hits; then lines of SRAM. */
+static void put_out_of_l1d(void)
+{
+    cached(0);
+    CHECK(reports(read_word(EXT), C64X_LEFT_EMPTY, 0, C64X_LEFT_NONE, 0, 64, 0));
+    CHECK(reports(read_word(EXT + APART + 4), C64X_LEFT_EMPTY, 0, C64X_LEFT_NONE, 0, 64, 0));
+    CHECK(reports(read_word(EXT + 2 * APART + 60), C64X_LEFT_CLEAN, EXT, C64X_LEFT_NONE, 0, 64, 0));
+    CHECK(moved(read_word(EXT + APART), 0, 0) && moved(write_word(EXT + APART + 60), 0, 0));
+    CHECK(reports(read_word(EXT), C64X_LEFT_CLEAN, EXT + 2 * APART, C64X_LEFT_NONE, 0, 64, 0));
+    CHECK(ext[APART + 60] == 0);
+    CHECK(reports(read_word(EXT + 2 * APART), C64X_LEFT_DIRTY, EXT + APART, C64X_LEFT_NONE, 0, 64, 64));
+    CHECK(ext[APART + 60] == 7);
+    /* a write that L1D does not hold goes to external memory itself, and L1D is left alone */
+    CHECK(moved(write_word(EXT + 3 * APART), 0, 4) && moved(c64x_chip_write(&chip, 1, EXT + 3 * APART, 1), 0, 1));
+    for (unsigned mode = 0; mode < 2; mode++) {
+        cached(mode);
+        CHECK(reports(read_word(64), C64X_LEFT_EMPTY, 0, C64X_LEFT_NONE, 0, 0, 0));
+        CHECK(moved(write_word(64), 0, 0) && moved(write_word(64 + APART), 0, 0));
+        CHECK(reports(read_word(64 + APART), C64X_LEFT_EMPTY, 0, C64X_LEFT_NONE, 0, 0, 0));
+        CHECK(reports(read_word(64 + 2 * APART), C64X_LEFT_DIRTY, 64, C64X_LEFT_NONE, 0, 0, 0) && l2[64] == 7);
+        CHECK(reports(read_word(EXT + 64), C64X_LEFT_CLEAN, 64 + APART, mode ? C64X_LEFT_EMPTY : C64X_LEFT_NONE, 0,
+                      mode ? 128 : 64, 0));
+    }
+}
+
+/* Lines of one L2 set in mode 1: empty ways; a line that is dirty by a half alone; by itself; one that is clean; a line
+   that leaves L1D and L2 at once. */
+static void put_out_of_l2(void)
+{
+    for (uint32_t half = 0; half <= 64; half += 64) {
+        cached(1);
+        CHECK(reports(read_word(EXT + half), C64X_LEFT_EMPTY, 0, C64X_LEFT_EMPTY, 0, 128, 0));
+        CHECK(moved(write_word(EXT + half), 0, 0));
+        CHECK(dirty(l1d_line(EXT + half)) && clean(l2_line(EXT)));
+        CHECK(reports(write_word(EXT + APART), C64X_LEFT_NONE, 0, C64X_LEFT_EMPTY, 0, 128, 0));
+        CHECK(moved(write_word(EXT + APART + 64), 0, 0));
+        CHECK(reports(read_word(EXT + 2 * APART), C64X_LEFT_EMPTY, 0, C64X_LEFT_EMPTY, 0, 128, 0));
+        CHECK(reports(write_word(EXT + 3 * APART), C64X_LEFT_NONE, 0, C64X_LEFT_EMPTY, 0, 128, 0));
+        CHECK(dirty(l1d_line(EXT + half)) && clean(l2_line(EXT)) && ext[half] == 0);
+        CHECK(reports(write_word(EXT + 4 * APART), C64X_LEFT_NONE, 0, C64X_LEFT_DIRTY, EXT, 128, 128));
+        CHECK(!l1d_line(EXT + half) && ext[half] == 7);
+        /* dirty by itself, then one that only was read */
+        CHECK(reports(write_word(EXT + 5 * APART), C64X_LEFT_NONE, 0, C64X_LEFT_DIRTY, EXT + APART, 128, 128));
+        CHECK(reports(write_word(EXT), C64X_LEFT_NONE, 0, C64X_LEFT_CLEAN, EXT + 2 * APART, 128, 0));
+        CHECK(!l1d_line(EXT + 2 * APART));
+    }
+    /* the dirty line that leaves L1D goes into L2, which is not external memory */
+    cached(1);
+    for (uint32_t i = 0; i < 2; i++)
+        dirty_line(EXT + i * APART);
+    CHECK(reports(read_word(EXT + 2 * APART), C64X_LEFT_DIRTY, EXT, C64X_LEFT_EMPTY, 0, 128, 0));
+    CHECK(reports(read_word(EXT), C64X_LEFT_DIRTY, EXT + APART, C64X_LEFT_NONE, 0, 0, 0));
+    CHECK(reports(read_word(EXT + 3 * APART), C64X_LEFT_CLEAN, EXT + 2 * APART, C64X_LEFT_EMPTY, 0, 128, 0));
+    /* five lines for four ways: the line that leaves L2 takes a clean half with it, which is told nowhere */
+    CHECK(reports(read_word(EXT + 4 * APART), C64X_LEFT_CLEAN, EXT, C64X_LEFT_DIRTY, EXT + APART, 128, 128));
+    CHECK(done(c64x_chip_l2_writeback_all(&chip)));
+    /* what a read puts out of L1D makes the L2 line dirty that it puts out: 128 bytes, once */
+    cached(1);
+    dirty_line(EXT);
+    for (uint32_t i = 1; i < 4; i++)
+        CHECK(reports(write_word(EXT + i * APART), C64X_LEFT_NONE, 0, C64X_LEFT_EMPTY, 0, 128, 0));
+    CHECK(reports(read_word(0), C64X_LEFT_EMPTY, 0, C64X_LEFT_NONE, 0, 0, 0));
+    CHECK(reports(read_word(EXT + 4 * APART), C64X_LEFT_DIRTY, EXT, C64X_LEFT_DIRTY, EXT, 128, 128) && ext[0] == 7);
+}
+
+/* A frozen L1D chooses no way; with MAR bit 0 neither cache does. A run's answers tell none of it. */
+static void put_out_of_neither(void)
+{
+    static const uint8_t trace[] = {0, 4, 0x80, 0x80, 0x80, 0x80, 0x08, 1, 1, 0x80, 0x80, 0x81, 0x80, 0x08, 5};
+    uint8_t answers[2 * C64X_ANSWER_BYTES];
+    for (unsigned mode = 0; mode < 2; mode++) {
+        start(sizeof l2);
+        CHECK(done(c64x_chip_change_mode(&chip, mode)));
+        for (uint32_t size = 1; size <= 8; size *= 2) {
+            CHECK(moved(c64x_chip_read(&chip, size, EXT + 8), size, 0));
+            CHECK(moved(c64x_chip_write(&chip, size, EXT + 8, 1), 0, size));
+        }
+        cached(mode);
+        for (uint32_t i = 0; i < 2; i++)
+            dirty_line(EXT + i * APART);
+        CHECK(done(c64x_chip_freeze(&chip, 1)));
+        CHECK(moved(read_word(EXT), 0, 0) && moved(write_word(EXT), 0, 0) && moved(read_word(64), 0, 0));
+        if (mode == 0) {
+            for (uint32_t size = 1; size <= 8; size *= 2)
+                CHECK(moved(c64x_chip_read(&chip, size, EXT + 2 * APART), size, 0));
+        } else {
+            for (uint32_t i = 2; i < 4; i++)
+                CHECK(reports(read_word(EXT + i * APART), C64X_LEFT_NONE, 0, C64X_LEFT_EMPTY, 0, 128, 0));
+            CHECK(moved(read_word(EXT + 2 * APART), 0, 0));
+            CHECK(reports(read_word(EXT + 4 * APART), C64X_LEFT_NONE, 0, C64X_LEFT_DIRTY, EXT, 128, 128));
+        }
+    }
+    cached(1);
+    c64x_ran ran = c64x_chip_run(&chip, trace, sizeof trace, answers, sizeof answers);
+    CHECK(ran.consumed == sizeof trace && ran.count == 2 && ran.stop == C64X_ACCEPTED);
+    CHECK(is(c64x_answer_at(answers, 0), 0, C64X_SERVER_EXTERNAL, 0) && moved(c64x_answer_at(answers, 0), 0, 0));
+    CHECK(is(c64x_answer_at(answers, 1), 0, C64X_SERVER_EXTERNAL, 0) && moved(c64x_answer_at(answers, 1), 0, 0));
+}
+
 /* Runs, views and calls of each number from 1 on: nothing changes. */
 static void refusals(void)
 {
@@ -409,7 +559,8 @@ static void refusals(void)
     /* Of a fresh start that is refused the record is known too. */
     chip.l1d_len = 16383;
     keep();
-    CHECK(is(c64x_chip_fresh(&chip), C64X_REFUSED_LENGTH, 0, 0));
+    c64x_answer answer = c64x_chip_fresh(&chip);
+    CHECK(is(answer, C64X_REFUSED_LENGTH, 0, 0) && moved(answer, 0, 0));
     CHECK(chip.record.l2len == 32768 && chip.record.extlen == 128 && chip.record.mode == 0);
     CHECK(!l1d_line(EXT) && !l2_line(EXT));
     memcpy(&chip.record, &chip_before.record, sizeof chip.record);
@@ -543,7 +694,7 @@ static void loads(void)
         CHECK(c64x_answer_at(replies, i).number == C64X_ACCEPTED);
 }
 
-/* Every number and server has a text of its own; those that do not exist share one. */
+/* Every number, server and kind has a text of its own; those that do not exist share one. */
 static void texts(void)
 {
     for (unsigned a = 0; a <= 13; a++)
@@ -556,10 +707,14 @@ static void texts(void)
     for (unsigned a = 0; a <= 5; a++)
         for (unsigned b = 0; b < a; b++)
             CHECK(strcmp(c64x_server_text(a), c64x_server_text(b)) != 0);
+    for (unsigned a = 0; a <= 4; a++)
+        for (unsigned b = 0; b < a; b++)
+            CHECK(strcmp(c64x_left_text(a), c64x_left_text(b)) != 0);
     for (unsigned a = 0; a <= 13; a++)
         CHECK(strcmp(c64x_number_text(a), c64x_number_text(C64X_REFUSED_ROOM)) != 0);
     CHECK(strcmp(c64x_number_text(13), c64x_number_text(255)) == 0);
     CHECK(strcmp(c64x_server_text(5), c64x_server_text(255)) == 0);
+    CHECK(strcmp(c64x_left_text(4), c64x_left_text(255)) == 0);
 }
 
 int main(void)
@@ -569,6 +724,9 @@ int main(void)
     commands();
     l2_commands();
     frozen();
+    put_out_of_l1d();
+    put_out_of_l2();
+    put_out_of_neither();
     refusals();
     short_runs();
     writing();
