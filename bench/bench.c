@@ -157,6 +157,14 @@ static int same_answer(c64x_answer x, struct answer y)
     return x.number == y.number && x.server == y.server && x.value == y.value;
 }
 
+/* What the answer reports beside them (paper 02, U2). */
+static int same_report(c64x_answer x, const struct report *t)
+{
+    return x.l1d_left.kind == t->l1d_left.kind && x.l1d_left.address == t->l1d_left.address
+        && x.l2_left.kind == t->l2_left.kind && x.l2_left.address == t->l2_left.address
+        && x.external_read == t->external_read && x.external_written == t->external_written;
+}
+
 static int same_line(const struct line *x, const struct line *y)
 {
     return x->valid == y->valid && x->dirty == y->dirty && x->address == y->address;
@@ -186,6 +194,13 @@ static void differ(const char *where, const char *what)
     differences++;
 }
 
+/* What a direct call gave back on each side. */
+static void compare_call(const char *where, c64x_answer x, struct answer y, const struct report *t)
+{
+    if (!same_answer(x, y)) differ(where, "number, server or value");
+    if (!same_report(x, t)) differ(where, "lines put out, or bytes of external memory");
+}
+
 static void compare(const char *where)
 {
     if (!same_record(&lib.r.model, &c.r.model)) differ(where, "record");
@@ -208,8 +223,10 @@ static void fresh(const char *where, size_t l, size_t e)
     lend(&lib, l, e);
     lend(&c, l, e);
     for (size_t i = 0; i < e && i < 1u << 20; i++) lib.m.ext[i] = c.m.ext[i] = (uint8_t)below(256);
+    static const struct report none;
     c64x_answer x = c64x_fresh(&lib.r.library, LENT(lib.m));
-    if (x.number != model_fresh(&c.r.model, &c.m)) differ(where, "number of a fresh start");
+    struct answer y = { model_fresh(&c.r.model, &c.m), 0, 0 };
+    compare_call(where, x, y, &none);
 }
 
 static void give_answers(size_t n)
@@ -337,8 +354,9 @@ static void same_checks(size_t *refused, size_t *passed)
         damage(&bad.model);
         memcpy(&passed_on, &bad, sizeof bad);
         c64x_answer x = library_call(&passed_on, &lib.m, &q);
-        struct answer y = model_call(&bad.model, &c.m, &q);
-        if (!same_answer(x, y)) differ("damaged record", "number, server or value");
+        struct report t;
+        struct answer y = model_call(&bad.model, &c.m, &q, &t);
+        compare_call("damaged record", x, y, &t);
         if (memcmp(&passed_on, &bad, sizeof bad) != 0) differ("damaged record", "record");
         ++*(y.number == 3 ? passed : refused);
     }
@@ -346,7 +364,7 @@ static void same_checks(size_t *refused, size_t *passed)
 
 static void same_calls(struct trace *t)
 {
-    size_t refused = 0, passed = 0;
+    size_t refused = 0, passed = 0, put_out[2][4] = { { 0 } };
     static const size_t ext[6] = { 128, 4096, 65536, 262144, 16777216 + 65536, 131072 };
     for (int round = 0; round < 160; round++) {
         fresh("random", 32768 * (1 + below(8)), ext[below(round % 16 ? 4 : 6)]);
@@ -366,20 +384,24 @@ static void same_calls(struct trace *t)
         }
         /* direct calls */
         lib.answers_len = c.answers_len = 0;
-        for (int i = 0; i < 60; i++) {
+        for (int i = 0; i < 200; i++) {
             struct trace one = { t->bytes, 0, 0 };
             some_command(&one);
             struct command q = { one.bytes[0], 0, 0, 0 };
             q.first = below(20) ? 1u << below(4) : below(200);
             q.second = some_address();
+            if (q.code < 2 && q.first && below(16)) q.second -= q.second % q.first;
             if (q.code >= 4 && q.code <= 8) q.first = some_address() & ~3u, q.second = below(300);
             if (q.code == 10) q.first = below(9);
             if (q.code == 11) q.first = 127 + below(4), q.second = below(3);
             if (q.code == 12) q.first = below(3);
             if (q.code == 1) q.value = below(256);
             c64x_answer x = library_call(&lib.r, &lib.m, &q);
-            struct answer y = model_call(&c.r.model, &c.m, &q);
-            if (!same_answer(x, y)) differ("direct call", "number, server or value");
+            struct report t;
+            struct answer y = model_call(&c.r.model, &c.m, &q, &t);
+            compare_call("direct call", x, y, &t);
+            put_out[0][t.l1d_left.kind]++;
+            put_out[1][t.l2_left.kind]++;
             uint32_t seen_at = some_address() & ~(below(8) ? 63u : 0);
             size_t length = 63 + below(3);
             uint8_t seen[65] = { 0 }, seen_by_c[65] = { 0 };
@@ -396,6 +418,8 @@ static void same_calls(struct trace *t)
     }
     printf("random traces and calls, and %zu damaged records (%zu still well formed): the same on both sides\n",
            refused + passed, passed);
+    printf("of the calls L1D put a clean line out in %zu, a dirty one in %zu, L2 in %zu and %zu: also the same\n",
+           put_out[0][2], put_out[0][3], put_out[1][2], put_out[1][3]);
 }
 
 /* ---- the classes of a trace run */
@@ -701,6 +725,9 @@ static void fill(struct trace *t, size_t l, size_t e, uint32_t mode)
     play("full record", t);
 }
 
+/* What the call that was measured last reported the first time. */
+static struct report told;
+
 /* A call from the state as it stands, again and again: the record is put back each time, outside the time taken. */
 static void direct(const char *name, uint8_t code, uint32_t first, uint32_t second, uint64_t value)
 {
@@ -715,9 +742,11 @@ static void direct(const char *name, uint8_t code, uint32_t first, uint32_t seco
         took(&library_ns, at);
         c.r = kept;
         at = now();
-        struct answer y = model_call(&c.r.model, &c.m, &q);
+        struct report t;
+        struct answer y = model_call(&c.r.model, &c.m, &q, &t);
         took(&c_ns, at);
-        if (!same_answer(x, y)) differ(name, "number, server or value");
+        compare_call(name, x, y, &t);
+        if (i == 0) told = t;
         if (i == 0 || i == CALLS - 1) compare(name);
     }
     lib.r = kept;
@@ -798,6 +827,51 @@ static void full_l1d(struct trace *t)
         }
 }
 
+/* A set of L1D and, but in mode 0, one of L2 are full. The line at 80000000h is the next to leave either. `l1d` says
+   whether it is dirty in L1D, `l2` whether it is so in L2. */
+static void full_sets(struct trace *t, uint32_t mode, int l1d, int l2)
+{
+    start(t, 1, mode);
+    for (uint32_t a = 0; mode && a < 4 * 8192; a += 8192) put(t, l2 ? 1 : 0, 4, EXTERNAL + a, 7);
+    for (uint32_t a = 0; a < 2 * 8192; a += 8192) {
+        put(t, 0, 4, EXTERNAL + a, 0);
+        if (l1d) put(t, 1, 4, EXTERNAL + a + 8, 9);
+    }
+    /* the two lines that L1D does not hold are used once more */
+    for (uint32_t a = 2 * 8192; mode && a < 4 * 8192; a += 8192) put(t, 1, 4, EXTERNAL + a, 7);
+    play("full sets", t);
+    lib.answers_len = c.answers_len = 0;
+}
+
+/* An access to another line of these sets, which has to put out what its name says. */
+static void put_out(const char *name, uint8_t code, uint8_t l1d, uint8_t l2)
+{
+    direct(name, code, 4, EXTERNAL + 0x50000, 0);
+    if (told.l1d_left.kind != l1d || told.l2_left.kind != l2) differ(name, "not what was to be put out");
+}
+
+static void putting_out(struct trace *t)
+{
+    enum { NONE, EMPTY, CLEAN, DIRTY };
+    head("direct access that puts lines out, few lines (L = 65,536)");
+    full_sets(t, 0, 0, 0);
+    put_out("read, mode 0, a clean line leaves L1D", 0, CLEAN, NONE);
+    full_sets(t, 0, 1, 0);
+    put_out("read, mode 0, a dirty line leaves L1D", 0, DIRTY, NONE);
+    full_sets(t, 1, 0, 0);
+    put_out("read, mode 1, a clean line leaves L1D and L2", 0, CLEAN, CLEAN);
+    put_out("write, mode 1, a clean line leaves L2", 1, NONE, CLEAN);
+    full_sets(t, 1, 1, 0);
+    put_out("read, mode 1, a dirty line leaves L1D, and L2, where it was clean", 0, DIRTY, DIRTY);
+    put_out("write, mode 1, a line leaves L2 with a half that is dirty in L1D", 1, NONE, DIRTY);
+    full_sets(t, 1, 1, 1);
+    put_out("read, mode 1, a dirty line leaves L1D and L2", 0, DIRTY, DIRTY);
+    start(t, 1, 1);
+    play("empty sets", t);
+    lib.answers_len = c.answers_len = 0;
+    put_out("read, mode 1, into ways that are empty", 0, EMPTY, EMPTY);
+}
+
 static void directs(struct trace *t)
 {
     head("direct call, few lines (L = 65,536, mode 1)");
@@ -812,6 +886,8 @@ static void directs(struct trace *t)
 
     head("direct call, all lines of L1D dirty (L = 65,536)");
     full_l1d(t);
+
+    putting_out(t);
 
     head("the check of the whole record, and little more");
     static const uint32_t modes[5] = { 0, 1, 2, 3, 7 };

@@ -7,6 +7,9 @@ enum { L1D_LINE = 64, L1D_SETS = 128, L1D_WAYS = 2, L1D_BYTES = 16384, L2_LINE =
 #define EXTERNAL 0x80000000u
 #define MAR129 0x81000000u
 
+/* Made part of its callers, so that a run, which reports nothing, has code of its own for it. */
+#define PART static inline __attribute__((always_inline))
+
 /* What a call works on: the record, the memories, and what follows from L and the mode. */
 struct machine {
     struct record *r;
@@ -80,6 +83,22 @@ static inline void make_dirty(struct line *x, uint32_t *count)
 {
     *count += !x->dirty;
     x->dirty = 1;
+}
+
+/* What is told of a way that is chosen (02, U2). The report is NULL in a run, whose answers have none. */
+static inline struct left left_of(const struct line *x)
+{
+    return (struct left){ x->address, x->valid ? 2 + x->dirty : 1 };
+}
+
+static inline void bytes_read(struct report *t, uint32_t bytes)
+{
+    if (t) t->external_read += bytes;
+}
+
+static inline void bytes_written(struct report *t, uint32_t bytes)
+{
+    if (t) t->external_written += bytes;
 }
 
 static inline int l1d_find(const struct l1d_set *s, uint32_t address)
@@ -322,8 +341,9 @@ static inline void store(uint8_t *p, uint32_t size, uint64_t value)
 
 /* ---- lines on their way */
 
-/* A line of L1D goes to its home; it lies inside a valid L2 line where L2 is the home. */
-static inline void send_home(struct machine *k, const struct l1d_set *s, int w)
+/* A line of L1D goes to its home; it lies inside a valid L2 line where L2 is the home. How many bytes external memory
+   got. */
+static inline uint32_t send_home(struct machine *k, const struct l1d_set *s, int w)
 {
     uint32_t a = s->lines[w].address;
     const uint8_t *from = l1d_data(k, s, w);
@@ -331,12 +351,14 @@ static inline void send_home(struct machine *k, const struct l1d_set *s, int w)
         memcpy(k->l2 + a, from, L1D_LINE);
     } else if (k->sets == 0) {
         memcpy(k->ext + (a - EXTERNAL), from, L1D_LINE);
+        return L1D_LINE;
     } else {
         struct l2_set *u = l2_set_of(k, a);
         int v = l2_find(u, a & ~(uint32_t)(L2_LINE - 1));
         memcpy(l2_data(k, u, v) + a % L2_LINE, from, L1D_LINE);
         make_dirty(&u->lines[v], &k->r->dirty_l2);
     }
+    return 0;
 }
 
 /* The half at address a leaves L1D; a dirty one is taken into the L2 line x, whose bytes stand at data (NULL: it is
@@ -361,8 +383,9 @@ static inline void write_out(struct machine *k, const struct line *x, const uint
     memcpy(k->ext + (x->address - EXTERNAL), data, L2_LINE);
 }
 
-/* The bytes of an address at its home; L2 gets the line where it is the home. */
-static inline uint8_t *reach_home(struct machine *k, uint32_t a, int write, uint8_t *server)
+/* So many bytes of an address at its home; L2 gets the line where it is the home. */
+static inline uint8_t *reach_home(struct machine *k, uint32_t a, int write, uint32_t bytes, uint8_t *server,
+                                  struct report *t)
 {
     if (a < EXTERNAL) {
         *server = 2;
@@ -370,6 +393,8 @@ static inline uint8_t *reach_home(struct machine *k, uint32_t a, int write, uint
     }
     if (k->sets == 0) {
         *server = 4;
+        if (write) bytes_written(t, bytes);
+        else bytes_read(t, bytes);
         return k->ext + (a - EXTERNAL);
     }
     uint32_t b = a & ~(uint32_t)(L2_LINE - 1);
@@ -387,12 +412,15 @@ static inline uint8_t *reach_home(struct machine *k, uint32_t a, int write, uint
         if (x->valid) {
             take_half(k, x->address, x, data);
             take_half(k, x->address + L1D_LINE, x, data);
-            if (x->dirty) {
-                write_out(k, x, data);
-                k->r->dirty_l2--;
-            }
+        }
+        if (t) t->l2_left = left_of(x);
+        if (x->dirty) {
+            write_out(k, x, data);
+            bytes_written(t, L2_LINE);
+            k->r->dirty_l2--;
         }
         memcpy(data, k->ext + (b - EXTERNAL), L2_LINE);
+        bytes_read(t, L2_LINE);
         fill(x, b);
     }
     l2_use(u, v);
@@ -407,10 +435,11 @@ static inline int cached(const struct record *r, uint32_t address)
     return address < EXTERNAL || mar_of(r, address);
 }
 
-static inline void read(struct machine *k, uint32_t size, uint32_t a, struct answer *q)
+PART void read(struct machine *k, uint32_t size, uint32_t a, struct answer *q, struct report *t)
 {
     if (!cached(k->r, a)) {
         q->server = 4;
+        bytes_read(t, size);
         q->value = load(k->ext + (a - EXTERNAL), size);
         return;
     }
@@ -422,33 +451,35 @@ static inline void read(struct machine *k, uint32_t size, uint32_t a, struct ans
         if (!k->r->frozen) l1d_use(s, w);
     } else if (k->r->frozen) {
         /* just its bytes, from the home: L1D stays as it is (02, U11) */
-        q->value = load(reach_home(k, a, 0, &q->server), size);
+        q->value = load(reach_home(k, a, 0, size, &q->server, t), size);
         return;
     } else {
         w = l1d_victim(s);
+        if (t) t->l1d_left = left_of(&s->lines[w]);
         if (s->lines[w].dirty) {
-            send_home(k, s, w);
+            bytes_written(t, send_home(k, s, w));
             k->r->dirty_l1d--;
         }
         empty(&s->lines[w]);
-        memcpy(l1d_data(k, s, w), reach_home(k, b, 0, &q->server), L1D_LINE);
+        memcpy(l1d_data(k, s, w), reach_home(k, b, 0, L1D_LINE, &q->server, t), L1D_LINE);
         fill(&s->lines[w], b);
         l1d_use(s, w);
     }
     q->value = load(l1d_data(k, s, w) + a % L1D_LINE, size);
 }
 
-static inline void write(struct machine *k, uint32_t size, uint32_t a, uint64_t value, struct answer *q)
+PART void write(struct machine *k, uint32_t size, uint32_t a, uint64_t value, struct answer *q, struct report *t)
 {
     if (!cached(k->r, a)) {
         q->server = 4;
+        bytes_written(t, size);
         store(k->ext + (a - EXTERNAL), size, value);
         return;
     }
     struct l1d_set *s = l1d_set_of(k, a);
     int w = l1d_find(s, a & ~(uint32_t)(L1D_LINE - 1));
     if (w < 0) {
-        store(reach_home(k, a, 1, &q->server), size, value);
+        store(reach_home(k, a, 1, size, &q->server, t), size, value);
         return;
     }
     q->server = 1;
@@ -579,17 +610,17 @@ static void command(struct machine *k, const struct command *c, struct answer *q
     }
 }
 
-static inline void carry_out(struct machine *k, const struct command *c, struct answer *q)
+PART void carry_out(struct machine *k, const struct command *c, struct answer *q, struct report *t)
 {
     q->number = 0;
     q->server = 0;
     q->value = 0;
     if (c->code == 0) {
         q->number = access_due(k, c->first, c->second, 0);
-        if (!q->number) read(k, c->first, c->second, q);
+        if (!q->number) read(k, c->first, c->second, q, t);
     } else if (c->code == 1) {
         q->number = access_due(k, c->first, c->second, c->value);
-        if (!q->number) write(k, c->first, c->second, c->value, q);
+        if (!q->number) write(k, c->first, c->second, c->value, q, t);
     } else {
         command(k, c, q);
     }
@@ -608,12 +639,13 @@ uint8_t model_fresh(struct record *r, const struct lent *m)
     return 0;
 }
 
-struct answer model_call(struct record *r, const struct lent *m, const struct command *c)
+struct answer model_call(struct record *r, const struct lent *m, const struct command *c, struct report *t)
 {
     struct answer q = { lent_due(r, m), 0, 0 };
+    *t = (struct report){ 0 };
     if (q.number) return q;
     struct machine k = machine_of(r, m);
-    carry_out(&k, c, &q);
+    carry_out(&k, c, &q, t);
     return q;
 }
 
@@ -685,7 +717,7 @@ struct run_result model_run(struct record *r, const struct lent *m, const uint8_
             break;
         }
         struct answer q;
-        carry_out(&k, &c, &q);
+        carry_out(&k, &c, &q, NULL);
         answers[0] = q.number;
         answers[1] = q.server;
         memcpy(answers + 2, &q.value, 8);

@@ -63,6 +63,20 @@ struct answer {
     uint64_t value;
 };
 
+/* What left the way that a cache chose: 0 none was chosen, 1 it was empty, 2 a clean line, 3 a dirty one. */
+struct left {
+    uint32_t address;
+    uint8_t kind;
+};
+
+/* What an access reports beside its answer (paper 02, U2); a run's answers have none of it. */
+struct report {
+    struct left l1d_left;
+    struct left l2_left;
+    uint32_t external_read;
+    uint32_t external_written;
+};
+
 struct run_result {
     size_t consumed;
     size_t count;
@@ -73,8 +87,8 @@ int model_well_formed(const struct record *r);
 
 uint8_t model_fresh(struct record *r, const struct lent *m);
 
-/* Any command as a direct call, with all its checks. */
-struct answer model_call(struct record *r, const struct lent *m, const struct command *c);
+/* Any command as a direct call, with all its checks; what it reports goes to `t`. */
+struct answer model_call(struct record *r, const struct lent *m, const struct command *c, struct report *t);
 
 struct run_result model_run(struct record *r, const struct lent *m, const uint8_t *trace, size_t trace_len,
                             uint8_t *answers, size_t answers_len);
