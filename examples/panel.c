@@ -1,7 +1,7 @@
 /*
- * What the repair panel shows: a trace is run from a fresh start, and each
- * answer is told in words, then whether L1D is frozen, what the two caches hold and how
- * many of their lines are dirty.
+ * What the repair panel shows: a trace is run from a fresh start, and each answer is told in words, that of an access
+ * with the lines that it put out and the bytes of external memory that it moved; at the end stands what all of them
+ * did. Then come whether L1D is frozen, what the two caches hold and how many of their lines are dirty.
  *
  *   panel [TRACE]           TRACE is a file; without it a small trace of its own is run
  *   panel --load SEED N     with both MAR bits on, the load of this seed and N accesses
@@ -27,6 +27,21 @@ static c64x_chip chip;
 static uint8_t trace[TRACE_BYTES + 1];
 /* A command has a byte at least, so these are enough. */
 static uint8_t answers[TRACE_BYTES * C64X_ANSWER_BYTES];
+
+/* A second chip goes through the trace call by call: a read or write that is a call of its own tells what it put out,
+   which the answers of a run do not. */
+static uint8_t own_l1d[C64X_L1D_BYTES];
+static uint8_t own_l2[L2_BYTES];
+static uint8_t own_ext[EXTERNAL_BYTES];
+static c64x_chip own_chip;
+
+/* What all accesses put out of each cache, clean and dirty, and moved. */
+struct totals {
+    unsigned long l1d[C64X_LEFT_DIRTY + 1];
+    unsigned long l2[C64X_LEFT_DIRTY + 1];
+    unsigned long read;
+    unsigned long written;
+};
 
 /* MAR 128 on; the word at 80000000h is written, and read twice. */
 static const uint8_t own_trace[] = {
@@ -63,7 +78,55 @@ static size_t command_length(size_t at)
     return end - at;
 }
 
-static void show_answers(size_t count)
+/* The number of a command that begins at `at`, which goes behind it. */
+static uint64_t number_at(size_t *at)
+{
+    uint64_t number = 0;
+    int shift = 0;
+    do {
+        number |= (uint64_t)(trace[*at] & 0x7F) << shift;
+        shift += 7;
+    } while (trace[(*at)++] & 0x80);
+    return number;
+}
+
+/* The command at `at` on the second chip: a read or write as a call of its own, any other as a run of one command. */
+static c64x_answer call_at(size_t at)
+{
+    uint8_t one[C64X_ANSWER_BYTES];
+    size_t number = at + 1;
+    if (trace[at] == C64X_CODE_READ || trace[at] == C64X_CODE_WRITE) {
+        uint32_t size = (uint32_t)number_at(&number);
+        uint32_t address = (uint32_t)number_at(&number);
+        return trace[at] == C64X_CODE_READ ? c64x_chip_read(&own_chip, size, address)
+                                           : c64x_chip_write(&own_chip, size, address, number_at(&number));
+    }
+    c64x_chip_run(&own_chip, trace + at, command_length(at), one, sizeof one);
+    return c64x_answer_at(one, 0);
+}
+
+static void show_left(const char *cache, c64x_left left)
+{
+    if (left.kind == C64X_LEFT_CLEAN || left.kind == C64X_LEFT_DIRTY)
+        printf("; %s line %08lX left %s", cache, (unsigned long)left.address, c64x_left_text(left.kind));
+}
+
+/* What an access put out and moved; nothing where it did neither. */
+static void show_report(c64x_answer answer, struct totals *totals)
+{
+    totals->l1d[answer.l1d_left.kind]++;
+    totals->l2[answer.l2_left.kind]++;
+    totals->read += answer.external_read;
+    totals->written += answer.external_written;
+    show_left("L1D", answer.l1d_left);
+    show_left("L2", answer.l2_left);
+    if (answer.external_read != 0)
+        printf("; %lu external bytes read", (unsigned long)answer.external_read);
+    if (answer.external_written != 0)
+        printf("; %lu external bytes written", (unsigned long)answer.external_written);
+}
+
+static void show_answers(size_t count, struct totals *totals)
 {
     size_t at = 0;
     for (size_t i = 0; i < count; i++) {
@@ -73,9 +136,17 @@ static void show_answers(size_t count)
             printf(", by %s", c64x_server_text(answer.server));
         if (trace[at] == 0 && answer.number == C64X_ACCEPTED)
             printf(", value %llu", (unsigned long long)answer.value);
+        show_report(call_at(at), totals);
         printf("\n");
         at += command_length(at);
     }
+}
+
+static void show_totals(const struct totals *totals)
+{
+    printf("put out of L1D: %lu clean, %lu dirty; of L2: %lu clean, %lu dirty; external bytes read %lu, written %lu\n",
+           totals->l1d[C64X_LEFT_CLEAN], totals->l1d[C64X_LEFT_DIRTY], totals->l2[C64X_LEFT_CLEAN],
+           totals->l2[C64X_LEFT_DIRTY], totals->read, totals->written);
 }
 
 static void show_lines(const char *cache, const c64x_line *lines, size_t count, size_t *held)
@@ -166,6 +237,16 @@ static size_t make_load(const char *seed, const char *accesses)
     return writer.at + load.length;
 }
 
+static void start(c64x_chip *fresh, uint8_t *its_l1d, uint8_t *its_l2, uint8_t *its_ext)
+{
+    c64x_answer started =
+        c64x_chip_start(fresh, its_l1d, C64X_L1D_BYTES, its_l2, L2_BYTES, its_ext, EXTERNAL_BYTES);
+    if (started.number != C64X_ACCEPTED) {
+        fprintf(stderr, "panel: %s\n", c64x_number_text(started.number));
+        exit(1);
+    }
+}
+
 int main(int argc, char **argv)
 {
     int load = argc == 4 && strcmp(argv[1], "--load") == 0;
@@ -182,14 +263,14 @@ int main(int argc, char **argv)
         length = sizeof own_trace;
         memcpy(trace, own_trace, length);
     }
-    c64x_answer started = c64x_chip_start(&chip, l1d, sizeof l1d, l2, sizeof l2, ext, sizeof ext);
-    if (started.number != C64X_ACCEPTED) {
-        fprintf(stderr, "panel: %s\n", c64x_number_text(started.number));
-        return 1;
-    }
+    struct totals totals;
+    memset(&totals, 0, sizeof totals);
+    start(&chip, l1d, l2, ext);
+    start(&own_chip, own_l1d, own_l2, own_ext);
     c64x_ran run = c64x_chip_run(&chip, trace, length, answers, sizeof answers);
-    show_answers(run.count);
+    show_answers(run.count, &totals);
     printf("%s after %zu of %zu bytes\n", run.stop == 0 ? "end" : c64x_number_text(run.stop), run.consumed, length);
+    show_totals(&totals);
     show_caches(&chip.record);
     show_behind();
     return run.stop == 0 ? 0 : 1;

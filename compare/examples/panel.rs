@@ -7,7 +7,7 @@ use oracle::gen::{code, Setup};
 use oracle::load::load_trace;
 use oracle::record::Line;
 use oracle::trace::{decode, ANSWER_BYTES};
-use oracle::Command;
+use oracle::{Command, Left};
 
 const COMMANDS: [&str; 13] = [
     "read",
@@ -84,8 +84,38 @@ fn main() -> ExitCode {
     }
 }
 
+/// The line that left a cache.
+fn left(cache: &str, left: Left) -> String {
+    match left {
+        Left::None | Left::Empty => String::new(),
+        Left::Clean { address } => format!("; {cache} line {address:08X} left clean"),
+        Left::Dirty { address } => format!("; {cache} line {address:08X} left dirty"),
+    }
+}
+
+/// How many clean lines and how many dirty ones left a cache.
+#[derive(Default)]
+struct Lefts {
+    clean: u32,
+    dirty: u32,
+}
+
+impl Lefts {
+    fn count(&mut self, left: Left) {
+        match left {
+            Left::None | Left::Empty => {}
+            Left::Clean { .. } => self.clean += 1,
+            Left::Dirty { .. } => self.dirty += 1,
+        }
+    }
+}
+
 fn panel(trace: &[u8]) -> String {
     let mut setup = Setup::fresh(65_536, 65_536);
+    // The same commands as single calls, which report what an access puts out.
+    let mut single = setup.clone();
+    let (mut l1d_lefts, mut l2_lefts) = (Lefts::default(), Lefts::default());
+    let (mut read, mut written) = (0, 0);
     let mut answers = vec![0; trace.len() * ANSWER_BYTES];
     let run = setup.run(trace, &mut answers);
     let mut text = String::new();
@@ -103,10 +133,28 @@ fn panel(trace: &[u8]) -> String {
             let value = u64::from_le_bytes(answer[2..].try_into().expect("eight bytes"));
             text += &format!(", value {value}");
         }
+        let report = single.reply(&command).report;
+        text += &left("L1D", report.l1d_left);
+        text += &left("L2", report.l2_left);
+        for (bytes, what) in [(report.external_read, "read"), (report.external_written, "written")]
+        {
+            if bytes != 0 {
+                text += &format!("; {bytes} external bytes {what}");
+            }
+        }
+        l1d_lefts.count(report.l1d_left);
+        l2_lefts.count(report.l2_left);
+        read += report.external_read;
+        written += report.external_written;
         text += "\n";
     }
     let stop = if run.stop == 0 { "end" } else { refusal(run.stop) };
     text += &format!("{stop} after {} of {} bytes\n", run.consumed, trace.len());
+    text += &format!(
+        "put out of L1D: {} clean, {} dirty; of L2: {} clean, {} dirty; external bytes read {read}, \
+         written {written}\n",
+        l1d_lefts.clean, l1d_lefts.dirty, l2_lefts.clean, l2_lefts.dirty
+    );
     let on = |bit: u32| if bit == 1 { "on" } else { "off" };
     let record = &setup.record;
     text += &format!(
