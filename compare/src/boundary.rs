@@ -1,12 +1,14 @@
 //! The calls of include/c64x.h: the structs in C's layout, the declarations,
 //! and a safe function for each call.
 
+use std::fmt;
 use std::mem::{align_of, offset_of, size_of};
 use std::ops::{Deref, DerefMut};
 
 use oracle::gen::Rng;
+use oracle::geometry::{L1d, L2};
 use oracle::record::{L1dSet, L2Set, Line, Record};
-use oracle::Command;
+use oracle::{Command, Left, Report};
 
 /// The structs name their padding, so that it can be filled and compared.
 /// Equality is that of the fields: an accepted call may change padding.
@@ -49,12 +51,103 @@ pub struct CRecord {
     pub l2: [CL2Set; 512],
 }
 
+/// What left a way that was chosen: by kind 0 to 3, none was chosen, it was empty, a clean
+/// line, a dirty one.
+#[repr(C)]
+#[derive(Clone, Copy, PartialEq, Eq)]
+pub struct CLeft {
+    pub address: u32,
+    pub kind: u8,
+}
+
+impl CLeft {
+    pub const NONE: CLeft = CLeft { address: 0, kind: 0 };
+    pub const EMPTY: CLeft = CLeft { address: 0, kind: 1 };
+
+    pub fn clean(address: u32) -> CLeft {
+        CLeft { address, kind: 2 }
+    }
+
+    pub fn dirty(address: u32) -> CLeft {
+        CLeft { address, kind: 3 }
+    }
+
+    pub fn is_line(&self) -> bool {
+        self.kind >= 2
+    }
+}
+
+impl fmt::Debug for CLeft {
+    fn fmt(&self, out: &mut fmt::Formatter) -> fmt::Result {
+        match (self.kind, self.address) {
+            (0, 0) => write!(out, "none"),
+            (1, 0) => write!(out, "empty"),
+            (0, address) => write!(out, "none {address:#x}"),
+            (1, address) => write!(out, "empty {address:#x}"),
+            (2, address) => write!(out, "clean {address:#x}"),
+            (3, address) => write!(out, "dirty {address:#x}"),
+            (kind, address) => write!(out, "kind {kind} {address:#x}"),
+        }
+    }
+}
+
 #[repr(C)]
 #[derive(Clone, Copy)]
 pub struct CAnswer {
     pub value: u64,
     pub number: u8,
     pub server: u8,
+    pub l1d_left: CLeft,
+    pub l2_left: CLeft,
+    pub external_read: u32,
+    pub external_written: u32,
+}
+
+impl CAnswer {
+    /// A refusal, or with 0 a call that is no access.
+    pub fn refused(number: u8) -> CAnswer {
+        let left = CLeft::NONE;
+        CAnswer {
+            value: 0,
+            number,
+            server: 0,
+            l1d_left: left,
+            l2_left: left,
+            external_read: 0,
+            external_written: 0,
+        }
+    }
+
+    /// What the answer reports beside number, server and value.
+    pub fn report(&self) -> CReport {
+        CReport {
+            l1d_left: self.l1d_left,
+            l2_left: self.l2_left,
+            read: self.external_read,
+            written: self.external_written,
+        }
+    }
+}
+
+/// The report of an access, in C's numbers.
+#[derive(Clone, Copy, PartialEq, Eq)]
+pub struct CReport {
+    pub l1d_left: CLeft,
+    pub l2_left: CLeft,
+    pub read: u32,
+    pub written: u32,
+}
+
+impl CReport {
+    pub const NONE: CReport =
+        CReport { l1d_left: CLeft::NONE, l2_left: CLeft::NONE, read: 0, written: 0 };
+}
+
+impl fmt::Debug for CReport {
+    fn fmt(&self, out: &mut fmt::Formatter) -> fmt::Result {
+        let CReport { l1d_left, l2_left, read, written } = self;
+        write!(out, "L1D {l1d_left:?}, L2 {l2_left:?}, read {read}, written {written}")
+    }
 }
 
 #[repr(C)]
@@ -93,8 +186,13 @@ const _: () = {
     assert!(offset_of!(CRecord, frozen) == 11);
     assert!(offset_of!(CRecord, dirty_l1d) == 12 && offset_of!(CRecord, dirty_l2) == 16);
     assert!(offset_of!(CRecord, l1d) == 20 && offset_of!(CRecord, l2) == 2_580);
-    assert!(size_of::<CAnswer>() == 16);
+    assert!(size_of::<CLeft>() == 8 && align_of::<CLeft>() == 4);
+    assert!(offset_of!(CLeft, address) == 0 && offset_of!(CLeft, kind) == 4);
+    assert!(size_of::<CAnswer>() == 40 && offset_of!(CAnswer, value) == 0);
     assert!(offset_of!(CAnswer, number) == 8 && offset_of!(CAnswer, server) == 9);
+    assert!(offset_of!(CAnswer, l1d_left) == 12 && offset_of!(CAnswer, l2_left) == 20);
+    assert!(offset_of!(CAnswer, external_read) == 28);
+    assert!(offset_of!(CAnswer, external_written) == 32);
     assert!(size_of::<CRun>() == 24);
     assert!(offset_of!(CRun, count) == 8 && offset_of!(CRun, stop) == 16);
     assert!(size_of::<CShortRun>() == 6 && offset_of!(CShortRun, length) == 1);
@@ -449,6 +547,67 @@ pub fn same_record(ours: &CRecord, theirs: &Record) -> bool {
         && ours.l2.iter().zip(&theirs.l2).all(|(ours, theirs)| *ours == l2_set(theirs))
 }
 
+fn left_of(left: Left) -> CLeft {
+    match left {
+        Left::None => CLeft::NONE,
+        Left::Empty => CLeft::EMPTY,
+        Left::Clean { address } => CLeft::clean(address),
+        Left::Dirty { address } => CLeft::dirty(address),
+    }
+}
+
+/// A report of the reference model in C's numbers.
+pub fn report_of(report: &Report) -> CReport {
+    CReport {
+        l1d_left: left_of(report.l1d_left),
+        l2_left: left_of(report.l2_left),
+        read: report.external_read,
+        written: report.external_written,
+    }
+}
+
+/// The way of a set that holds a line.
+fn way_of(lines: &[CLine], address: u32) -> Option<usize> {
+    lines.iter().position(|line| line.valid == 1 && line.address == address)
+}
+
+/// Whether L1D holds this line, and dirty.
+pub fn l1d_is_dirty(record: &CRecord, address: u32) -> bool {
+    let lines = &record.l1d[L1d::set_of(address)].lines;
+    way_of(lines, address).is_some_and(|way| lines[way].dirty == 1)
+}
+
+/// What a way tells in which a line stood.
+fn told(line: &CLine, dirty: bool) -> CLeft {
+    match (line.valid, dirty) {
+        (0, _) => CLeft::EMPTY,
+        (_, false) => CLeft::clean(line.address),
+        (_, true) => CLeft::dirty(line.address),
+    }
+}
+
+/// What the records before and after an access say of the ways that it chose in L1D and in
+/// L2: the one that holds the line of its address now was chosen, if none did before. A
+/// line of L2 is dirty with a half that was so in L1D. Both records are well formed.
+pub fn left_by_records(before: &CRecord, after: &CRecord, address: u32) -> (CLeft, CLeft) {
+    let chosen = |before: &[CLine], after: &[CLine], line: u32| match way_of(before, line) {
+        None => way_of(after, line).map(|way| before[way]),
+        Some(_) => None,
+    };
+    let set = L1d::set_of(address);
+    let (was, now) = (&before.l1d[set].lines, &after.l1d[set].lines);
+    let l1d = chosen(was, now, L1d::line_address(address))
+        .map_or(CLeft::NONE, |line| told(&line, line.dirty == 1));
+    let Some(set) = L2::set_of(before.mode.into(), address) else { return (l1d, CLeft::NONE) };
+    let (was, now) = (&before.l2[set].lines, &after.l2[set].lines);
+    let l2 = chosen(was, now, L2::line_address(address)).map_or(CLeft::NONE, |line| {
+        let halves = [line.address, line.address + L1d::LINE];
+        let by_half = line.valid == 1 && halves.iter().any(|&half| l1d_is_dirty(before, half));
+        told(&line, line.dirty == 1 || by_half)
+    });
+    (l1d, l2)
+}
+
 /// A set in words: for each way valid, dirty and address, then the order.
 fn set_words(lines: &[CLine], order: &[u8]) -> String {
     let ways: Vec<String> = lines
@@ -527,8 +686,12 @@ pub fn record_difference(ours: &CRecord, theirs: &CRecord) -> String {
 
 #[cfg(test)]
 mod tests {
-    use super::{byte_difference, dirty_line, dirty_marks, padding_of, record_of, Held};
-    use oracle::{Line, Record};
+    use super::{
+        byte_difference, dirty_line, dirty_marks, left_by_records, padding_of, record_of,
+        report_of, CAnswer, CLeft, CReport, Held,
+    };
+    use oracle::gen::Setup;
+    use oracle::{Left, Line, Record, Report};
 
     /// 2 for each of 128 sets of L1D, 2 for each line.
     const PADDING_BYTES: usize = 128 * 2 + (128 * 2 + 512 * 4) * 2;
@@ -580,5 +743,69 @@ mod tests {
         record.l1d[1].lines[1] = Line { valid: true, dirty: true, address: 64 };
         assert_eq!(dirty_line(&record_of(&record)).as_deref(), Some("L1D line 0x40"));
         assert_eq!(dirty_marks(&record_of(&record)), (2, 1));
+    }
+
+    #[test]
+    fn reports_in_c_and_in_words() {
+        let report = Report {
+            l1d_left: Left::Clean { address: 64 },
+            l2_left: Left::Dirty { address: 0x8000_0080 },
+            external_read: 128,
+            external_written: 7,
+        };
+        let words = "L1D clean 0x40, L2 dirty 0x80000080, read 128, written 7";
+        assert_eq!(format!("{:?}", report_of(&report)), words);
+        assert_eq!(report_of(&Report::NONE), CReport::NONE);
+        assert_eq!(CAnswer::refused(9).report(), CReport::NONE);
+        let empty = Report { l1d_left: Left::Empty, ..Report::NONE };
+        assert_eq!(report_of(&empty), CReport { l1d_left: CLeft::EMPTY, ..CReport::NONE });
+        // What no call may give back is seen.
+        let odd = CReport {
+            l1d_left: CLeft { address: 64, kind: 1 },
+            l2_left: CLeft { address: 128, kind: 4 },
+            ..CReport::NONE
+        };
+        assert_eq!(format!("{odd:?}"), "L1D empty 0x40, L2 kind 4 0x80, read 0, written 0");
+        assert_ne!(odd.l1d_left, CLeft::EMPTY);
+    }
+
+    /// What the records tell of the next read, and of the next write.
+    fn told(setup: &Setup, address: u32) -> [(CLeft, CLeft); 2] {
+        let before = record_of(&setup.record);
+        let (mut by_read, mut by_write) = (setup.clone(), setup.clone());
+        by_read.read(4, address);
+        by_write.write(4, address, 1);
+        [by_read, by_write]
+            .map(|after| left_by_records(&before, &record_of(&after.record), address))
+    }
+
+    #[test]
+    fn records_tell_what_left() {
+        const A: u32 = 0x8000_0000;
+        let (none, empty) = (CLeft::NONE, CLeft::EMPTY);
+        let mut setup = Setup::fresh(65_536, 65_536);
+        assert_eq!(told(&setup, A), [(none, none), (none, none)]);
+        setup.mar(128, 1);
+        assert_eq!(told(&setup, A), [(empty, none), (none, none)]);
+        setup.mode(1);
+        assert_eq!(told(&setup, A), [(empty, empty), (none, empty)]);
+        assert_eq!(told(&setup, 64), [(empty, none), (none, none)]);
+        setup.read(4, A + 64);
+        assert_eq!(told(&setup, A), [(empty, none), (none, none)]);
+        assert_eq!(told(&setup, A + 64), [(none, none), (none, none)]);
+        // The upper half becomes dirty; three more lines come without L1D.
+        setup.write(4, A + 64, 1);
+        for turn in 1..4 {
+            setup.write(4, A + turn * 8_192, 1);
+        }
+        let next = A + 4 * 8_192;
+        assert_eq!(told(&setup, next), [(empty, CLeft::dirty(A)), (none, CLeft::dirty(A))]);
+        // The half leaves, and its line is dirty by itself.
+        setup.read(4, 64);
+        setup.read(4, 64 + 8_192);
+        assert_eq!(told(&setup, 64 + 16_384)[0], (CLeft::clean(64), none));
+        assert_eq!(told(&setup, next + 64)[0], (CLeft::clean(64), CLeft::dirty(A)));
+        setup.freeze(1);
+        assert_eq!(told(&setup, next), [(none, CLeft::dirty(A)), (none, CLeft::dirty(A))]);
     }
 }

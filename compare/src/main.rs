@@ -33,7 +33,8 @@ compare: the calls of the boundary against the reference model
   --seed S             the seed of all that is random (default 640101)
   --bench-trace PATH   the program bench-trace, to be compared as well
   --section NAME       only this section: records, lists, traces, refusals, views,
-                       short-runs, writing, two-runs, dropped, reaching, load, frozen
+                       short-runs, writing, two-runs, dropped, reaching, load, frozen,
+                       thrashing
   --group K            only group K of that section
   --input K            nothing but input K of bench-trace
   --now PATH           a file that says which group is being run
@@ -230,6 +231,23 @@ fn run(arguments: &Arguments) -> Result<bool, String> {
         counts.again,
         counts.counted
     );
+    let put_out = &met.put_out;
+    println!(
+        "reports compared: {}; what L1D told, none, empty, clean, dirty, in mode 0 and in the others: \
+         {:?}; L2 of reads, frozen reads and writes: {:?}; lines of SRAM: {:?}",
+        put_out.reports, put_out.l1d, put_out.l2, put_out.sram
+    );
+    println!(
+        "reports: L2 lines dirty by the lower half, the upper and both {:?}, by the line that left L1D \
+         {}; bytes moved as 64, 64 and 64, 128, 128 and 128: {:?}, as own bytes: {:?}; refused and \
+         other calls that report nothing: {:?}; accesses over other bytes: {}",
+        put_out.by_half,
+        put_out.by_own,
+        put_out.lines,
+        put_out.own_bytes,
+        put_out.silent,
+        put_out.moved
+    );
     let faults = met.possible_faults();
     println!(
         "ill-formed records made: {}; of each fault in each mode: {} at least",
@@ -369,6 +387,7 @@ fn met_everything(met: &Met) -> bool {
         && met.two_runs.met_everything()
         && met.frozen.met_everything()
         && met.counts.met_everything()
+        && met.put_out.met_everything()
         && met.loads.iter().all(|&count| count > 500)
         && met.long_runs > 0
         && met.short_runs == 4_681

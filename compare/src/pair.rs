@@ -15,11 +15,12 @@ use oracle::machine::{SERVER_EXTERNAL, SERVER_L1D, SERVER_L2};
 use oracle::short_runs;
 use oracle::trace::{decode, ANSWER_BYTES};
 use oracle::wellformed::is_well_formed;
-use oracle::{Answer, Command, Record, RunResult};
+use oracle::{Answer, Command, Record, Reply, RunResult};
 
 use crate::boundary::{
-    self, byte_difference, dirty_line, dirty_marks, padding_of, record_difference, record_of,
-    same_record, CAnswer, CLine, CRecord, CRunNumber, CShortRun, Held, Lent,
+    self, byte_difference, dirty_line, dirty_marks, l1d_is_dirty, left_by_records, padding_of,
+    record_difference, record_of, report_of, same_record, CAnswer, CLeft, CLine, CRecord, CReport,
+    CRunNumber, CShortRun, Held, Lent,
 };
 use crate::now;
 use crate::plant;
@@ -54,6 +55,8 @@ pub struct Start {
     pub flat: bool,
     /// From fresh, with lines dropped: each byte read keeps to its history.
     pub history: bool,
+    /// Accesses are made a second time over other bytes, to see which of them move.
+    pub moves: bool,
 }
 
 /// One call, or a run with the same commands as single calls after it, or
@@ -120,6 +123,90 @@ pub struct Met {
     pub faults: Faults,
     pub frozen: Frozen,
     pub counts: Counts,
+    pub put_out: PutOut,
+}
+
+/// What accesses reported.
+#[derive(Clone, Default, Debug)]
+pub struct PutOut {
+    /// Reports of calls that were compared.
+    pub reports: u64,
+    /// What L1D told of accepted accesses to what may be cached, by kind, in mode 0 and in
+    /// the others; and L2, in the others, of reads, of reads of a frozen L1D, of writes.
+    pub l1d: [[u64; 4]; 2],
+    pub l2: [[u64; 4]; 3],
+    /// Lines of SRAM that left L1D, clean and dirty.
+    pub sram: [u64; 2],
+    /// L2 lines told dirty that were clean before: by the lower half in L1D, by the upper
+    /// one, by both; and those whose half the same read put out of L1D.
+    pub by_half: [u64; 3],
+    pub by_own: u64,
+    /// Bytes moved: a line of 64 alone, with one that went out, a line of 128 alone, with
+    /// one that went out.
+    pub lines: [u64; 4],
+    /// An access's own bytes by size: read past the caches and by a frozen L1D in mode 0,
+    /// written past the caches and in mode 0.
+    pub own_bytes: [[u64; 4]; 4],
+    /// Calls that were refused, and that were accepted and are no access, with dirty lines
+    /// in the record.
+    pub silent: [u64; 2],
+    /// Accesses that were made over other bytes too.
+    pub moved: u64,
+}
+
+impl PutOut {
+    /// Whether everything came up that should.
+    pub fn met_everything(&self) -> bool {
+        let lines = self.l1d.iter().chain(&self.l2).flatten().chain(&self.sram);
+        let halves = self.by_half.iter().chain([&self.by_own]);
+        let bytes = self.lines.iter().chain(self.own_bytes.iter().flatten()).chain(&self.silent);
+        lines.chain(bytes).all(|&count| count > 100)
+            && halves.into_iter().all(|&count| count > 50)
+            && self.moved > 300
+            && self.reports > 100_000
+    }
+
+    /// An accepted access, its report and the record before it.
+    fn count(&mut self, command: &Command, passed: &CRecord, report: &CReport) {
+        let (size, address, write) = match *command {
+            Command::Read { size, address } => (size, address, false),
+            Command::Write { size, address, .. } => (size, address, true),
+            _ => return,
+        };
+        let mar = if address < EXTERNAL_BASE + RANGE_BYTES { passed.mar128 } else { passed.mar129 };
+        let past = address >= EXTERNAL_BASE && mar == 0;
+        let frozen = passed.frozen == 1;
+        let CReport { l1d_left, l2_left, read, written } = *report;
+        if !past {
+            self.l1d[usize::from(passed.mode != 0)][usize::from(l1d_left.kind) % 4] += 1;
+        }
+        if !past && passed.mode != 0 {
+            let by = if write { 2 } else { usize::from(frozen) };
+            self.l2[by][usize::from(l2_left.kind) % 4] += 1;
+        }
+        if l1d_left.is_line() && l1d_left.address < EXTERNAL_BASE {
+            self.sram[usize::from(l1d_left.kind == 3)] += 1;
+        }
+        let line = passed.l2.iter().flat_map(|set| &set.lines);
+        let mut was = line.filter(|line| line.valid == 1 && line.address == l2_left.address);
+        if l2_left.kind == 3 && was.next().is_some_and(|line| line.dirty == 0) {
+            let halves = [l2_left.address, l2_left.address + L1d::LINE];
+            let [lower, upper] = halves.map(|half| l1d_is_dirty(passed, half));
+            self.by_half[if lower && upper { 2 } else { usize::from(upper) }] += 1;
+            self.by_own += u64::from(L2::line_address(l1d_left.address) == l2_left.address);
+        }
+        match (read, written) {
+            (64, 0) => self.lines[0] += 1,
+            (64, 64) => self.lines[1] += 1,
+            (128, 0) => self.lines[2] += 1,
+            (128, 128) => self.lines[3] += 1,
+            (0, 0) => {}
+            _ => {
+                let by = 2 * usize::from(write) + usize::from(!past);
+                self.own_bytes[by][size.trailing_zeros() as usize] += 1;
+            }
+        }
+    }
 }
 
 /// Records made, by fault and by mode.
@@ -223,6 +310,8 @@ pub struct TwoRuns {
     /// Accepted reads and writes of a frozen L1D by their server.
     pub frozen: [u64; 5],
     pub modes: [u64; 8],
+    /// What L1D and L2 told, by kind.
+    pub left: [[u64; 4]; 2],
 }
 
 impl TwoRuns {
@@ -235,6 +324,7 @@ impl TwoRuns {
             // 11 to 16 are no number of a single call.
             && (0..=10).chain([17]).all(|number| self.numbers[number] > 20)
             && self.frozen[1..].iter().all(|&count| count > 100)
+            && self.left.iter().flatten().all(|&count| count > 10)
     }
 }
 
@@ -291,6 +381,9 @@ pub enum Kind {
     Dirty,
     /// A count of dirty lines that is not that of the record's own lines.
     Miscounted,
+    /// What a way told, and how many bytes of external memory were moved.
+    Left,
+    Moved,
     Bytes,
     /// A sentence about dropped lines, by its place in the request.
     Sentence(u8),
@@ -320,6 +413,19 @@ pub const SMALL: usize = 1 << 20;
 /// Every so many calls a long memory is compared whole.
 const WHOLE_EVERY: usize = 256;
 
+/// What an access over other bytes left behind, and its value.
+struct Moved {
+    l1d: Vec<u8>,
+    l2: Vec<u8>,
+    ext: Vec<u8>,
+    value: u64,
+}
+
+/// In how many bytes two memories differ.
+fn others(ours: &[u8], theirs: &[u8]) -> u32 {
+    ours.iter().zip(theirs).filter(|(ours, theirs)| ours != theirs).count() as u32
+}
+
 /// Both sides.
 struct Pair<'a> {
     record: Box<Held>,
@@ -333,6 +439,7 @@ struct Pair<'a> {
     odd: bool,
     flat: Option<Flat>,
     history: Option<History>,
+    moves: bool,
     met: &'a mut Met,
 }
 
@@ -366,6 +473,7 @@ fn make(start: &Start, ops: &[Op], met: &mut Met, reached: &mut usize) -> Result
         odd: start.odd.iter().any(|odd| odd.value > 1),
         flat: start.flat.then(|| Flat::fresh(start.setup.record.l, &start.setup.ext)),
         history: start.history.then(|| History::fresh(&start.setup)),
+        moves: start.moves,
         met,
     };
     for (op, call) in ops.iter().enumerate() {
@@ -414,6 +522,49 @@ fn expect_answer(name: &str, ours: Answer, theirs: Answer) -> Result<(), Wrong> 
         Kind::Value
     };
     expect(kind, name, ours, theirs)
+}
+
+/// "neither exceeds 128 for one access", which is asked of the answer alone.
+fn expect_bound(name: &str, ours: &CReport) -> Result<(), Wrong> {
+    if ours.read <= 128 && ours.written <= 128 {
+        return Ok(());
+    }
+    let what = format!("{name} has a count above 128: {ours:?}");
+    Err(Wrong { kind: Kind::Moved, what })
+}
+
+/// What is reported beside number, server and value.
+fn expect_report(name: &str, ours: CReport, theirs: CReport) -> Result<(), Wrong> {
+    expect_bound(name, &ours)?;
+    let left = (ours.l1d_left, ours.l2_left) != (theirs.l1d_left, theirs.l2_left);
+    expect(if left { Kind::Left } else { Kind::Moved }, name, ours, theirs)
+}
+
+/// The address of an accepted access.
+fn accessed(command: &Command, number: u8) -> Option<u32> {
+    match *command {
+        Command::Read { address, .. } | Command::Write { address, .. } if number == 0 => {
+            Some(address)
+        }
+        _ => None,
+    }
+}
+
+/// The lines that a call tells are those that the records before and after it tell. This
+/// asks the records alone, and not the reference model.
+fn expect_left_by_records(
+    name: &str,
+    command: &Command,
+    called: &CAnswer,
+    passed: &CRecord,
+    record: &CRecord,
+) -> Result<(), Wrong> {
+    let address = accessed(command, called.number);
+    let mut theirs = address
+        .map_or((CLeft::NONE, CLeft::NONE), |address| left_by_records(passed, record, address));
+    plant::left_by_records(&mut theirs);
+    let name = format!("{name}, by the records, of L1D and L2");
+    expect(Kind::Left, &name, (called.l1d_left, called.l2_left), theirs)
 }
 
 fn expect_run(ours: RunResult, theirs: RunResult) -> Result<(), Wrong> {
@@ -583,6 +734,7 @@ impl Pair<'_> {
         self.met.calls += 1;
         self.met.numbers[number as usize] += 1;
         expect_answer("answer of a fresh start", answer_of(&called), Answer::refused(number))?;
+        expect_report("report of a fresh start", called.report(), CReport::NONE)?;
         if !same_record(&self.record, &record) {
             let difference = record_difference(&self.record, &record_of(&record));
             let what = format!("record of a fresh start: {difference}");
@@ -601,11 +753,12 @@ impl Pair<'_> {
     }
 
     fn direct(&mut self, command: &Command) -> Result<(), Wrong> {
-        let theirs = if self.odd {
-            Answer::refused(self.odd_number(true))
+        let Reply { answer: theirs, report } = if self.odd {
+            Reply::refused(self.odd_number(true))
         } else {
-            self.theirs.call(command)
+            self.theirs.reply(command)
         };
+        let moved = self.moved(command, theirs.number);
         let before = plant::before(command, &self.l2, &self.ext);
         let (record, lent) = self.lent();
         let mut called = boundary::direct(record, command, lent);
@@ -614,6 +767,8 @@ impl Pair<'_> {
         self.count(command, &theirs);
         let ours = answer_of(&called);
         expect_answer("answer", ours, theirs)?;
+        expect_report("report", called.report(), report_of(&report))?;
+        self.count_put_out(command, &called);
         self.count_beside_l2(command);
         self.count_frozen(command, &theirs);
         self.count_dirty(command, &theirs);
@@ -622,8 +777,60 @@ impl Pair<'_> {
             self.met.written_back += 1;
         }
         self.expect_record(theirs.number == 0)?;
+        expect_left_by_records("report", command, &called, &self.passed, &self.record)?;
+        if let Some(over) = moved {
+            self.expect_moved(command, &called, &over)?;
+        }
         self.history(command, &ours)?;
         self.flat(command, &ours)
+    }
+
+    /// An access that will be accepted, made over an external memory each byte of which is
+    /// another: what it leaves behind, and the value.
+    fn moved(&mut self, command: &Command, number: u8) -> Option<Moved> {
+        accessed(command, number).filter(|_| self.moves)?;
+        let mut record = self.record.clone();
+        let (mut l1d, mut l2) = (self.l1d.clone(), self.l2.clone());
+        let mut ext: Vec<u8> = self.ext.iter().map(|byte| !byte).collect();
+        let lent = Lent { l1d: &mut l1d, l2: &mut l2, ext: &mut ext };
+        let value = boundary::direct(&mut record, command, lent).value;
+        self.met.calls += 1;
+        Some(Moved { l1d, l2, ext, value })
+    }
+
+    /// "These counts equal the bytes moved", seen from outside: a byte of external memory that
+    /// is the same afterwards was written; one of L1D, of L2 or of the value that is another
+    /// was read. A write that has a line fetched goes over as many of its bytes itself.
+    fn expect_moved(
+        &mut self,
+        command: &Command,
+        called: &CAnswer,
+        over: &Moved,
+    ) -> Result<(), Wrong> {
+        let l1d = others(&self.l1d, &over.l1d);
+        let mut l2 = others(&self.l2, &over.l2);
+        let value = others(&called.value.to_le_bytes(), &over.value.to_le_bytes());
+        if let (Command::Write { size, .. }, true) = (command, l2 > 0) {
+            l2 += size;
+        }
+        let written = self.ext.len() as u32 - others(&self.ext, &over.ext);
+        let mut theirs = (l1d.max(l2).max(value), written);
+        plant::moved(&mut theirs);
+        self.met.put_out.moved += 1;
+        let ours = (called.external_read, called.external_written);
+        expect(Kind::Moved, "bytes read and written, by the bytes,", ours, theirs)
+    }
+
+    /// What a call reported.
+    fn count_put_out(&mut self, command: &Command, called: &CAnswer) {
+        let (passed, put_out) = (&self.passed, &mut self.met.put_out);
+        put_out.reports += 1;
+        if accessed(command, called.number).is_some() {
+            put_out.count(command, passed, &called.report());
+        } else {
+            let some_dirty = passed.dirty_l1d > 0 || passed.dirty_l2 > 0;
+            put_out.silent[usize::from(called.number == 0)] += u64::from(some_dirty);
+        }
     }
 
     /// What the sentences about dropped lines say of a call's answer.
@@ -842,16 +1049,21 @@ impl Pair<'_> {
     /// the answers, the record and every byte are the same.
     fn run_and_single_calls(&mut self, trace: &[u8], answer_bytes: usize) -> Result<(), Wrong> {
         let before = (self.record.clone(), self.l1d.clone(), self.l2.clone(), self.ext.clone());
-        let answers = self.run(trace, answer_bytes)?;
-        let (mut record, mut l1d, mut l2, mut ext) = before;
-        let mut passed = self.passed.clone();
         let refused = self.odd || {
             let fits = self.odd_number(true) == 2;
             !fits || !is_well_formed(&self.theirs.record)
         };
+        // The run tells no reports; the reference model's single calls do. A record that is
+        // another comes first: with it reports are others too.
+        let mut theirs = (!refused).then(|| self.theirs.clone());
+        let mut told = Ok(());
+        let answers = self.run(trace, answer_bytes)?;
+        let (mut record, mut l1d, mut l2, mut ext) = before;
+        let mut passed = self.passed.clone();
         let mut place = 0;
         let mut count = 0;
-        while !refused && place < trace.len() && (count + 1) * ANSWER_BYTES <= answer_bytes {
+        while place < trace.len() && (count + 1) * ANSWER_BYTES <= answer_bytes {
+            let Some(theirs) = &mut theirs else { break };
             let Some((command, length)) = decode(&trace[place..]) else { break };
             record.pad_like(&self.padding);
             *passed = **record;
@@ -866,6 +1078,12 @@ impl Pair<'_> {
             let answer = &answers[count * ANSWER_BYTES..(count + 1) * ANSWER_BYTES];
             let single = answer_of(&called);
             expect_answer("single call's answer", single, answer_in(answer))?;
+            let report = report_of(&theirs.reply(&command).report);
+            let name = "single call's report";
+            told = told
+                .and_then(|()| expect_report(name, called.report(), report))
+                .and_then(|()| expect_left_by_records(name, &command, &called, &passed, &record));
+            self.met.put_out.reports += 1;
             if single.number != 0 {
                 expect_untouched("record after a single call", &record, &passed)?;
                 self.met.untouched += 1;
@@ -887,7 +1105,8 @@ impl Pair<'_> {
         }
         expect_bytes("L1D after single calls,", &l1d, &self.l1d)?;
         expect_bytes("L2 after single calls,", &l2, &self.l2)?;
-        expect_bytes("external memory after single calls,", &ext, &self.ext)
+        expect_bytes("external memory after single calls,", &ext, &self.ext)?;
+        told
     }
 
     fn view(&mut self, address: u32, buffer: usize) -> Result<(), Wrong> {

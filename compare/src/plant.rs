@@ -18,7 +18,9 @@ use oracle::trace::{decode, ANSWER_BYTES};
 use oracle::writer::Put;
 use oracle::{Answer, Command};
 
-use crate::boundary::{dirty_marks, CAnswer, CLine, CRecord, CRun, CRunNumber, CShortRun, Lent};
+use crate::boundary::{
+    dirty_marks, CAnswer, CLeft, CLine, CRecord, CRun, CRunNumber, CShortRun, Lent,
+};
 use crate::pair::SMALL;
 
 /// The planted differences; `PLANTS` says what each does.
@@ -133,6 +135,34 @@ enum Plant {
     CountL2Untested,
     CountsAdded,
     DataCount,
+    LeftBeforeHalves,
+    LeftComing,
+    LeftComingL2,
+    LeftHit,
+    LeftL2Hit,
+    LeftWriteMiss,
+    LeftFrozen,
+    LeftPast,
+    LeftSilent,
+    LeftUpper,
+    LeftAddress,
+    LeftRefused,
+    LeftCommand,
+    LeftFresh,
+    LeftByRecords,
+    MovedClean,
+    MovedCleanL1d,
+    MovedIntoL2,
+    MovedIntoSram,
+    MovedFrozen,
+    MovedPast,
+    MovedWrite,
+    MovedTwice,
+    MovedRefused,
+    MovedCommand,
+    MovedBytes,
+    DataLeft,
+    DataMoved,
     BenchOutput,
     BenchStatus,
 }
@@ -148,7 +178,7 @@ const fn planted(plant: Plant, name: &'static str, about: &'static str) -> Plant
     Planted { plant, name, about }
 }
 
-pub const PLANTS: [Planted; 111] = [
+pub const PLANTS: [Planted; 139] = [
     planted(Plant::ReadValue, "read-value", "a 4-byte read from L2 cache gets 1 more"),
     planted(Plant::ReadOrder, "read-order", "a read hit in L1D turns its set's order around"),
     planted(Plant::WriteNumber, "write-number", "a write refused with 6 gets 5"),
@@ -274,6 +304,38 @@ pub const PLANTS: [Planted; 111] = [
     planted(Plant::CountL2Untested, "count-l2-untested", "a wrong count of L2 alone is accepted"),
     planted(Plant::CountsAdded, "counts-added", "wrong counts with the right sum are accepted"),
     planted(Plant::DataCount, "data-count", "..: a write of an odd value counts a line more"),
+    planted(
+        Plant::LeftBeforeHalves,
+        "left-before-halves",
+        "an L2 line is told clean that a half makes dirty",
+    ),
+    planted(Plant::LeftComing, "left-coming", "L1D tells the line that comes as the one that left"),
+    planted(Plant::LeftComingL2, "left-coming-l2", "L2 tells the line that comes"),
+    planted(Plant::LeftHit, "left-hit", "a hit in L1D tells an empty way"),
+    planted(Plant::LeftL2Hit, "left-l2-hit", "a hit in L2 tells an empty way there"),
+    planted(Plant::LeftWriteMiss, "left-write-miss", "a write miss tells an empty way of L1D"),
+    planted(Plant::LeftFrozen, "left-frozen", "a frozen read miss tells the line that it spares"),
+    planted(Plant::LeftPast, "left-past", "an access past the caches tells empty ways"),
+    planted(Plant::LeftSilent, "left-silent", "a write that puts a line out of L2 tells none"),
+    planted(Plant::LeftUpper, "left-upper", "L2 tells the address of the upper half"),
+    planted(Plant::LeftAddress, "left-address", "an empty way of L1D comes with an address"),
+    planted(Plant::LeftRefused, "left-refused", "a refused call tells an empty way"),
+    planted(Plant::LeftCommand, "left-command", "L2 writeback all tells an empty way"),
+    planted(Plant::LeftFresh, "left-fresh", "a fresh start tells an empty way"),
+    planted(Plant::LeftByRecords, "left-by-records", "a dirty line is clean by the records"),
+    planted(Plant::MovedClean, "moved-clean", "a clean line that leaves L2 counts as written"),
+    planted(Plant::MovedCleanL1d, "moved-clean-l1d", "one that leaves L1D in mode 0 does so"),
+    planted(Plant::MovedIntoL2, "moved-into-l2", "a line that goes from L1D into L2 counts"),
+    planted(Plant::MovedIntoSram, "moved-into-sram", "a line that goes from L1D into SRAM counts"),
+    planted(Plant::MovedFrozen, "moved-frozen", "a frozen read miss in mode 0 counts a line"),
+    planted(Plant::MovedPast, "moved-past", "an access past the caches counts a word"),
+    planted(Plant::MovedWrite, "moved-write", "a write that L2 fetches for counts its own bytes"),
+    planted(Plant::MovedTwice, "moved-twice", "a half counts beside the line that takes it out"),
+    planted(Plant::MovedRefused, "moved-refused", "a refused access counts its bytes"),
+    planted(Plant::MovedCommand, "moved-command", "L2 block writeback counts a line"),
+    planted(Plant::MovedBytes, "moved-bytes", "by the bytes of memory a line of L2 is half read"),
+    planted(Plant::DataLeft, "data-left", "..: a read of an odd value tells a way that was empty"),
+    planted(Plant::DataMoved, "data-moved", "..: a read of an odd value counts no byte"),
     planted(Plant::BenchOutput, "bench-output", "bench-trace prints a line more after an 8"),
     planted(Plant::BenchStatus, "bench-status", "bench-trace fails after a 7"),
 ];
@@ -497,6 +559,112 @@ fn counted(plant: Plant, command: &Command, server: u8, record: &mut CRecord, pa
     }
 }
 
+/// What a call reports: mistakes in telling which line was put out, and in counting bytes.
+fn reported(plant: Plant, command: &Command, called: &mut CAnswer, passed: &CRecord) {
+    let (size, address, write) = match *command {
+        Command::Read { size, address } => (size, address, false),
+        Command::Write { size, address, .. } => (size, address, true),
+        _ => {
+            match (plant, command, called.number) {
+                (Plant::LeftCommand, Command::L2WritebackAll, 0) => called.l2_left = CLeft::EMPTY,
+                (Plant::MovedCommand, Command::L2BlockWriteback { .. }, 0) => {
+                    called.external_written = L2::LINE;
+                }
+                (Plant::LeftRefused, _, 1..) => called.l1d_left = CLeft::EMPTY,
+                _ => {}
+            }
+            return;
+        }
+    };
+    if called.number != 0 {
+        match plant {
+            Plant::LeftRefused => called.l1d_left = CLeft::EMPTY,
+            Plant::MovedRefused => called.external_read = size.min(8),
+            _ => {}
+        }
+        return;
+    }
+    let mar = if address < EXTERNAL_BASE + RANGE_BYTES { passed.mar128 } else { passed.mar129 };
+    let past = address >= EXTERNAL_BASE && mar == 0;
+    let frozen = passed.frozen == 1;
+    let miss = called.server != SERVER_L1D && !past;
+    let (l1d, l2) = (called.l1d_left, called.l2_left);
+    let to_sram = l1d.address < EXTERNAL_BASE;
+    // Beside a line that is written out there would be more than 128 bytes.
+    let out = called.external_written > 0;
+    match plant {
+        Plant::LeftBeforeHalves if l2.kind == 3 => {
+            let set = L2::set_of(passed.mode.into(), address);
+            let mut ways = set.into_iter().flat_map(|set| &passed.l2[set].lines);
+            if ways.any(|line| line.valid == 1 && line.address == l2.address && line.dirty == 0) {
+                called.l2_left = CLeft::clean(l2.address);
+            }
+        }
+        Plant::LeftComing if l1d.is_line() => {
+            called.l1d_left.address = L1d::line_address(address);
+        }
+        Plant::LeftComingL2 if l2.is_line() => {
+            called.l2_left.address = L2::line_address(address);
+        }
+        Plant::LeftHit if called.server == SERVER_L1D => called.l1d_left = CLeft::EMPTY,
+        Plant::LeftL2Hit if called.server == SERVER_L2 => called.l2_left = CLeft::EMPTY,
+        Plant::LeftWriteMiss if write && miss => called.l1d_left = CLeft::EMPTY,
+        Plant::LeftFrozen if !write && miss && frozen => {
+            let set = &passed.l1d[L1d::set_of(address)];
+            let last = set.lines[usize::from(set.order[1])];
+            if set.lines.iter().all(|line| line.valid == 1) {
+                called.l1d_left = CLeft { address: last.address, kind: 2 + last.dirty };
+            }
+        }
+        Plant::LeftPast if past => {
+            (called.l1d_left, called.l2_left) = (CLeft::EMPTY, CLeft::EMPTY);
+        }
+        Plant::LeftSilent if write && l2.is_line() => called.l2_left = CLeft::NONE,
+        Plant::LeftUpper if l2.is_line() => called.l2_left.address += L1d::LINE,
+        Plant::LeftAddress if l1d.kind == 1 => {
+            called.l1d_left.address = L1d::line_address(address);
+        }
+        Plant::MovedClean if l2.kind == 2 => called.external_written += L2::LINE,
+        Plant::MovedCleanL1d if l1d.kind == 2 && passed.mode == 0 => {
+            called.external_written += L1d::LINE;
+        }
+        Plant::MovedIntoL2 if l1d.kind == 3 && !to_sram && passed.mode != 0 && !out => {
+            called.external_written = L1d::LINE;
+        }
+        Plant::MovedIntoSram if l1d.kind == 3 && to_sram && !out => {
+            called.external_written = L1d::LINE;
+        }
+        Plant::MovedFrozen if frozen && !past && !write && called.external_read == size => {
+            called.external_read = L1d::LINE;
+        }
+        Plant::MovedPast if past => {
+            called.external_read = called.external_read.min(1) * 4;
+            called.external_written = called.external_written.min(1) * 4;
+        }
+        Plant::MovedWrite if write && called.external_read == L2::LINE && !out => {
+            called.external_written = size;
+        }
+        Plant::MovedTwice if l1d.kind == 3 && l2.kind == 3 => called.external_written += L1d::LINE,
+        _ => {}
+    }
+}
+
+/// What the records before and after a call tell of the ways that it chose.
+pub fn left_by_records(told: &mut (CLeft, CLeft)) {
+    if CHOSEN.get() == Some(&Plant::LeftByRecords) {
+        for left in [&mut told.0, &mut told.1] {
+            left.kind = left.kind.min(2);
+        }
+    }
+}
+
+/// How many bytes were read and written, by the bytes of the memories.
+pub fn moved(bytes: &mut (u32, u32)) {
+    if CHOSEN.get() == Some(&Plant::MovedBytes) {
+        bytes.0 = bytes.0.min(L1d::LINE);
+    }
+}
+
 /// Whether a mistaken test of the counts takes them for right.
 fn untested(plant: Plant, passed: &CRecord) -> bool {
     let (l1d, l2) = dirty_marks(passed);
@@ -535,6 +703,7 @@ pub fn direct(
     let (accepted, server) = (called.number == 0, called.server);
     let right = counts_are_right(record);
     marked(*plant, command, called, record, passed, lent, before);
+    reported(*plant, command, called, passed);
     counts_follow(record, right);
     if accepted {
         counted(*plant, command, server, record, passed);
@@ -591,7 +760,7 @@ fn marked(
         (Plant::RefusedPadding, _) if called.number == 4 => change(Some(record.some_padding())),
         (Plant::PaddingSeen, _) if accepted && *passed.clone().some_padding() != 0 => {
             *record = *passed;
-            *called = CAnswer { value: 0, number: 2, server: 0 };
+            *called = CAnswer::refused(2);
         }
         (Plant::WritebackDirty, _) if accepted && is_global(command) => make_dirty(record),
         (Plant::ShortRunByte, Command::Write { size: 1, address: 0x8000_2000, value: 2 })
@@ -634,6 +803,7 @@ pub fn fresh(called: &mut CAnswer, record: &mut CRecord, passed: &CRecord) {
         Some(Plant::FreshKept) if called.number == 1 => *record = *passed,
         Some(Plant::CountFresh) if called.number == 0 => record.dirty_l1d = passed.dirty_l1d,
         Some(Plant::FreshFrozen) if called.number == 0 && passed.frozen == 1 => record.frozen = 1,
+        Some(Plant::LeftFresh) if called.number == 0 => called.l1d_left = CLeft::EMPTY,
         _ => {}
     }
 }
@@ -704,6 +874,14 @@ pub fn steered(command: &Command, called: &mut CAnswer, record: &mut CRecord, le
             record.l1d[L1d::set_of(address)].order.swap(0, 1);
         }
         (Plant::DataCount, Command::Write { value, .. }) if value % 2 == 1 => record.dirty_l1d += 1,
+        (Plant::DataLeft, Command::Read { .. })
+            if called.value % 2 == 1 && called.l1d_left.is_line() =>
+        {
+            called.l1d_left = CLeft::EMPTY;
+        }
+        (Plant::DataMoved, Command::Read { .. }) if called.value % 2 == 1 => {
+            called.external_read = 0;
+        }
         (Plant::DataFrozen, Command::Read { address, .. })
             if called.value % 2 == 1 && record.frozen == 1 && called.server == SERVER_L1D =>
         {

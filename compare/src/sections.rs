@@ -1,12 +1,12 @@
-//! What is compared: twelve sections, each made of groups, each group of a few
+//! What is compared: thirteen sections, each made of groups, each group of a few
 //! lists of calls. A group is known by its section and number, and equal seeds
 //! give equal groups.
 
 use oracle::gen::{
-    self, call, command, encode, hot, hot_for, ill_formed_record, l_for, look_address,
-    make_length_wrong, senseless_record, well_formed_record, well_formed_record_in_mode, Call, Hot,
-    Mix, Rng, Setup, TraceKind, E_BOTH_RANGES, FAULTS, LEGAL_L, LEGAL_MODES, RANGE_BYTES,
-    TRACE_KINDS, WRONG_LENGTHS,
+    self, call, command, crowded, crowded_e, encode, hot, hot_for, ill_formed_record, l_for,
+    look_address, make_length_wrong, senseless_record, well_formed_record,
+    well_formed_record_in_mode, Call, Hot, Mix, Rng, Setup, TraceKind, E_BOTH_RANGES, FAULTS,
+    LEGAL_L, LEGAL_MODES, RANGE_BYTES, TRACE_KINDS, WRONG_LENGTHS,
 };
 use oracle::geometry::{mode_is_legal, sram_size, EXTERNAL_BASE, L2};
 use oracle::short_runs;
@@ -35,7 +35,7 @@ pub enum Group {
     Words(fn(&mut Rng, u64, &mut Met) -> Option<String>),
 }
 
-pub const SECTIONS: [Section; 12] = [
+pub const SECTIONS: [Section; 13] = [
     Section {
         name: "records",
         share: 40,
@@ -122,6 +122,13 @@ pub const SECTIONS: [Section; 12] = [
         about: "lists with a frozen L1D, set against flat memory or histories",
         group: Group::Calls(frozen),
     },
+    Section {
+        name: "thrashing",
+        share: 10,
+        groups: 0,
+        about: "lines that put each other out, the bytes that move seen from outside",
+        group: Group::Calls(thrashing),
+    },
 ];
 
 /// Compares a list; a difference makes it a case.
@@ -132,7 +139,8 @@ fn check(start: Start, ops: Vec<Op>, met: &mut Met) -> Option<Case> {
 
 /// A list that begins with a record and memories, and with padding of any kind.
 fn plain(rng: &mut Rng, setup: Setup) -> Start {
-    Start { setup, odd: Vec::new(), padding: rng.next_u64(), flat: false, history: false }
+    let padding = rng.next_u64();
+    Start { setup, odd: Vec::new(), padding, flat: false, history: false, moves: false }
 }
 
 /// C's record has a byte for the mode, for each MAR bit and for the freeze. A larger
@@ -472,6 +480,85 @@ fn thawed_then_frozen(rng: &mut Rng, e: u32) -> [Command; 9] {
     let thaw = Command::Freeze { frozen: 0 };
     let freeze = Command::Freeze { frozen: 1 };
     [thaw, read(0), read(1), written, freeze, read(2), read(3), read(4), read(5)]
+}
+
+/// A list from fresh over lines that are more than their sets of L1D and L2 have ways, set
+/// against flat memory: most accesses put a line out. In every fourth group each access is
+/// made over other bytes too, so that those that move are seen. Every eighth list begins
+/// past the caches.
+fn thrashing(rng: &mut Rng, group: u64, met: &mut Met) -> Option<Case> {
+    // Mode 7 needs the largest L, and comes up seldom elsewhere.
+    let mode = [0, 1, 7, 2, 3, 7][group as usize % 6];
+    let l = l_for(rng, mode);
+    let e = crowded_e(mode);
+    let moves = group / 6 % 4 == 0;
+    let mix = Mix {
+        read: 500,
+        write: 350,
+        l2_all: 1,
+        l2_block_writeback: 10,
+        l1d_block_writeback: 10,
+        mode: 1,
+        mar: 4,
+        freeze: 20,
+        ..Mix::NO_DROPS
+    };
+    let mut ext = vec![0; e as usize];
+    rng.fill(&mut ext);
+    let setup = Setup::fresh_over(l, ext);
+    let bit = u32::from(rng.chance(7, 8));
+    let begin = [Command::Mar { number: 128, bit }, Command::Mode { mode }];
+    let mut ops = begin.map(Op::Direct).to_vec();
+    let mut lines = crowded(rng, mode, l, e);
+    for _ in 0..if moves { 100 } else { 500 } {
+        match rng.below(100) {
+            0 => lines = crowded(rng, mode, l, e),
+            1 => {
+                let count = rng.below(12) as usize;
+                let trace = gen::trace(rng, &lines, &mix, count, TraceKind::Valid).bytes;
+                ops.push(Op::RunAndSingleCalls { trace, answer_bytes: 10 * count });
+            }
+            2..=6 => ops.extend(putting_out(rng, mode, e).into_iter().map(Op::Direct)),
+            _ => ops.push(Op::Direct(command(rng, &lines, &mix))),
+        }
+    }
+    check(Start { flat: true, moves, ..plain(rng, setup) }, ops, met)
+}
+
+/// One half of a line, or both, become dirty in L1D, three more lines of its L2 set come
+/// without L1D, and a fifth one puts it out, by a write, a read, or a read of a frozen L1D.
+/// Now and then L1D uses another line in between, so that the fifth puts the half out too.
+fn putting_out(rng: &mut Rng, mode: u32, e: u32) -> Vec<Command> {
+    let apart = crowded_e(mode) / 6;
+    let first = EXTERNAL_BASE + 128 * rng.below(apart.min(e) / 128);
+    let turn = rng.below(6);
+    let line = |place: u32| first + (turn + place) % 6 * apart;
+    let mut commands = vec![Command::Freeze { frozen: 0 }];
+    let halves = rng.pick(&[&[0][..], &[64], &[0, 64]]);
+    for half in halves {
+        let (size, address) = (4, line(0) + half);
+        commands.push(Command::Read { size, address });
+        commands.push(Command::Write { size, address, value: rng.next_u32().into() });
+    }
+    for place in 1..4 {
+        let (size, address) = (1, line(place) + rng.below(128));
+        commands.push(Command::Write { size, address, value: rng.below(256).into() });
+    }
+    let (size, half) = (rng.pick(&[1, 2, 4, 8]), rng.pick(halves));
+    let address = line(4) + half;
+    match rng.below(4) {
+        0 => commands.push(Command::Write { size, address, value: 7 }),
+        1 => {
+            commands.push(Command::Freeze { frozen: 1 });
+            commands.push(Command::Read { size, address });
+        }
+        2 => commands.push(Command::Read { size, address: address ^ 64 }),
+        _ => {
+            commands.push(Command::Read { size, address: line(1) + half });
+            commands.push(Command::Read { size, address });
+        }
+    }
+    commands
 }
 
 fn global_writeback(rng: &mut Rng) -> Command {

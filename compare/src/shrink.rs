@@ -140,8 +140,8 @@ impl Shrinker {
             }
         }
         let last = ops[difference.op..].to_vec();
-        let padding = start.padding;
-        let start = Start { setup, odd: Vec::new(), padding, flat: false, history: false };
+        let (padding, moves) = (start.padding, start.moves);
+        let start = Start { setup, odd: Vec::new(), padding, flat: false, history: false, moves };
         self.try_case(start, last);
     }
 

@@ -11,9 +11,9 @@
 use std::panic::{catch_unwind, AssertUnwindSafe};
 
 use oracle::gen::{
-    code, command, hot_for, ill_formed_record, l_for, look_address, make_length_wrong,
-    well_formed_record_in_mode, Hot, Mix, Rng, Setup, E_BOTH_RANGES, FAULTS, LEGAL_MODES,
-    WRONG_LENGTHS,
+    code, command, crowded, crowded_e, hot_for, ill_formed_record, l_for, look_address,
+    make_length_wrong, well_formed_record_in_mode, Hot, Mix, Rng, Setup, E_BOTH_RANGES, FAULTS,
+    LEGAL_MODES, WRONG_LENGTHS,
 };
 use oracle::geometry::{external_offset, sram_size, L1d, EXTERNAL_BASE, L1D_BYTES, L2};
 use oracle::record::{L1dSet, L2Set, Line, Record};
@@ -63,6 +63,7 @@ struct Case {
 enum Kind {
     Number,
     Server,
+    Report,
     Record,
     Value,
     Viewed,
@@ -101,8 +102,12 @@ fn some_case(rng: &mut Rng, turn: u64) -> Case {
     let mode = LEGAL_MODES[turn as usize % LEGAL_MODES.len()];
     let l = l_for(rng, mode);
     let large = turn % 128 == 127;
+    // One in four has lines that put each other out.
+    let crowd = turn % 4 == 3 && !large;
     let e = if large {
         E_BOTH_RANGES
+    } else if crowd {
+        crowded_e(mode)
     } else {
         rng.pick(&[128, 256, 1_024, 8_192, 65_536, 65_536, 131_072, 6 * 65_536])
     };
@@ -112,7 +117,7 @@ fn some_case(rng: &mut Rng, turn: u64) -> Case {
         l2: vec![0; l as usize],
         ext: vec![0; e as usize],
     };
-    let mut lines = hot_for(rng, &setup.record);
+    let mut lines = if crowd { crowded(rng, mode, l, e) } else { hot_for(rng, &setup.record) };
     let differ = if turn / 5 % 2 == 0 {
         Differ::Data { filling: rng.next_u64() }
     } else {
@@ -138,7 +143,8 @@ fn some_case(rng: &mut Rng, turn: u64) -> Case {
         }
         _ => {}
     }
-    for _ in 0..if large { 30 } else { 20 + rng.below(150) } {
+    let least = if crowd { 120 } else { 20 };
+    for _ in 0..if large { 30 } else { least + rng.below(150) } {
         steps.push(some_step(rng, &lines, &differ));
     }
     let lengths = [setup.l1d.len(), setup.l2.len(), setup.ext.len()];
@@ -227,7 +233,6 @@ impl Run {
 
     fn step(&mut self, step: &Step, second: bool) -> Said {
         let mut seen = [0; L1d::LINE as usize];
-        let none = CAnswer { value: 0, number: 0, server: 0 };
         let lent = Lent { l1d: &mut self.l1d, l2: &mut self.l2, ext: &mut self.ext };
         let answer = match step {
             Step::Fresh => boundary::fresh(&mut self.record, lent),
@@ -246,7 +251,7 @@ impl Run {
             Step::View { address } => {
                 let number = boundary::view(&self.record, *address, &self.l2, &self.ext, &mut seen);
                 plant::steered_view(*address, number, &mut seen, &self.ext);
-                CAnswer { number, ..none }
+                CAnswer::refused(number)
             }
         };
         Said { answer, seen }
@@ -288,6 +293,11 @@ fn compare(case: &Case, met: &mut Met, reached: &mut usize) -> Result<(), Wrong>
             met.two_runs.modes[usize::from(one.record.mode) % 8] += 1;
             let frozen = u64::from(one.record.frozen == 1);
             met.two_runs.frozen[usize::from(said.answer.server)] += frozen;
+            for (kinds, left) in
+                met.two_runs.left.iter_mut().zip([said.answer.l1d_left, said.answer.l2_left])
+            {
+                kinds[usize::from(left.kind) % 4] += 1;
+            }
         }
         match case.differ {
             Differ::Data { .. } => met.two_runs.data += 1,
@@ -312,7 +322,8 @@ fn expect(kind: Kind, same: bool, what: impl FnOnce() -> String) -> Result<(), W
     }
 }
 
-/// "share all refusals, servers, counts and the record"
+/// "share all refusals, servers, counts and the record". The report (02, U2) has counts, and
+/// what left a way is seen of the caches as the record is.
 fn shared(one: &Run, said: &Said, other: &Run, other_said: &Said) -> Result<(), Wrong> {
     let (ours, theirs) = (said.answer, other_said.answer);
     expect(Kind::Number, ours.number == theirs.number, || {
@@ -320,6 +331,10 @@ fn shared(one: &Run, said: &Said, other: &Run, other_said: &Said) -> Result<(), 
     })?;
     expect(Kind::Server, ours.server == theirs.server, || {
         format!("the server is {} in one run, {} in the other", ours.server, theirs.server)
+    })?;
+    let (ours, theirs) = (ours.report(), theirs.report());
+    expect(Kind::Report, ours == theirs, || {
+        format!("the report is {ours:?} in one run, {theirs:?} in the other")
     })?;
     expect(Kind::Record, **one.record == **other.record, || {
         format!("the records differ: {}", record_difference(&one.record, &other.record))
