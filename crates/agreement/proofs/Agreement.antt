@@ -1,8 +1,8 @@
 -- Demand 3 is met (`demand3`). Shown first of one command: where the chip is good by flat memory's bytes (`Matches`),
 -- both give the same answer and match again.
--- Why: an accepted read reads right bytes, so the same; a write changes flat memory as it changes what is right; a
--- mode change likewise; the other commands are not seen. After a global writeback no line is dirty, so that every
--- place of external memory and of SRAM is right: the lists are equal.
+-- Why: an accepted read, aligned or not, reads right bytes, so the same; a write changes flat memory as it changes what
+-- is right; a mode change likewise; the other commands are not seen. After a global writeback no line is dirty, so that
+-- every place of external memory and of SRAM is right: the lists are equal.
 use Prim.Native.Nat.{ℕ, _+_, _-_, _≤_, _<_}
 use mathlib.Core.Bool.{true, false, _&&_}
 use mathlib.Core.Path.{_≡_, refl, sym, ap, _∙_, subst}
@@ -15,26 +15,29 @@ use borrow.Author.Tests.{eqb-true, ne-eqb, lt-leb}
 use Rattle.model.specs.Bytes.{part, little, littleBytes, zeroFrom}
 use Rattle.model.specs.Memories.{l1dLength, externalBase, legalL2, legalExternal, cacheSize, isMode, sramLength}
 use Rattle.model.specs.Records.{State, state, sramOf, l2LineAt, freshRecord, freshState}
-use Rattle.model.specs.Access.{readAccess, writeAccess}
+use Rattle.model.specs.Access.{Access, readAccess, writeAccess}
+use Rattle.model.specs.Unaligned.{readUp, writeUp, unalignedDue}
 use Rattle.model.specs.Modes.{smaller, flushL2, newMode, changeMode}
 use Rattle.model.specs.Commands.{l2WritebackAll, l2WritebackInvalidateAll}
-use Rattle.model.specs.Flat.{Flat, flat, freshFlat, flatPart, flatPut, flatMode, FlatReply, flatReply, flatRead, flatWrite, flatChange, flatStep, flatCalled, flatAfter}
+use Rattle.model.specs.Flat.{Flat, flat, freshFlat, flatPart, flatPut, flatMode, FlatReply, flatReply, flatRead, flatWrite, flatChange, flatStep, flatReadUnaligned, flatWriteUnaligned, flatCalled, flatAfter}
 use Rattle.model.specs.Refusals.{accessDue, modeDue}
 use Rattle.model.specs.Trace.{command}
-use Rattle.model.specs.Calls.{Reply, refused, carriedOut, freshOk, freshCall, commandDue, readDone, writeDone, commandState, accepted, step, viewDone, Call, oneCommand, freshStart, look, called, after, commands}
+use Rattle.model.specs.Calls.{Reply, refused, carriedOut, freshOk, freshCall, commandDue, readDone, writeDone, commandState, accepted, step, viewDone, unalignedDueIn, readUnalignedDone, writeUnalignedDone, readUnalignedStep, writeUnalignedStep, readUnalignedCall, writeUnalignedCall, Call, oneCommand, freshStart, look, readUnaligned, writeUnaligned, called, after, commands}
 use Rattle.model.specs.Demand.{listedCode, listedCall, listed, compared, global, Settled, AgreesAt, Agree, Demand3, CommandsDemand3, end, next}
-use Rattle.model.specs.Laws.{bool, false-true, both-true, cond-elim, length-littleBytes, length-part, part-at}
+use Rattle.model.specs.Laws.{bool, false-true, both-true, cond-elim, cond-both, length-littleBytes, length-part, part-at}
 use Rattle.model.specs.declared.Command.{Command}
 use Rattle.agreement.proofs.Level.{Valid}
 use Rattle.agreement.proofs.Invariant.{Allowed, seenOnly, Layout, Inside}
-use Rattle.agreement.proofs.Memory.{memoryByte, memory-low, memory-high, lowStored, highStored, low-length, high-length, Fits, read-length, read-at, written-same, wrote-memory}
+use Rattle.agreement.proofs.Memory.{memoryByte, memory-low, memory-high, lowStored, highStored, low-length, high-length, Fits, read-length, read-at, Written, written-same, wrote-memory}
 use Rattle.agreement.proofs.Good.{layoutOf, l1dLevel, l2Level, Good, Well, good-well}
-use Rattle.agreement.proofs.ReadWrite.{Step}
+use Rattle.agreement.proofs.Fetch.{AccessFits}
+use Rattle.agreement.proofs.ReadWrite.{ReadGood, Step}
 use Rattle.agreement.proofs.Sweeps.{AllOut, l2WritebackAll-good, l2WritebackInvalidateAll-good, flush-good}
 use Rattle.agreement.proofs.Changes.{zero-length, zero-below, zero-above, smaller-bound, fresh-good, newMode-good}
 use Rattle.agreement.proofs.Due.{access-tells, accepted-read, accepted-write, mode-tells}
 use Rattle.agreement.proofs.Steps.{codes, Quiet, quiet-step, quiet-2, quiet-3, quiet-4, quiet-5, quiet-7, quiet-11, quiet-12}
 use Rattle.agreement.proofs.Tested.{legalL2-tells, legalExternal-tells, call-step}
+use Rattle.agreement.proofs.Unaligned.{due-fits, accepted-read-up, accepted-write-up, read-unaligned-step, write-unaligned-step}
 use Rattle.agreement.proofs.Flushes.{sweptL1d, change-swept}
 
 -- ---- chip and flat memory match: every byte that counts is flat memory's, and the sizes are the same
@@ -68,36 +71,42 @@ unfolding flatPut lowStored highStored
 flatPut-state a bs f = bool (ltb a externalBase) (λ t. rw t refl) (λ t. rw t refl)
 
 module _ (z : State) (f : Flat) (m : Matches z f) (n a : ℕ) where
-  flat-fits : (v : ℕ) → accessDue (sramOf (z .rec)) (z .rec .extlen) n a v ≡ 0 → Fits (f .sram) (f .ext) a n
-  flat-fits v d =
-      let k = access-tells (sramOf (z .rec)) (z .rec .extlen) n a v d in
-      let mo = k .more in let s = m .sram in let e = m .ext in
+  flat-fits : AccessFits (layoutOf (z .rec)) a n → Fits (f .sram) (f .ext) a n
+  flat-fits k =
+      let s = m .sram in let e = m .ext in
       record { low = λ h. let g = k .low h in omega arith; high = λ h. let g = k .high h in omega arith }
+
+  access-fits : (v : ℕ) → accessDue (sramOf (z .rec)) (z .rec .extlen) n a v ≡ 0 → AccessFits (layoutOf (z .rec)) a n
+  access-fits v d =
+      let k = access-tells (sramOf (z .rec)) (z .rec .extlen) n a v d in let mo = k .more in
+      record { low = λ h. let g = k .low h in omega arith; high = λ h. let g = k .high h in omega arith }
+
+  unaligned-fits : (v : ℕ) → unalignedDueIn z n a v ≡ 0 → AccessFits (layoutOf (z .rec)) a n
+  unaligned-fits v d =
+      let x = m .good .tidy .sizes .l2Most in
+      due-fits (sramOf (z .rec)) (z .rec .extlen) n a v (layoutOf (z .rec)) refl refl (omega arith) d
 
   sram-below : length (f .sram) ≤ externalBase
   sram-below = let s = m .sram in let x = m .good .tidy .sizes .l2Most in omega arith
 
-  same-bytes : accessDue (sramOf (z .rec)) (z .rec .extlen) n a 0 ≡ 0 → readAccess n a z .bytes ≡ flatPart a n f
+  same-bytes : AccessFits (layoutOf (z .rec)) a n → (x : Access) → ReadGood z (Is f) a n x → x .bytes ≡ flatPart a n f
   unfolding flatPart
-  same-bytes d =
-      let r = accepted-read z (Is f) (m .good) n a d in
-      let g = flat-fits 0 d in
-      ext-getD 0 (readAccess n a z .bytes) (flatPart a n f) (r .long ∙ sym (read-length (f .sram) (f .ext) a n g))
+  same-bytes k x r =
+      let g = flat-fits k in
+      ext-getD 0 (x .bytes) (flatPart a n f) (r .long ∙ sym (read-length (f .sram) (f .ext) a n g))
       (λ j h. let l = r .long in let k : j < n = omega arith in r .right j k ∙ sym (read-at (f .sram) (f .ext) a n g sram-below j k))
 
-  put-matches : (v : ℕ) → accessDue (sramOf (z .rec)) (z .rec .extlen) n a v ≡ 0 → (z′ : State) → z′ ≡ writeAccess a (littleBytes v n) z .next →
+  put-matches : (v : ℕ) → AccessFits (layoutOf (z .rec)) a n → (z′ : State) → ((F′ : Allowed) → Written (Is f) F′ a (littleBytes v n) → Step z F′ z′) →
       Matches z′ (flatPut a (littleBytes v n) f)
-  put-matches v d z′ e =
+  put-matches v k z′ done =
       let bs = littleBytes v n in
       let f′ = flat (f .l2len) (lowStored (f .sram) a bs) (highStored (f .ext) a bs) in
       let long = length-littleBytes v n in
-      let g : Fits (f .sram) (f .ext) a (length bs) = rw long (flat-fits v d) in
-      let w : Step z (Is f′) (writeAccess a bs z .next) =
-      accepted-write z (Is f) (m .good) n a (Is f′) v
-      (written-same (flatByte f) (flatByte f′) a bs (wrote-memory (f .sram) (f .ext) bs a g sram-below)) d in
-      let q = quiet-step z (Is f′) (writeAccess a bs z .next) w in
-      let s : sramOf (writeAccess a bs z .next .rec) ≡ sramOf (z .rec) = ap (λ (x : Layout). x .sram) (w .kept .layout) in
-      rw (e, flatPut-state a bs f) (record {
+      let g : Fits (f .sram) (f .ext) a (length bs) = rw long (flat-fits k) in
+      let w = done (Is f′) (written-same (flatByte f) (flatByte f′) a bs (wrote-memory (f .sram) (f .ext) bs a g sram-below)) in
+      let q = quiet-step z (Is f′) z′ w in
+      let s : sramOf (z′ .rec) ≡ sramOf (z .rec) = ap (λ (x : Layout). x .sram) (w .kept .layout) in
+      rw (flatPut-state a bs f) (record {
         good = w .good;
         l2len = m .l2len ∙ sym (q .l2len);
         sram = low-length (f .sram) bs a ∙ m .sram ∙ sym s;
@@ -146,7 +155,7 @@ module _ (z : State) (f : Flat) (m : Matches z f) (a b v : ℕ) where
       let q = quiet-step z (Is f) (readAccess a b z .next) (record { good = r .good; kept = r .kept }) in
       rw t (record {
         number = λ _. refl;
-        value = λ _. ap little (same-bytes z f m a b (eqb-true d 0 t));
+        value = λ _. ap little (same-bytes z f m a b (access-fits z f m a b 0 (eqb-true d 0 t)) (readAccess a b z) r);
         matches = matches-quiet z f m (readAccess a b z .next) q;
       }))
       (λ t. rw t (record { number = λ _. refl; value = λ _. refl; matches = m })))
@@ -157,7 +166,8 @@ module _ (z : State) (f : Flat) (m : Matches z f) (a b v : ℕ) where
       let d = accessDue (sramOf (z .rec)) (z .rec .extlen) a b v in
       let e = same-due v in
       rw e (bool (eqb d 0)
-      (λ t. let p = put-matches z f m a b v (eqb-true d 0 t) (writeAccess b (littleBytes v a) z .next) refl in
+      (λ t. let p = put-matches z f m a b v (access-fits z f m a b v (eqb-true d 0 t)) (writeAccess b (littleBytes v a) z .next)
+      (λ F′ wr. accepted-write z (Is f) (m .good) a b F′ v wr (eqb-true d 0 t)) in
       rw t (record { number = λ _. refl; value = λ _. refl; matches = p }))
       (λ t. rw t (record { number = λ _. refl; value = λ _. refl; matches = m })))
 
@@ -261,10 +271,53 @@ global-settles c z f m =
     (λ k h. not-global k (rw (ne-eqb k 2 (omega arith), ne-eqb k 3 (omega arith)) refl))
     (c .code)
 
+-- ---- a non-aligned access: the same answer, and both match again
+record SameAnswer (r : Reply) (g : FlatReply) : Type 0 where
+  number : r .number ≡ g .number
+  value : r .value ≡ g .value
+  matches : Matches (r .next) (g .next)
+
+module _ (z : State) (f : Flat) (m : Matches z f) (n a : ℕ) where
+  same-unaligned-due : (v : ℕ) → unalignedDue (length (f .sram)) (length (f .ext)) n a v ≡ unalignedDueIn z n a v
+  same-unaligned-due v = rw (m .sram, m .ext) refl
+
+  read-unaligned-answered : SameAnswer (readUnalignedCall n a z) (flatReadUnaligned n a f)
+  unfolding readUnalignedStep readUnalignedDone flatReadUnaligned
+  read-unaligned-answered =
+      let d = unalignedDueIn z n a 0 in let e = same-unaligned-due 0 in
+      let s = read-unaligned-step n a z (good-well z (Is f) (m .good)) in
+      rw (s, e) (cond-both SameAnswer (eqb d 0) (readUnalignedDone n a z) (refused d z) (flatReply 0 (little (flatPart a n f)) f) (flatReply d 0 f)
+      (λ t. let r = accepted-read-up z (Is f) (m .good) n a (eqb-true d 0 t) in
+      record {
+        number = refl;
+        value = ap little (same-bytes z f m n a (unaligned-fits z f m n a 0 (eqb-true d 0 t)) (readUp n a z) r);
+        matches = matches-quiet z f m (readUp n a z .next) (quiet-step z (Is f) (readUp n a z .next) (record { good = r .good; kept = r .kept }));
+      })
+      (λ _. record { number = refl; value = refl; matches = m }))
+
+  write-unaligned-answered : (v : ℕ) → SameAnswer (writeUnalignedCall n a v z) (flatWriteUnaligned n a v f)
+  unfolding writeUnalignedStep writeUnalignedDone flatWriteUnaligned
+  write-unaligned-answered v =
+      let d = unalignedDueIn z n a v in let e = same-unaligned-due v in
+      let s = write-unaligned-step n a v z (good-well z (Is f) (m .good)) in
+      rw (s, e) (cond-both SameAnswer (eqb d 0) (writeUnalignedDone n a v z) (refused d z) (flatReply 0 0 (flatPut a (littleBytes v n) f)) (flatReply d 0 f)
+      (λ t. record {
+        number = refl;
+        value = refl;
+        matches = put-matches z f m n a v (unaligned-fits z f m n a v (eqb-true d 0 t)) (writeUp n a (littleBytes v n) z .next)
+            (λ F′ wr. accepted-write-up z (Is f) F′ (m .good) n a v wr (eqb-true d 0 t));
+      })
+      (λ _. record { number = refl; value = refl; matches = m }))
+
 -- ---- one call: a view is not compared and changes nothing, a fresh start is not listed
+answer-agrees : (c : Call) (z : State) (f : Flat) → global c ≡ false → SameAnswer (called c z) (flatCalled c f) → AgreesAt c z f
+answer-agrees c z f n r = record { number = λ _. r .number; value = λ _. r .value; settled = λ g. false-true (sym n ∙ g) }
+
 call-agrees : (c : Call) (z : State) (f : Flat) → Matches z f → listedCall c ≡ true → AgreesAt c z f
 call-agrees freshStart z f m y = false-true y
 call-agrees (look a) z f m y = record { number = λ n. false-true n; value = λ n. false-true n; settled = λ n. false-true n }
+call-agrees (readUnaligned n a) z f m y = answer-agrees (readUnaligned n a) z f refl (read-unaligned-answered z f m n a)
+call-agrees (writeUnaligned n a v) z f m y = answer-agrees (writeUnaligned n a v) z f refl (write-unaligned-answered z f m n a v)
 call-agrees (oneCommand c) z f m y =
     let s = call-step c z (good-well z (Is f) (m .good)) in
     let r = step-answered c z f m y in
@@ -278,6 +331,8 @@ pub call-matches : (c : Call) (z : State) (f : Flat) → Matches z f → listedC
 unfolding viewDone
 call-matches freshStart z f m y = false-true y
 call-matches (look a) z f m y = m
+call-matches (readUnaligned n a) z f m y = read-unaligned-answered z f m n a .matches
+call-matches (writeUnaligned n a v) z f m y = write-unaligned-answered z f m n a v .matches
 call-matches (oneCommand c) z f m y = let s = call-step c z (good-well z (Is f) (m .good)) in rw s (step-answered c z f m y .matches)
 
 -- ---- along a list

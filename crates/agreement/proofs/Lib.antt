@@ -1,5 +1,6 @@
 pub mod Agreement
 pub mod Behind
+pub mod Bounds
 pub mod Changes
 pub mod Cuts
 pub mod Drops
@@ -20,4 +21,5 @@ pub mod Sweeps
 pub mod Tables
 pub mod Tested
 pub mod TraceAgreement
+pub mod Unaligned
 pub mod Writeback

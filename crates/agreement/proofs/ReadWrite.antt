@@ -33,7 +33,7 @@ home-l2-yes : (r : Record) (a : ℕ) → externalBase ≤ a → l2SetsOf r ≢ 0
 unfolding homeIsL2
 home-l2-yes r a h n = rw (le-ltb a externalBase h, mode0-sets r, ne-eqb (l2SetsOf r) 0 n) refl
 
-home-same : (z z′ : State) (a : ℕ) → z′ .rec .mode ≡ z .rec .mode → homeIsL2 (z′ .rec) a ≡ homeIsL2 (z .rec) a
+pub home-same : (z z′ : State) (a : ℕ) → z′ .rec .mode ≡ z .rec .mode → homeIsL2 (z′ .rec) a ≡ homeIsL2 (z .rec) a
 unfolding homeIsL2 mode0
 home-same z z′ a e = rw e refl
 

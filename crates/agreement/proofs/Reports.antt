@@ -316,7 +316,7 @@ unfolding homeIsL2
 external-home r a e t = bool (mode0 r) (λ u. u) (λ u. false-true (sym (rw (t, u) at e)))
 
 -- so many in mode 0 and none in any other, and the other way round: never both
-abbrev inMode0 : Bool → ℕ → ℕ
+abbrev pub inMode0 : Bool → ℕ → ℕ
 inMode0 b n = cond b n 0
 
 abbrev inOthers : Bool → ℕ → ℕ
@@ -509,3 +509,127 @@ at-most-128 c z =
     most (write-reported 128 (omega arith) z a bs (omega arith)))
     (λ _. (omega arith, omega arith))))
     (λ _. (omega arith, omega arith))
+
+-- ---- where L2 has nothing to fetch (02, U6): it is not the home of a, or has a's line. Then only what goes past L2 is
+-- moved, in mode 0
+abbrev pub QuietL2 : State → ℕ → Type 0
+QuietL2 z a = (homeIsL2 (z .rec) a ≡ false) ⊎ (inL2 z a ≡ true)
+
+quiet-fetch : (a : ℕ) (z : State) → QuietL2 z a → Done 0 0 z (fetchL2Moved a z) (fetchL2 a z)
+unfolding fetchL2Moved fetchL2
+quiet-fetch a z =
+    ⊎-elim (λ e. rw e (still-done 0 0 (within z)))
+    (λ i. bool (homeIsL2 (z .rec) a) (λ e. rw (e, i) (still-done 0 0 (useL2-within z (l2SetOf (z .rec) a) (l2WayFor z a))))
+    (λ e. rw e (still-done 0 0 (within z))))
+
+abbrev pub leaving : ℕ → State → State
+leaving a z = evictL1d (l1dSetOf a) (l1dVictim (l1dSetAt (z .rec) (l1dSetOf a))) z
+
+module _ (b : Bool) (a : ℕ) (z : State) (u : mode0 (z .rec) ≡ b) (y : QuietL2 z a) where
+  quiet-frozen : (n : ℕ) → Done (inMode0 b n) 0 z (readFrozenMoved n a z) (fetchL2 a z)
+  unfolding readFrozenMoved
+  quiet-frozen n =
+      then (homeMoved a a n) (λ x. x) u (quiet-fetch a z y) (home-done b a a n (omega arith)) (inl refl) (omega arith) (omega arith)
+
+  quiet-emptied : (w n : ℕ) → Done (inMode0 b 64) 0 z (readEmptiedMoved w a z) (readEmptied w n a z .next)
+  unfolding readEmptiedMoved readEmptied readFilled
+  quiet-emptied w n =
+      then-still (useL1d (l1dSetOf a) w)
+      (then (fillL1dMoved w (l2WayFor z a) a) (fillL1d w (l2WayFor z a) a) u (quiet-fetch a z y)
+      (fillL1d-done b w (l2WayFor z a) a) (inl refl) (omega arith) (omega arith))
+      (λ x. useL1d-within x (l1dSetOf a) w)
+
+  quiet-write : (bs : List ℕ) → Done 0 (inMode0 b (length bs)) z (writeMissMoved a bs z) (writeMiss a bs z .next)
+  unfolding writeMissMoved writeMiss
+  quiet-write bs =
+      then (writeHomeMoved (l2WayFor z a) a bs) (writeHome (l2WayFor z a) a bs) u (quiet-fetch a z y)
+      (writeHome-done b (l2WayFor z a) a bs) (inl refl) (omega arith) (omega arith)
+
+-- so many in mode 0, and none in any other
+mode0-most : (b : Bool) (n : ℕ) → inMode0 b n ≤ n
+mode0-most true n = omega arith
+mode0-most false n = omega arith
+
+quiet-thawed : (b : Bool) (a : ℕ) (z : State) → mode0 (z .rec) ≡ b → QuietL2 (leaving a z) a →
+    (bytesIn (readThawedMoved a z .read) ≤ inMode0 b 64) × (bytesIn (readThawedMoved a z .written) ≤ inMode0 b 64)
+unfolding readThawedMoved
+quiet-thawed b a z u y =
+    let s = l1dSetOf a in let w = l1dVictim (l1dSetAt (z .rec) s) in
+    let m = evictL1dMoved s w z in let d = evictL1d-done b s w z u in
+    let v = same-mode (z .rec) (m .next .rec) (d .mode) ∙ u in
+    let k = quiet-emptied b a (m .next) v (subst (λ (x : State). QuietL2 x a) (sym (d .next)) y) w 1 in
+    let r = bytes-both (m .read) (readEmptiedMoved w a (m .next) .read) in
+    let t = bytes-both (m .written) (readEmptiedMoved w a (m .next) .written) in
+    let d₁ = d .read in let d₂ = d .written in let k₁ = k .read in let k₂ = k .written in
+    (omega arith, omega arith)
+
+-- what one byte costs
+pub record AtMost (n : ℕ) (q : Report) : Type 0 where
+  pub read : q .read ≤ n
+  pub written : q .written ≤ n
+
+module _ (a : ℕ) (z : State) where
+  pub read-any : AtMost 128 (readReport 1 a z)
+  read-any = let h = most (read-reported 128 (omega arith) z 1 a (omega arith)) in record { read = h .0; written = h .1 }
+
+  pub read-past : cacheable (z .rec) a ≡ false → AtMost 1 (readReport 1 a z)
+  unfolding readReport
+  read-past c = let d = memory-done 1 1 a 1 z (λ _. omega arith) in rw c (record { read = d .read; written = d .written })
+
+  pub read-hit : cacheable (z .rec) a ≡ true → inL1d z a ≡ true → AtMost 0 (readReport 1 a z)
+  unfolding readReport
+  read-hit c i = rw (c, i) (record { read = omega arith; written = omega arith })
+
+  -- a miss reports what it moved
+  miss-most : (k : ℕ) → cacheable (z .rec) a ≡ true → inL1d z a ≡ false →
+      (bytesIn (readMissMoved 1 a z .read) ≤ k) × (bytesIn (readMissMoved 1 a z .written) ≤ k) → AtMost k (readReport 1 a z)
+  unfolding readReport readMissReport
+  miss-most k c i h =
+      let m = readMissMoved 1 a z in
+      rw (c, i) (cond-elim (AtMost k) (z .rec .frozen) (report _ _ m) (report _ _ m) (λ _. record { read = h .0; written = h .1 })
+      (λ _. record { read = h .0; written = h .1 }))
+
+  pub read-frozen : cacheable (z .rec) a ≡ true → inL1d z a ≡ false → z .rec .frozen ≡ true → QuietL2 z a →
+      AtMost (inMode0 (mode0 (z .rec)) 1) (readReport 1 a z)
+  unfolding readMissMoved
+  read-frozen c i f y =
+      let k = inMode0 (mode0 (z .rec)) 1 in
+      let d = quiet-frozen (mode0 (z .rec)) a z refl y 1 in let d₁ = d .read in let d₂ = d .written in
+      miss-most k c i
+      (cond-elim (λ (m : Moved). (bytesIn (m .read) ≤ k) × (bytesIn (m .written) ≤ k)) (z .rec .frozen) (readFrozenMoved 1 a z) (readThawedMoved a z)
+      (λ _. (d₁, omega arith)) (λ t. false-true (sym t ∙ f)))
+
+  pub read-thawed : cacheable (z .rec) a ≡ true → inL1d z a ≡ false → z .rec .frozen ≡ false → QuietL2 (leaving a z) a →
+      AtMost (inMode0 (mode0 (z .rec)) 64) (readReport 1 a z)
+  unfolding readMissMoved
+  read-thawed c i f y =
+      let k = inMode0 (mode0 (z .rec)) 64 in
+      miss-most k c i
+      (cond-elim (λ (m : Moved). (bytesIn (m .read) ≤ k) × (bytesIn (m .written) ≤ k)) (z .rec .frozen) (readFrozenMoved 1 a z) (readThawedMoved a z)
+      (λ t. false-true (sym f ∙ t)) (λ _. quiet-thawed (mode0 (z .rec)) a z refl y))
+
+  module _ (bs : List ℕ) (one : length bs ≡ 1) where
+    pub write-any : AtMost 128 (writeReport a bs z)
+    write-any = let h = most (write-reported 128 (omega arith) z a bs (omega arith)) in record { read = h .0; written = h .1 }
+
+    pub write-past : cacheable (z .rec) a ≡ false → AtMost 1 (writeReport a bs z)
+    unfolding writeReport
+    write-past c = let d = put-done 1 1 a bs z (λ _. omega arith) in rw c (record { read = d .read; written = d .written })
+
+    pub write-hit : cacheable (z .rec) a ≡ true → inL1d z a ≡ true → AtMost 0 (writeReport a bs z)
+    unfolding writeReport
+    write-hit c i = rw (c, i) (record { read = omega arith; written = omega arith })
+
+    pub write-quiet : cacheable (z .rec) a ≡ true → inL1d z a ≡ false → QuietL2 z a → AtMost (inMode0 (mode0 (z .rec)) 1) (writeReport a bs z)
+    unfolding writeReport writeMissReport
+    write-quiet c i y =
+        let d = quiet-write (mode0 (z .rec)) a z refl y bs in
+        let d₁ = d .read in let d₂ : bytesIn (writeMissMoved a bs z .written) ≤ inMode0 (mode0 (z .rec)) 1 = rw one at (d .written) in
+        rw (c, i) (record { read = omega arith; written = d₂ })
+
+-- in mode 0 and out of it
+pub at-most-mode : (z : State) (a n : ℕ) (q : Report) → AtMost (inMode0 (mode0 (z .rec)) n) q → AtMost n q
+at-most-mode z a n q h = let k = mode0-most (mode0 (z .rec)) n in let h₀ = h .read in let h₁ = h .written in record { read = omega arith; written = omega arith }
+
+pub none-from-l2 : (z : State) (a n : ℕ) (q : Report) → homeIsL2 (z .rec) a ≡ true → AtMost (inMode0 (mode0 (z .rec)) n) q → AtMost 0 q
+none-from-l2 z a n q e h = let u = l2-home (z .rec) a e in rw u at h

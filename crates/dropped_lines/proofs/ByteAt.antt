@@ -2,7 +2,7 @@
 -- right wherever there is one, so that in two good states of the same sizes it is the same where what is seen is the
 -- same; an accepted read gives the bytes of its addresses; and the same of flat memory. Why: a read of one byte is
 -- accepted just where the address is in SRAM or external memory, and every byte that an accepted read gives is right.
-use Prim.Native.Nat.{ℕ, zero, suc, _+_, _%_, _≤_, _<_}
+use Prim.Native.Nat.{ℕ, zero, suc, _+_, _-_, _≤_, _<_}
 use mathlib.Core.Bool.{false}
 use mathlib.Core.Path.{_≡_, refl, sym, ap, _∙_, subst}
 use mathlib.Core.List.{List, [], _∷_}
@@ -10,14 +10,14 @@ use native.Mathlib.Omega.{arith}
 use lib.ListN.{length, getD}
 use lib.Seq.{ext-getD}
 use lib.Dec.{ltb, eqb}
-use borrow.Author.Tests.{ltb-true, ltb-false, le-leb, eqb-true}
+use borrow.Author.Tests.{ltb-true, ltb-false, eqb-true}
 use Rattle.model.specs.Bytes.{little}
 use Rattle.model.specs.Memories.{externalBase}
 use Rattle.model.specs.Records.{State, sramOf}
-use Rattle.model.specs.Access.{readAccess}
+use Rattle.model.specs.Access.{Access, readAccess}
 use Rattle.model.specs.Flat.{Flat, flatPart, flatRead, flatStep}
-use Rattle.model.specs.Refusals.{sizeOk, placeOk, valueOk, accessDue}
-use Rattle.model.specs.Calls.{Reply, commandDue, readDone, accepted, step}
+use Rattle.model.specs.Refusals.{accessDue}
+use Rattle.model.specs.Calls.{Reply, commandDue, readDone, accepted, step, unalignedDueIn}
 use Rattle.dropped_lines.specs.Dropped.{oneByte, byteAt, flatByteAt, bytesAt}
 use Rattle.model.specs.Laws.{bool}
 use Rattle.agreement.proofs.Invariant.{Allowed, Inside}
@@ -25,7 +25,9 @@ use Rattle.agreement.proofs.Memory.{Fits, read-length, read-at}
 use Rattle.agreement.proofs.Good.{layoutOf, Good, Well, good-well}
 use Rattle.dropped_lines.proofs.Held.{Seen}
 use Rattle.agreement.proofs.Due.{access-tells, accepted-read}
+use Rattle.agreement.proofs.ReadWrite.{ReadGood}
 use Rattle.agreement.proofs.Steps.{Quiet}
+use Rattle.agreement.proofs.Unaligned.{one-due, all-fit}
 use Rattle.agreement.proofs.Tested.{call-step}
 use Rattle.agreement.proofs.Agreement.{flatByte}
 
@@ -37,12 +39,7 @@ little-one (b ∷ []) e = omega arith
 little-one (b ∷ c ∷ bs) e = absurd (omega arith)
 
 due-one : (s e a : ℕ) → (a < externalBase → a < s) → (externalBase ≤ a → a < externalBase + e) → accessDue s e 1 a 0 ≡ 0
-unfolding accessDue sizeOk placeOk valueOk
-due-one s e a low high =
-    let r : a % 1 ≡ 0 = omega arith in
-    bool (ltb a externalBase)
-    (λ t. let l = low (ltb-true a externalBase t) in rw (r, t, le-leb (a + 1) s (omega arith)) refl)
-    (λ t. let l = high (ltb-false a externalBase t) in rw (r, t, le-leb (a + 1) (externalBase + e) (omega arith)) refl)
+due-one s e a low high = one-due s e a 0 (λ l. let x = low l in omega arith) (λ l. let x = high l in omega arith) (omega arith)
 
 -- each address of an accepted access is inside
 pub due-inside : (z : State) (n a v : ℕ) → accessDue (sramOf (z .rec)) (z .rec .extlen) n a v ≡ 0 → (b : ℕ) → a ≤ b → b < a + n → Inside (layoutOf (z .rec)) b
@@ -55,6 +52,12 @@ due-inside z n a v d b h k =
           (λ y. let y′ = ltb-true a externalBase y in absurd (omega arith))
           (λ y. let g = t .high (ltb-false a externalBase y) in omega arith);
     }
+
+-- and of an accepted non-aligned one
+pub unaligned-inside : (z : State) (n a v : ℕ) → unalignedDueIn z n a v ≡ 0 → (b : ℕ) → a ≤ b → b < a + n → Inside (layoutOf (z .rec)) b
+unaligned-inside z n a v d b h k =
+    let f = all-fit z n a v d .fits (b - a) (omega arith) in
+    record { low = λ l. let x = f .low (omega arith) in omega arith; high = λ l. let x = f .high (omega arith) in omega arith }
 
 byte-step : (z : State) → Well z → (a : ℕ) → byteAt z a ≡ step (oneByte a) z .value
 unfolding byteAt
@@ -124,10 +127,10 @@ bytes-get z zero a j h = absurd (omega arith)
 bytes-get z (suc n) a zero h = let e : a + 0 ≡ a = omega arith in rw e refl
 bytes-get z (suc n) a (suc j) h = let e : suc a + j ≡ a + suc j = omega arith in rw (← e) (bytes-get z n (suc a) j (omega arith))
 
-pub read-bytes : (z : State) (g : ℕ → ℕ) (h : ℕ → List ℕ) → Good z (Seen g h) → (n a : ℕ) → accessDue (sramOf (z .rec)) (z .rec .extlen) n a 0 ≡ 0 →
-    readAccess n a z .bytes ≡ bytesAt z a n
-read-bytes z g h q n a d =
-    let r = accepted-read z (Seen g h) q n a d in let l = r .long in
-    ext-getD 0 (readAccess n a z .bytes) (bytesAt z a n) (l ∙ sym (bytes-length z a n))
+pub read-bytes : (z : State) (g : ℕ → ℕ) (h : ℕ → List ℕ) → Good z (Seen g h) → (n a : ℕ) (x : Access) → ReadGood z (Seen g h) a n x →
+    ((b : ℕ) → a ≤ b → b < a + n → Inside (layoutOf (z .rec)) b) → x .bytes ≡ bytesAt z a n
+read-bytes z g h q n a x r i =
+    let l = r .long in
+    ext-getD 0 (x .bytes) (bytesAt z a n) (l ∙ sym (bytes-length z a n))
     (λ j k. let k′ : j < n = omega arith in
-    r .right j k′ .0 ∙ sym (bytes-get z n a j k′ ∙ byte-right z (Seen g h) q (a + j) (due-inside z n a 0 d (a + j) (omega arith) (omega arith)) .0))
+    r .right j k′ .0 ∙ sym (bytes-get z n a j k′ ∙ byte-right z (Seen g h) q (a + j) (i (a + j) (omega arith) (omega arith)) .0))

@@ -4,34 +4,37 @@
 -- Why: a command that flat memory does not see keeps the state good by the same g and h; a write puts its bytes into g
 -- and adds them to h; a mode change leaves the memories alone to be seen; after a drop the state is good by what is
 -- seen now, which differs only where a dirty line was dropped. Each byte of a read is g's.
-use Prim.Native.Nat.{ℕ, _+_, _≤_, _<_}
+use Prim.Native.Nat.{ℕ, _+_, _-_, _≤_, _<_}
 use mathlib.Core.Bool.{Bool, true, false, not, cond, _&&_, _||_, and-false}
 use mathlib.Core.Path.{_≡_, refl, sym, ap, _∙_, subst}
 use mathlib.Core.List.{List, [], _∷_}
 use native.Mathlib.Omega.{arith}
-use lib.ListN.{length}
+use lib.ListN.{length, getD}
 use lib.Dec.{ltb, leb, eqb}
 use borrow.Author.Tests.{ltb-true, ltb-false, lt-ltb, le-ltb, le-leb, lt-leb, leb-true, leb-false, eqb-true, eqb-false, ne-eqb}
 use Rattle.model.specs.Bytes.{little, littleBytes, zeroFrom}
 use Rattle.model.specs.Memories.{externalBase, legalL2, legalExternal, sramLength}
 use Rattle.model.specs.Records.{State, sramOf, freshRecord, freshState}
-use Rattle.model.specs.Access.{readAccess, writeAccess}
+use Rattle.model.specs.Access.{readAccess}
+use Rattle.model.specs.Unaligned.{readUp, unalignedDue}
 use Rattle.model.specs.Modes.{smaller, flushL2, newMode, changeMode}
-use Rattle.model.specs.Flat.{Flat, FlatReply, flatReply, freshFlat, flatPart, flatPut, flatMode, flatRead, flatWrite, flatChange, flatStep, flatCalled}
+use Rattle.model.specs.Flat.{Flat, FlatReply, flatReply, freshFlat, flatPart, flatPut, flatMode, flatRead, flatWrite, flatChange, flatStep, flatReadUnaligned, flatWriteUnaligned, flatCalled}
 use Rattle.model.specs.Refusals.{accessDue, modeDue}
 use Rattle.model.specs.Trace.{command}
-use Rattle.model.specs.Calls.{Reply, refused, commandDue, readDone, writeDone, commandState, accepted, step, call, viewDone, Call, oneCommand, freshStart, look, called}
+use Rattle.model.specs.Calls.{Reply, refused, commandDue, readDone, writeDone, commandState, accepted, step, call, viewDone, unalignedDueIn, readUnalignedDone, writeUnalignedDone, readUnalignedStep, writeUnalignedStep, readUnalignedCall, Call, oneCommand, freshStart, look, readUnaligned, writeUnaligned, called}
 use Rattle.dropped_lines.specs.Dropped.{listedCall, listed, byteAt, memoryAt, reads, writes, newByte, changesMode, dropCode, HoldsAt, oneOf}
 use Rattle.dropped_lines.specs.Reached.{within}
 use Rattle.dropped_lines.specs.Stronger.{dirtyInL1d, dirtyInL2, inDirtyLine, loses, showsAfter, lostAfter, changes, HoldsStronger, StrongerDroppedLines, end, next}
-use Rattle.model.specs.Laws.{bool, false-true, both-true, cond-elim, length-littleBytes}
+use Rattle.model.specs.Laws.{bool, false-true, both-true, cond-elim, cond-both, length-littleBytes}
 use Rattle.model.specs.declared.Command.{Command}
 use Rattle.agreement.proofs.Invariant.{Allowed, Layout, Inside}
 use Rattle.agreement.proofs.Memory.{memory-low, memory-high, low-length, high-length, Fits, wrote-memory, Written, inside-or-not}
 use Rattle.agreement.proofs.Good.{layoutOf, memoryOf, Good, Well, good-well}
 use Rattle.dropped_lines.proofs.Held.{In, in-head, in-tail, Seen, seen, neither, none-dirty, memory-at, settled, dropped-good, not-dropped}
-use Rattle.dropped_lines.proofs.ByteAt.{due-inside, byte-right, byte-same, SameSizes, sizes-quiet, flat-byte, read-bytes}
+use Rattle.dropped_lines.proofs.ByteAt.{due-inside, unaligned-inside, byte-right, byte-same, SameSizes, sizes-quiet, flat-byte, read-bytes}
+use Rattle.agreement.proofs.Fetch.{AccessFits}
 use Rattle.agreement.proofs.ReadWrite.{Step}
+use Rattle.agreement.proofs.Unaligned.{due-fits, accepted-read-up, accepted-write-up, read-unaligned-step, write-unaligned-step, read-unaligned-done}
 use Rattle.agreement.proofs.Sweeps.{flush-good}
 use Rattle.agreement.proofs.Changes.{zero-length, zero-below, zero-above, smaller-bound, fresh-l1d-none, fresh-l2-none, fresh-good, newMode-good}
 use Rattle.agreement.proofs.Due.{access-tells, accepted-read, accepted-write, mode-tells}
@@ -158,25 +161,21 @@ module _ (z : State) (f : Flat) (h : ℕ → List ℕ) (lost : ℕ → Bool) (g 
         inMemory = λ _. memory-may c r h h (seen z′) q (grown-in c r h);
       }
 
--- ---- an accepted write of a bytes at b
-module _ (z : State) (f : Flat) (h : ℕ → List ℕ) (lost : ℕ → Bool) (g : ℕ → ℕ) (m : Follows z f h lost g) (a b v : ℕ) (r : Reply) (ok : r .number ≡ 0) where
-  abbrev cw : Call
-  cw = oneCommand (command 1 a b v)
-
+-- ---- an accepted write of a bytes at b, aligned (`cw` is that command) or not
+module _ (z : State) (f : Flat) (h : ℕ → List ℕ) (lost : ℕ → Bool) (g : ℕ → ℕ) (m : Follows z f h lost g) (a b v : ℕ) (cw : Call) (r : Reply)
+    (wr : (x : ℕ) → writes cw r x ≡ within b a x) (new : (x : ℕ) → newByte cw x ≡ getD (littleBytes v a) (x - b) 0) where
   abbrev bs : List ℕ
   bs = littleBytes v a
 
   writes-in : (x : ℕ) → b ≤ x → x < b + length bs → writes cw r x ≡ true
-  unfolding writes
-  writes-in x l u = let n = length-littleBytes v a in rw (ok, le-leb b x l, lt-ltb x (b + a) (omega arith)) refl
+  writes-in x l u = let n = length-littleBytes v a in let e = wr x in rw (e, le-leb b x l, lt-ltb x (b + a) (omega arith)) refl
 
   writes-out : (x : ℕ) → (b ≤ x → b + length bs ≤ x) → writes cw r x ≡ false
-  unfolding writes
   writes-out x o =
-      let n = length-littleBytes v a in
+      let n = length-littleBytes v a in let e = wr x in
       bool (leb b x)
-      (λ t. let u = o (leb-true b x t) in rw (ok, t, le-ltb x (b + a) (omega arith)) refl)
-      (λ t. rw (ok, t) refl)
+      (λ t. let u = o (leb-true b x t) in rw (e, t, le-ltb x (b + a) (omega arith)) refl)
+      (λ t. rw (e, t) refl)
 
   abbrev put : ℕ → ℕ
   put x = cond (writes cw r x) (newByte cw x) (g x)
@@ -186,25 +185,24 @@ module _ (z : State) (f : Flat) (h : ℕ → List ℕ) (lost : ℕ → Bool) (g 
   write-writes =
       record {
         puts = record {
-          inside = λ x l u. let t = writes-in x l u in rw t (refl, in-head (newByte cw x) (newByte cw x) (h x) refl);
+          inside = λ x l u. let t = writes-in x l u in let e = new x in rw (t, ← e) (refl, in-head (newByte cw x) (newByte cw x) (h x) refl);
           outside = λ x o d p. let t = writes-out x o in rw t p;
         };
         grows = record { held = λ x d p. grown-in cw r h x d p; alike = λ _ _ p. p };
       }
 
-  write-after : r .next ≡ writeAccess b bs z .next → accessDue (sramOf (z .rec)) (z .rec .extlen) a b v ≡ 0 → After cw z r f (flatPut b bs f) h lost g
-  write-after e d =
+  write-after : AccessFits (layoutOf (z .rec)) b a → ((F : Allowed) → Written (Seen g h) F b bs → Step z F (r .next)) → After cw z r f (flatPut b bs f) h lost g
+  write-after k done =
       let z′ = r .next in
-      let w : Step z (Seen put (grown cw r h)) (writeAccess b bs z .next) = accepted-write z (Seen g h) (m .good) a b (Seen put (grown cw r h)) v write-writes d in
-      let w′ : Step z (Seen put (grown cw r h)) z′ = subst (Step z (Seen put (grown cw r h))) (sym e) w in
-      let y = quiet-step z (Seen put (grown cw r h)) z′ w′ in
+      let w : Step z (Seen put (grown cw r h)) z′ = done (Seen put (grown cw r h)) write-writes in
+      let y = quiet-step z (Seen put (grown cw r h)) z′ w in
       let s = sizes-quiet z z′ (Seen put (grown cw r h)) f (m .sizes) y in
       let same : sramOf (z′ .rec) ≡ sramOf (z .rec) = sym (s .sram) ∙ m .sizes .sram in
-      let wr = wrote-memory (f .sram) (f .ext) bs b fits sram-below in
+      let wo = wrote-memory (f .sram) (f .ext) bs b fits sram-below in
       record {
         g′ = put;
         follows = record {
-          good = cut-down cw r h (grown cw r h) put (w′ .good) (λ _ _ _ p. p);
+          good = cut-down cw r h (grown cw r h) put (w .good) (λ _ _ _ p. p);
           sizes = rw (flatPut-state b bs f) (record {
             l2len = s .l2len;
             sram = low-length (f .sram) bs b ∙ s .sram;
@@ -212,21 +210,17 @@ module _ (z : State) (f : Flat) (h : ℕ → List ℕ) (lost : ℕ → Bool) (g 
           });
           agrees = λ x i l. let i₀ = inside-same z z′ x same (y .extlen) i in
               rw (flatPut-state b bs f) (inside-or-not b x (length bs)
-              (λ lo hi. let t = writes-in x lo hi in let p = wr .inside x lo hi in rw (t, p) refl)
-              (λ o. let t = writes-out x o in let p = wr .outside x o in rw (t, p) (m .agrees x i₀ (lost-before cw z r lost x t l .0))));
+              (λ lo hi. let t = writes-in x lo hi in let p = wo .inside x lo hi in let e = new x in rw (t, p) e)
+              (λ o. let t = writes-out x o in let p = wo .outside x o in rw (t, p) (m .agrees x i₀ (lost-before cw z r lost x t l .0))));
         };
         keeps = λ x t _. let n = unchanged cw z r x t .1 in rw n refl;
         sizes = λ _. (same, y .extlen);
-        inMemory = λ _. memory-may cw r h (grown cw r h) put (w′ .good) (λ _ _ p. p);
+        inMemory = λ _. memory-may cw r h (grown cw r h) put (w .good) (λ _ _ p. p);
       }
     where
-      long : length (littleBytes v a) ≡ a
-      long = length-littleBytes v a
-
       fits : Fits (f .sram) (f .ext) b (length bs)
       fits =
-          let k = access-tells (sramOf (z .rec)) (z .rec .extlen) a b v d in
-          let mo = k .more in let n = long in let s = m .sizes .sram in let x = m .sizes .ext in
+          let n = length-littleBytes v a in let s = m .sizes .sram in let x = m .sizes .ext in
           record { low = λ y. let l = k .low y in omega arith; high = λ y. let l = k .high y in omega arith }
 
       sram-below : length (f .sram) ≤ externalBase
@@ -372,7 +366,11 @@ module _ (z : State) (f : Flat) (h : ℕ → List ℕ) (lost : ℕ → Bool) (g 
       let e = same-due v in
       bool (eqb (access v) 0)
       (λ t. let t′ : eqb (accessDue (length (f .sram)) (length (f .ext)) a b v) 0 ≡ true = rw e t in
-      rw (flatStep, t′) (write-after z f h lost g m a b v (step (command 1 a b v) z) (rw (step, t) refl) (rw (step, t) refl) (eqb-true (access v) 0 t)))
+      let ok : step (command 1 a b v) z .number ≡ 0 = rw (step, t) refl in
+      let k = access-tells (sramOf (z .rec)) (z .rec .extlen) a b v (eqb-true (access v) 0 t) in let mo = k .more in
+      rw (flatStep, t′) (write-after z f h lost g m a b v (oneCommand (command 1 a b v)) (step (command 1 a b v) z) (λ x. rw ok refl) (λ _. refl)
+      (record { low = λ y. let l = k .low y in omega arith; high = λ y. let l = k .high y in omega arith })
+      (λ F w. rw (step, t) (accepted-write z (Seen g h) (m .good) a b F v w (eqb-true (access v) 0 t)))))
       (λ t. let t′ : eqb (accessDue (length (f .sram)) (length (f .ext)) a b v) 0 ≡ false = rw e t in
       quiet-after z f h lost g m (oneCommand (command 1 a b v)) (step (command 1 a b v) z) (flatStep (command 1 a b v) f .next) (rw (flatStep, t′) refl)
       (λ x. refused-write (command 1 a b v) (step (command 1 a b v) z) (rw (step, t) t) x)
@@ -440,6 +438,38 @@ step-after c z f h lost g m =
     (done-other z f h lost g m a b v)
     (c .code)
 
+-- ---- non-aligned accesses
+module _ (z : State) (f : Flat) (h : ℕ → List ℕ) (lost : ℕ → Bool) (g : ℕ → ℕ) (m : Follows z f h lost g) (n b : ℕ) where
+  abbrev due : ℕ → ℕ
+  due v = unalignedDueIn z n b v
+
+  same-unaligned-due : (v : ℕ) → unalignedDue (length (f .sram)) (length (f .ext)) n b v ≡ due v
+  same-unaligned-due v = rw (m .sizes .sram, m .sizes .ext) refl
+
+  read-unaligned-after : After (readUnaligned n b) z (readUnalignedStep n b z) f (flatReadUnaligned n b f .next) h lost g
+  unfolding readUnalignedStep readUnalignedDone flatReadUnaligned writes
+  read-unaligned-after =
+      let d′ = unalignedDue (length (f .sram)) (length (f .ext)) n b 0 in
+      quiet-after z f h lost g m (readUnaligned n b) (readUnalignedStep n b z) (flatReadUnaligned n b f .next)
+      (cond-elim (λ (y : FlatReply). y .next ≡ f) (eqb d′ 0) (flatReply 0 (little (flatPart b n f)) f) (flatReply d′ 0 f) (λ _. refl) (λ _. refl))
+      (λ _. refl)
+      (cond-elim (λ (y : Reply). Quiet z (Seen g h) (y .next)) (eqb (due 0) 0) (readUnalignedDone n b z) (refused (due 0) z)
+      (λ t. let r = accepted-read-up z (Seen g h) (m .good) n b (eqb-true (due 0) 0 t) in
+      quiet-step z (Seen g h) (readUp n b z .next) (record { good = r .good; kept = r .kept }))
+      (λ _. quiet-refl z (Seen g h) (m .good)))
+
+  write-unaligned-after : (v : ℕ) → After (writeUnaligned n b v) z (writeUnalignedStep n b v z) f (flatWriteUnaligned n b v f .next) h lost g
+  unfolding writeUnalignedStep writeUnalignedDone flatWriteUnaligned writes
+  write-unaligned-after v =
+      let d = due v in let e = same-unaligned-due v in let c = writeUnaligned n b v in let x = m .good .tidy .sizes .l2Most in
+      rw e (cond-both (λ (r : Reply) (y : FlatReply). After c z r f (y .next) h lost g) (eqb d 0) (writeUnalignedDone n b v z) (refused d z)
+      (flatReply 0 0 (flatPut b (littleBytes v n) f)) (flatReply d 0 f)
+      (λ t. let t′ = eqb-true d 0 t in
+      write-after z f h lost g m n b v c (writeUnalignedDone n b v z) (λ _. refl) (λ _. refl)
+      (due-fits (sramOf (z .rec)) (z .rec .extlen) n b v (layoutOf (z .rec)) refl refl (omega arith) t′)
+      (λ F w. accepted-write-up z (Seen g h) F (m .good) n b v w t′))
+      (λ t. quiet-after z f h lost g m c (refused d z) f refl (λ _. rw t refl) (quiet-refl z (Seen g h) (m .good))))
+
 -- a view changes nothing, a fresh start is in no list
 pub call-after : (c : Call) (z : State) (f : Flat) (h : ℕ → List ℕ) (lost : ℕ → Bool) (g : ℕ → ℕ) → listedCall c ≡ true → Follows z f h lost g →
     After c z (called c z) f (flatCalled c f .next) h lost g
@@ -447,6 +477,10 @@ unfolding viewDone writes
 call-after freshStart z f h lost g y m = false-true y
 call-after (look b) z f h lost g y m =
     quiet-after z f h lost g m (look b) (viewDone b z) f refl (λ _. refl) (quiet-refl z (Seen g h) (m .good))
+call-after (readUnaligned n b) z f h lost g y m =
+    let s = read-unaligned-step n b z (good-well z (Seen g h) (m .good)) in rw s (read-unaligned-after z f h lost g m n b)
+call-after (writeUnaligned n b v) z f h lost g y m =
+    let s = write-unaligned-step n b v z (good-well z (Seen g h) (m .good)) in rw s (write-unaligned-after z f h lost g m n b v)
 call-after (oneCommand c) z f h lost g y m =
     let s = call-step c z (good-well z (Seen g h) (m .good)) in rw s (step-after c z f h lost g m)
 
@@ -467,11 +501,24 @@ read-tells : (c : Command) (z : State) → c .code ≡ 0 → ReadTells c z
 read-tells c z t =
     subst (λ (k : ℕ). ReadTells (command k (c .first) (c .second) (c .value)) z) (sym t) (read-0 (c .first) (c .second) (c .value) z)
 
+unaligned-tells : (n b : ℕ) (z : State) → Well z → readUnalignedCall n b z .number ≡ 0 →
+    (unalignedDueIn z n b 0 ≡ 0) × (readUnalignedCall n b z .value ≡ little (readUp n b z .bytes))
+unfolding readUnalignedDone
+unaligned-tells n b z w e =
+    let s = read-unaligned-step n b z w in
+    let p = read-unaligned-done n b z (sym (ap (λ (r : Reply). r .number) s) ∙ e) in
+    (p .0, ap (λ (r : Reply). r .value) (s ∙ p .1))
+
 -- an address that is read is inside
 pub reads-inside : (c : Call) (z : State) → Well z → (a : ℕ) → reads c (called c z) a ≡ true → Inside (layoutOf (z .rec)) a
 unfolding reads
 reads-inside freshStart z w a y = false-true y
 reads-inside (look b) z w a y = false-true y
+reads-inside (writeUnaligned n b v) z w a y = false-true y
+reads-inside (readUnaligned n b) z w a y =
+    let p = both-true (eqb (readUnalignedCall n b z .number) 0) (within b n a) y in
+    let i = both-true (leb b a) (ltb a (b + n)) (p .1) in
+    unaligned-inside z n b 0 (unaligned-tells n b z w (eqb-true (readUnalignedCall n b z .number) 0 (p .0)) .0) a (leb-true b a (i .0)) (ltb-true a (b + n) (i .1))
 reads-inside (oneCommand c) z w a y =
     let s = call-step c z w in
     let p = both-true (eqb (call c z .number) 0) (eqb (c .code) 0 && within (c .second) (c .first) a) y in
@@ -492,7 +539,12 @@ holds-at c z f h lost g y m =
       bytes = λ k _ t n.
           let s = call-step k z w in
           let y′ = read-tells k z t (sym (ap (λ (r : Reply). r .number) s) ∙ n) in
-          ap (λ (r : Reply). r .value) s ∙ y′ .1 ∙ ap little (read-bytes z g h q (k .first) (k .second) (y′ .0));
+          ap (λ (r : Reply). r .value) s ∙ y′ .1 ∙ ap little (read-bytes z g h q (k .first) (k .second) (readAccess (k .first) (k .second) z)
+          (accepted-read z (Seen g h) q (k .first) (k .second) (y′ .0)) (due-inside z (k .first) (k .second) 0 (y′ .0)));
+      bytesUnaligned = λ n b e o.
+          let p = unaligned-tells n b z w (sym (ap (λ (x : Call). called x z .number) e) ∙ o) in
+          ap (λ (x : Call). called x z .value) e ∙ p .1
+          ∙ ap little (read-bytes z g h q n b (readUp n b z) (accepted-read-up z (Seen g h) q n b (p .0)) (unaligned-inside z n b 0 (p .0)));
       sentence1 = λ a t. right a (reads-inside c z w a t) .1;
       sentence2 = λ a t n. let i = reads-inside c z w a t in right a i .0 ∙ m .agrees a i n ∙ sym (flat-byte z (Seen g h) q f (m .sizes) a i);
       sentence3 = λ a t.

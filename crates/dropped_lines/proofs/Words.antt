@@ -5,23 +5,25 @@
 -- Why: a writeback that reached a byte leaves no dirty line with it (`sent-clean`), so that the stronger form too has
 -- its memory's byte alone; where no dirty line is left otherwise, the byte in memory is one that it held. A dirty line
 -- that was lost is a valid line that was dropped, and one that the command's block touches (`loses-touched`).
-use Prim.Native.Nat.{ℕ, _*_, _/_}
-use mathlib.Core.Bool.{Bool, true, false, not, _&&_, _||_}
+use Prim.Native.Nat.{ℕ, zero, suc, _*_, _/_}
+use mathlib.Core.Bool.{Bool, true, false, not, cond, _&&_, _||_}
 use mathlib.Core.Path.{_≡_, refl, sym, ap, _∙_, subst}
+use mathlib.Core.Logic.{⊎-elim}
 use mathlib.Core.List.{List, [], _∷_}
 use lib.ListN.{length}
 use lib.Dec.{eqb}
 use borrow.Author.Tests.{eqb-true, eqb-false}
-use Rattle.model.specs.Basics.{anyOf}
+use Rattle.model.specs.Basics.{each, anyOf}
 use Rattle.model.specs.Memories.{legalL2, legalExternal}
 use Rattle.model.specs.Lines.{l1dSetOf}
 use Rattle.model.specs.Records.{State, l2SetOf, l1dLineAt, l2LineAt, freshState}
 use Rattle.model.specs.Ways.{l1dWay, l2Way, inL1d, inL2}
 use Rattle.model.specs.Modes.{newMode, changeMode}
-use Rattle.model.specs.Flat.{Flat, freshFlat, flatCalled}
+use Rattle.model.specs.Flat.{Flat, freshFlat, flatStep, flatCalled}
 use Rattle.model.specs.Refusals.{modeDue}
 use Rattle.model.specs.Trace.{command}
-use Rattle.model.specs.Calls.{Reply, refused, carriedOut, commandDue, commandState, accepted, step, call, Call, oneCommand, freshStart, look, called}
+use Rattle.model.specs.Calls.{Reply, refused, carriedOut, commandDue, commandState, accepted, step, call, Call, oneCommand, freshStart, look, readUnaligned, writeUnaligned, called}
+use Rattle.model.specs.Bytewise.{byteRead, byteWrite, callsTo}
 use Rattle.model.specs.Laws.{bool, false-true, both-true, cond-elim}
 use Rattle.model.specs.declared.Command.{Command}
 use Rattle.agreement.proofs.Level.{Level, Valid, Sound}
@@ -31,11 +33,13 @@ use Rattle.agreement.proofs.Drops.{Dropped}
 use Rattle.agreement.proofs.Steps.{dropped-6, dropped-8, dropped-9}
 use Rattle.agreement.proofs.Changes.{fresh-l1d-none, fresh-l2-none}
 use Rattle.agreement.proofs.Tested.{call-step}
+use Rattle.agreement.proofs.Unaligned.{Either, read-unaligned-either, write-unaligned-either}
 use Rattle.agreement.proofs.Agreement.{fresh-accepted}
 use Rattle.dropped_lines.specs.Reached.{sends}
-use Rattle.dropped_lines.specs.Dropped.{listedCall, listed, byteAt, memoryAt, does, writes, newByte, changesMode, reached, dropCode, dropsLine, dropTouches, History, atFirst, heldAfter, historyAfter, HoldsAt, oneOf, lastOrHeld, mayChange, Holds, DroppedLines, end, next}
+use Rattle.dropped_lines.specs.Dropped.{listedCall, listed, byteAt, memoryAt, does, writes, newByte, changesMode, reached, dropCode, dropsLine, dropTouches, History, atFirst, heldAfter, historyOne, historyBytes, historyAfter, HoldsAt, oneOf, lastOrHeld, mayChange, Holds, DroppedLines, end, next}
 use Rattle.dropped_lines.specs.Stronger.{dirtyInL1d, dirtyInL2, inDirtyLine, loses, showsAfter, lostAfter, changes}
 use Rattle.dropped_lines.proofs.Held.{In, Seen, neither, DirtyAt, l1d-dirty, l2-dirty, l1d-clean, l2-clean, none-dirty, still-dirty}
+use Rattle.dropped_lines.proofs.ByteAt.{byte-right}
 use Rattle.dropped_lines.proofs.Dropping.{Follows, After, grown, inside-same, call-after, reads-inside, holds-at, fresh-follows}
 use Rattle.dropped_lines.proofs.Sent.{either, sent-clean}
 use Rattle.dropped_lines.proofs.Touching.{loses-touched}
@@ -62,6 +66,8 @@ reached-clean : (c : Call) (z : State) → Well z → (a : ℕ) → reached c z 
 unfolding reached changesMode
 reached-clean freshStart z q a y = false-true y
 reached-clean (look b) z q a y = false-true y
+reached-clean (readUnaligned n b) z q a y = false-true y
+reached-clean (writeUnaligned n b v) z q a y = false-true y
 reached-clean (oneCommand c) z q a y =
     let s = call-step c z q in let n = eqb (call c z .number) 0 in
     let e : inDirtyLine (step c z .next) a ≡ false =
@@ -149,6 +155,8 @@ loses-dropped : (c : Call) (z : State) → Well z → (a : ℕ) → dropsLine c 
 unfolding dropsLine loses
 loses-dropped freshStart z q a y = refl
 loses-dropped (look b) z q a y = refl
+loses-dropped (readUnaligned n b) z q a y = refl
+loses-dropped (writeUnaligned n b v) z q a y = refl
 loses-dropped (oneCommand c) z q a y =
     let s = call-step c z q in let z′ = call c z .next in
     bool (dropCode (c .code))
@@ -156,10 +164,10 @@ loses-dropped (oneCommand c) z q a y =
     rw t (still-both z z′ q d a (rw t at y)))
     (λ t. rw t refl)
 
--- ---- one call
+-- ---- one call, a non-aligned access apart
 call-covers : (c : Call) (z : State) (f f′ : Flat) (h : ℕ → List ℕ) (lost : ℕ → Bool) (g : ℕ → ℕ) → Well z → After c z (called c z) f f′ h lost g →
     (y : History) → Covers z h lost y →
-    Covers (called c z .next) (showsAfter c (called c z) h) (lostAfter c z (called c z) lost) (historyAfter c z (called c z) y)
+    Covers (called c z .next) (showsAfter c (called c z) h) (lostAfter c z (called c z) lost) (historyOne c z (called c z) y)
 unfolding lostAfter
 call-covers c z f f′ h lost g q r y v =
     record {
@@ -184,6 +192,7 @@ words-at : (c : Call) (z : State) (f : Flat) (h : ℕ → List ℕ) (lost : ℕ 
 words-at c z f h lost y q v p =
     record {
       bytes = p .bytes;
+      bytesUnaligned = p .bytesUnaligned;
       sentence1 = λ a t. let i = v .held a (byteAt z a) (reads-inside c z q a t) (p .sentence1 a t) in
           rw i (or-true (oneOf (y .last a) (byteAt z a)));
       sentence2 = λ a t n. p .sentence2 a t (v .lost-in a n);
@@ -202,9 +211,9 @@ pub record Stands (z : State) (f : Flat) (y : History) : Type 0 where
   pub follows : Follows z f h lost g
   pub covers : Covers z h lost y
 
-pub stands-after : (c : Call) (z : State) (f : Flat) (y : History) → listedCall c ≡ true → Stands z f y →
-    Stands (called c z .next) (flatCalled c f .next) (historyAfter c z (called c z) y)
-stands-after c z f y l p =
+stands-one : (c : Call) (z : State) (f : Flat) (y : History) → listedCall c ≡ true → Stands z f y →
+    Stands (called c z .next) (flatCalled c f .next) (historyOne c z (called c z) y)
+stands-one c z f y l p =
     let h = p .h in let lost = p .lost in let g = p .g in
     let r = call-after c z f h lost g l (p .follows) in
     record {
@@ -214,6 +223,75 @@ stands-after c z f y l p =
       follows = r .follows;
       covers = call-covers c z f (flatCalled c f .next) h lost g (good-well z (Seen g h) (p .follows .good)) r y (p .covers);
     }
+
+-- ---- a non-aligned access: behind its bytes, one after another, the history stands, with what a flat memory has that
+-- wrote them one by one
+stands-bytes : (k : ℕ → Command) (n : ℕ) (z : State) (f : Flat) (y : History) → Stands z f y →
+    (f′ : Flat) × Stands (callsTo k n z) f′ (historyBytes k n z y)
+unfolding each historyBytes
+stands-bytes k zero z f y p = (f, p)
+stands-bytes k (suc n) z f y p =
+    let r = stands-bytes k n z f y p in
+    (flatStep (k n) (r .0) .next, stands-one (oneCommand (k n)) (callsTo k n z) (r .0) (historyBytes k n z y) refl (r .1))
+
+-- no byte of it drops a line
+dropped-before : (k : ℕ → Command) (n : ℕ) (z : State) (y : History) (a : ℕ) → historyBytes k n z y .dropped a ≡ false → y .dropped a ≡ false
+unfolding historyBytes
+dropped-before k zero z y a e = e
+dropped-before k (suc n) z y a e =
+    dropped-before k n z y a
+    (neither (historyBytes k n z y .dropped a) (dropsLine (oneCommand (k n)) (callsTo k n z) (call (k n) (callsTo k n z)) a) e .0)
+
+-- what is seen is one thing, so that it agrees with the flat memory that wrote them at once
+stands-with : (z : State) (f f′ : Flat) (y : History) (h : ℕ → List ℕ) (lost : ℕ → Bool) (g : ℕ → ℕ) → Stands z f y → Follows z f′ h lost g →
+    ((a : ℕ) → y .dropped a ≡ false → lost a ≡ false) → Stands z f′ y
+stands-with z f f′ y h lost g p q l =
+    record {
+      h = p .h;
+      lost = lost;
+      g = p .g;
+      follows = record {
+        good = p .follows .good;
+        sizes = q .sizes;
+        agrees = λ a i t.
+            sym (byte-right z (Seen (p .g) (p .h)) (p .follows .good) a i .0) ∙ byte-right z (Seen g h) (q .good) a i .0 ∙ q .agrees a i t;
+      };
+      covers = record { held = p .covers .held; lost-in = l };
+    }
+
+-- accepted or refused
+stands-either : (k : ℕ → Command) (n : ℕ) (z : State) (r : Reply) (f : Flat) (y : History) → Stands z f y → Either k n z r →
+    (f′ : Flat) × Stands (r .next) f′ (cond (eqb (r .number) 0) (historyBytes k n z y) y)
+    × ((a : ℕ) → cond (eqb (r .number) 0) (historyBytes k n z y) y .dropped a ≡ false → y .dropped a ≡ false)
+stands-either k n z r f y p o =
+    ⊎-elim
+    (λ e. let t = stands-bytes k n z f y p in let e₀ = e .0 in let e₁ = e .1 in
+    rw (e₀, e₁) (t .0, t .1, dropped-before k n z y))
+    (λ e. let e₀ = e .0 in let e₁ = e .1 in rw (e₀, e₁) (f, p, λ _ d. d))
+    o
+
+not-lost : (c : Call) (z : State) (r : Reply) (lost : ℕ → Bool) (a : ℕ) → loses c z r a ≡ false → lost a ≡ false → lostAfter c z r lost a ≡ false
+unfolding lostAfter
+not-lost c z r lost a l e = bool (writes c r a) (λ t. rw t refl) (λ t. rw (t, e, l) refl)
+
+pub stands-after : (c : Call) (z : State) (f : Flat) (y : History) → listedCall c ≡ true → Stands z f y →
+    Stands (called c z .next) (flatCalled c f .next) (historyAfter c z (called c z) y)
+unfolding loses
+stands-after (oneCommand k) z f y l p = stands-one (oneCommand k) z f y l p
+stands-after freshStart z f y l p = stands-one freshStart z f y l p
+stands-after (look b) z f y l p = stands-one (look b) z f y l p
+stands-after (readUnaligned n b) z f y l p =
+    let c = readUnaligned n b in let r = called c z in
+    let a = call-after c z f (p .h) (p .lost) (p .g) l (p .follows) in
+    let t = stands-either (byteRead b) n z r f y p (read-unaligned-either n b z (good-well z (Seen (p .g) (p .h)) (p .follows .good))) in
+    stands-with (r .next) (t .0) (flatCalled c f .next) (historyAfter c z r y) (showsAfter c r (p .h)) (lostAfter c z r (p .lost)) (a .g′) (t .1) (a .follows)
+    (λ x d. not-lost c z r (p .lost) x refl (p .covers .lost-in x (t .2 x d)))
+stands-after (writeUnaligned n b v) z f y l p =
+    let c = writeUnaligned n b v in let r = called c z in
+    let a = call-after c z f (p .h) (p .lost) (p .g) l (p .follows) in
+    let t = stands-either (byteWrite n b v) n z r f y p (write-unaligned-either n b v z (good-well z (Seen (p .g) (p .h)) (p .follows .good))) in
+    stands-with (r .next) (t .0) (flatCalled c f .next) (historyAfter c z r y) (showsAfter c r (p .h)) (lostAfter c z r (p .lost)) (a .g′) (t .1) (a .follows)
+    (λ x d. not-lost c z r (p .lost) x refl (p .covers .lost-in x (t .2 x d)))
 
 pub along : (cs : List Call) (z : State) (f : Flat) (y : History) → listed cs ≡ true → Stands z f y → Holds cs z f y
 unfolding listed

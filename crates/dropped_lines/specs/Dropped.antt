@@ -16,16 +16,20 @@ use Rattle.model.specs.Homes.{memoryPart}
 use Rattle.model.specs.Commands.{linesTouched}
 use Rattle.model.specs.Flat.{Flat, freshFlat, flatStep, flatCalled}
 use Rattle.model.specs.Trace.{command}
-use Rattle.model.specs.Calls.{Reply, call, freshCall, Call, oneCommand, freshStart, look, called}
+use Rattle.model.specs.Calls.{Reply, call, freshCall, Call, oneCommand, freshStart, look, readUnaligned, writeUnaligned, called}
+use Rattle.model.specs.Bytewise.{byteRead, byteWrite, callsTo}
 use Rattle.model.specs.declared.Command.{Command}
 use Rattle.dropped_lines.specs.Reached.{within, sends}
 
 -- ---- "For lists that also hold the three invalidating commands, external transfers left out": commands of every code
--- with any numbers, refused ones too, and views. A fresh start begins a list and is no call of it.
+-- with any numbers, refused ones too, views, and non-aligned accesses (02, U6). A fresh start begins a list and is no
+-- call of it.
 abbrev pub listedCall : Call → Bool
 listedCall (oneCommand k) = true
 listedCall freshStart = false
 listedCall (look b) = true
+listedCall (readUnaligned n b) = true
+listedCall (writeUnaligned n b v) = true
 
 unfoldable pub listed : List Call → Bool
 listed [] = true
@@ -55,25 +59,38 @@ abbrev pub does : (Command → Bool) → Call → Reply → Bool
 does p (oneCommand k) r = eqb (r .number) 0 && p k
 does p freshStart r = false
 does p (look b) r = false
+does p (readUnaligned n b) r = false
+does p (writeUnaligned n b v) r = false
 
--- "each byte of a CPU data read"
+-- "each byte of a CPU data read": of one that was accepted, aligned or not
 unfoldable pub reads : Call → Reply → ℕ → Bool
-reads c r a = does (λ k. eqb (k .code) 0 && within (k .second) (k .first) a) c r
+reads (oneCommand k) r a = eqb (r .number) 0 && (eqb (k .code) 0 && within (k .second) (k .first) a)
+reads freshStart r a = false
+reads (look b) r a = false
+reads (readUnaligned n b) r a = eqb (r .number) 0 && within b n a
+reads (writeUnaligned n b v) r a = false
 
 -- "the last one written (a SRAM transfer in writes too)": the call writes a, and which byte. Transfers are no calls yet.
 unfoldable pub writes : Call → Reply → ℕ → Bool
-writes c r a = does (λ k. eqb (k .code) 1 && within (k .second) (k .first) a) c r
+writes (oneCommand k) r a = eqb (r .number) 0 && (eqb (k .code) 1 && within (k .second) (k .first) a)
+writes freshStart r a = false
+writes (look b) r a = false
+writes (readUnaligned n b) r a = false
+writes (writeUnaligned n b v) r a = eqb (r .number) 0 && within b n a
 
 abbrev pub newByte : Call → ℕ → ℕ
 newByte (oneCommand k) a = getD (littleBytes (k .value) (k .first)) (a - k .second) 0
 newByte freshStart a = 0
 newByte (look b) a = 0
+newByte (readUnaligned n b) a = 0
+newByte (writeUnaligned n b v) a = getD (littleBytes v n) (a - b) 0
 
 unfoldable pub changesMode : Call → Reply → Bool
 changesMode c r = does (λ k. eqb (k .code) 10) c r
 
 -- "a writeback last reached its external memory (for SRAM, its SRAM byte), .. a fresh start or mode change counting as
--- one": one of the call's steps sent the line with a out there, the call being made in state z
+-- one": one of the call's steps sent the line with a out there, the call being made in state z. (Of a non-aligned
+-- access it is asked byte by byte: `historyAfter`.)
 unfoldable pub reached : Call → State → Reply → ℕ → Bool
 reached c z r a = does (λ k. sends k z a) c r || changesMode c r
 
@@ -85,6 +102,8 @@ abbrev pub isDrop : Call → Bool
 isDrop (oneCommand k) = dropCode (k .code)
 isDrop freshStart = false
 isDrop (look b) = false
+isDrop (readUnaligned n b) = false
+isDrop (writeUnaligned n b v) = false
 
 -- "line that was dropped": one of these commands found a valid line with a, in L1D or in L2, dirty or clean, and left
 -- none there (one that is refused leaves every line)
@@ -115,7 +134,7 @@ pub record History : Type 0 where
 abbrev pub atFirst : State → History
 atFirst z = record { last = λ _. []; held = λ a. memoryAt z a ∷ []; dropped = λ _. false }
 
--- behind call c, made in state z and answered r
+-- behind call c, made in state z and answered r; a non-aligned access apart
 unfoldable pub lastAfter : Call → Reply → (ℕ → List ℕ) → ℕ → List ℕ
 lastAfter c r last a = cond (writes c r a) (newByte c a ∷ []) (last a)
 
@@ -123,13 +142,27 @@ unfoldable pub heldAfter : Call → State → Reply → (ℕ → List ℕ) → �
 heldAfter c z r held a =
     cond (reached c z r a) (memoryAt (r .next) a ∷ []) (cond (writes c r a) (newByte c a ∷ held a) (held a))
 
-abbrev pub historyAfter : Call → State → Reply → History → History
-historyAfter c z r y =
+abbrev pub historyOne : Call → State → Reply → History → History
+historyOne c z r y =
     record {
       last = lastAfter c r (y .last);
       held = heldAfter c z r (y .held);
       dropped = λ a. y .dropped a || dropsLine c z r a;
     }
+
+-- behind commands 0 to n - 1, one after another
+unfoldable pub historyBytes : (ℕ → Command) → ℕ → State → History → History
+historyBytes f zero z y = y
+historyBytes f (suc k) z y =
+    historyOne (oneCommand (f k)) (callsTo f k z) (call (f k) (callsTo f k z)) (historyBytes f k z y)
+
+-- behind any call: an accepted non-aligned access sends out and writes what its single-byte accesses do (02, U6)
+abbrev pub historyAfter : Call → State → Reply → History → History
+historyAfter (oneCommand k) z r y = historyOne (oneCommand k) z r y
+historyAfter freshStart z r y = historyOne freshStart z r y
+historyAfter (look b) z r y = historyOne (look b) z r y
+historyAfter (readUnaligned n b) z r y = cond (eqb (r .number) 0) (historyBytes (byteRead b) n z y) y
+historyAfter (writeUnaligned n b v) z r y = cond (eqb (r .number) 0) (historyBytes (byteWrite n b v) n z y) y
 
 -- ---- the three sentences at one place of a list: z and f are the chip and flat memory before call c; `may a b` says
 -- that a read may give b at a, `dropped a` that a was in a line that was dropped, `ends a` that the call may change the
@@ -137,6 +170,7 @@ historyAfter c z r y =
 pub record HoldsAt (c : Call) (z : State) (f : Flat) (may : ℕ → ℕ → Bool) (dropped ends : ℕ → Bool) : Type 0 where
   -- an accepted read's value is the bytes of its addresses, so that the sentences can speak of single bytes
   pub bytes : (k : Command) → c ≡ oneCommand k → k .code ≡ 0 → call k z .number ≡ 0 → call k z .value ≡ little (bytesAt z (k .second) (k .first))
+  pub bytesUnaligned : (n b : ℕ) → c ≡ readUnaligned n b → called c z .number ≡ 0 → called c z .value ≡ little (bytesAt z b n)
   -- "each byte of a CPU data read is the last one written .., or one it held since a writeback last reached .."
   pub sentence1 : (a : ℕ) → reads c (called c z) a ≡ true → may a (byteAt z a) ≡ true
   -- "Bytes in no line that was dropped read as flat memory."

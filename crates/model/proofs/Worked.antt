@@ -2,7 +2,8 @@
 -- memory's number and value, and the bytes that lie behind L1D. Rows of one table, and one theorem, `worked`, which
 -- holds by computing: a definition that is not the paper's fails at a value here. Each of the mistakes that paper 01
 -- names has a row (the second is the rule since 02, U10), and so have the servers, writebacks, mode and MAR changes,
--- drops and the freeze; the view, and checks 1 and 2, have a list of their own, and so has what an access reports.
+-- drops, the freeze and non-aligned accesses; the view, and checks 1 and 2, have a list of their own, and so has what
+-- an access reports.
 -- In the rows a call is carried out behind checks 1 and 2, and L1D and L2 are cut behind the last byte that the row
 -- comes to: to go through all lent bytes and lines at each call is most of the time that a check takes, and what a row
 -- does not come to it does not change. A record that is well formed stays so (`Stays`).
@@ -16,7 +17,7 @@ use Rattle.model.specs.Records.{State, state, withExternal, withCounts, 
 use Rattle.model.specs.Homes.{memoryPart}
 use Rattle.model.specs.Reports.{noReport, leftKind, leftAddress}
 use Rattle.model.specs.Trace.{command}
-use Rattle.model.specs.Calls.{Reply, Call, oneCommand, freshStart, look, called, step}
+use Rattle.model.specs.Calls.{Reply, Call, oneCommand, freshStart, look, readUnaligned, writeUnaligned, called, step, readUnalignedStep, writeUnalignedStep}
 use Rattle.model.specs.Flat.{Flat, FlatReply, flat, freshFlat, flatCalled}
 use Rattle.model.specs.Opened.{opened}
 use Rattle.model.specs.declared.Order2.{Order2}
@@ -98,6 +99,8 @@ unfoldable pub stepped : Call → State → Reply
 stepped (oneCommand c) z = step c z
 stepped freshStart z = called freshStart z
 stepped (look a) z = record { number = 0; server = 0; value = 0; bytes = memoryPart a 64 z; report = noReport; next = z }
+stepped (readUnaligned n a) z = readUnalignedStep n a z
+stepped (writeUnaligned n a v) z = writeUnalignedStep n a v z
 
 unfoldable pub along : List Place → State → Flat → List (List ℕ)
 along [] z f = []
@@ -214,6 +217,23 @@ lastSet =
     row 0 8192 8064
     (mode 1 0 ∷ mar128 1 0 ∷ writes 0x80001F80 5 4 ∷ all 2 ∷ lies 0x80001F80 5 ∷ [])
 
+-- 02, U6. Four bytes at 62, in two L1D lines: "the server being the highest of theirs", SRAM's and not the last byte's,
+-- whose line is in L1D by then; the bytes in their order, read and written. "3 refuses sizes 1 and 2"; 5 where the last
+-- byte alone is outside, of SRAM and of external memory; 6. Nothing is moved by a refusal.
+abbrev loads : ℕ → ℕ → ℕ → ℕ → ℕ → Place
+loads n a k s v = same (readUnaligned n a) k s v
+
+abbrev stores : ℕ → ℕ → ℕ → ℕ → ℕ → Place
+stores n a v k s = same (writeUnaligned n a v) k s 0
+
+pub unaligned : Row
+unaligned =
+    row 128 128 0
+    (writes 63 0x11 2 ∷ writes 64 0x22 2 ∷ loads 4 62 0 2 0x221100 ∷ loads 4 62 0 1 0x221100
+    ∷ stores 4 62 0x44332211 0 1 ∷ reads 62 1 0x11 ∷ reads 64 1 0x33 ∷ loads 2 62 3 0 0 ∷ loads 1 0x7FFFFFFF 3 0 0
+    ∷ loads 4 0x7FFD 5 0 0 ∷ loads 4 0x8000007D 5 0 0 ∷ stores 4 0xFFFFFFFE 0x100000000 5 0
+    ∷ stores 4 62 0x100000000 6 0 ∷ loads 4 62 0 1 0x44332211 ∷ [])
+
 -- ---- 02, U2: what is reported, call by call, beside number, server and value: the kind and the address of what left
 -- L1D and L2, and the bytes of external memory read and written. The chip alone: most of the time of 32 KiB of external
 -- memory is flat memory's.
@@ -273,6 +293,38 @@ putOut =
 putOut-holds : alone putOut (cut 8256 8256 (halves 0)) ≡ map ownAnswer putOut
 unfolding opened answered told alone stepped cut putOut
 putOut-holds = refl
+
+-- 02, U6: "from the lowest address up". A read in both halves of an L2 line that L2 does not have. The lower half's
+-- byte comes first: L2 puts the line at 80002000h out, whose upper half leaves L1D with it, so that the upper half's
+-- byte finds that way empty and the line at 80004040h stays. From the highest address down it would leave.
+pub upwards : List Reported
+upwards =
+    silent (mode 1 0) ∷ silent (mar128 1 0) ∷ reports (reads 0x80004040 4 0) 1 0 1 0 128 0
+    ∷ reports (reads 0x80002040 4 0) 1 0 1 0 128 0 ∷ reports (writes 0x80006000 1 4) 0 0 1 0 128 0
+    ∷ reports (writes 0x80008000 1 4) 0 0 1 0 128 0 ∷ silent (writes 0x80004000 1 3)
+    ∷ reports (loads 4 0x8000003E 0 4 0x20000) 0 0 0 0 128 0 ∷ silent (reads 0x80004040 1 0) ∷ []
+
+upwards-holds : alone upwards (cut 8320 24704 (halves 32768)) ≡ map ownAnswer upwards
+unfolding opened answered told alone stepped cut upwards
+upwards-holds = refl
+
+-- "only the byte counts come back, added up": read and written by each call of a list. In mode 1 across two L2 lines,
+-- in L1D then; in mode 0 across two L1D lines, and past them.
+unfoldable pub countedBytes : List Place → State → List (List ℕ)
+countedBytes [] z = []
+countedBytes (p ∷ ps) z =
+    (stepped (p .call) z .report .read ∷ stepped (p .call) z .report .written ∷ []) ∷ countedBytes ps (stepped (p .call) z .next)
+
+pub counted : List Place
+counted =
+    mode 1 0 ∷ mar128 1 0 ∷ loads 4 0x8000007E 0 4 0 ∷ stores 4 0x8000007E 5 0 1 ∷ mode 0 0
+    ∷ loads 4 0x8000003E 0 4 0x20000 ∷ all 9 ∷ stores 4 0x8000003E 5 0 4 ∷ []
+
+pub bytes-counted :
+    countedBytes counted (cut 192 256 (halves 128))
+    ≡ (0 ∷ 0 ∷ []) ∷ (0 ∷ 0 ∷ []) ∷ (256 ∷ 0 ∷ []) ∷ (0 ∷ 0 ∷ []) ∷ (0 ∷ 0 ∷ []) ∷ (128 ∷ 0 ∷ []) ∷ (0 ∷ 0 ∷ []) ∷ (0 ∷ 4 ∷ []) ∷ []
+unfolding opened stepped cut countedBytes counted
+bytes-counted = refl
 
 -- ---- The view: "the bytes of SRAM or of external memory themselves", not what L1D or L2 hold; 4 and 5. Checks 1 and 2
 -- are met by each call here, and L1D and L2 are whole.
@@ -359,15 +411,21 @@ lastSet-holds : given lastSet ≡ stated (lastSet .places)
 unfolding opened both stepped along cut started given stated lastSet
 lastSet-holds = refl
 
+unaligned-holds : given unaligned ≡ stated (unaligned .places)
+unfolding opened both stepped along cut started given stated unaligned
+unaligned-holds = refl
+
 pub table : List Row
 table =
-    sram ∷ external ∷ modeZero ∷ sramReached ∷ replaced ∷ modes ∷ drops ∷ throughL2 ∷ frozen ∷ frozenL2 ∷ lastSet ∷ []
+    sram ∷ external ∷ modeZero ∷ sramReached ∷ replaced ∷ modes ∷ drops ∷ throughL2 ∷ frozen ∷ frozenL2 ∷ lastSet
+    ∷ unaligned ∷ []
 
 pub worked : map given table ≡ map (λ (r : Row). stated (r .places)) table
 unfolding table
 worked i =
     sram-holds i ∷ external-holds i ∷ modeZero-holds i ∷ sramReached-holds i ∷ replaced-holds i ∷ modes-holds i
-    ∷ drops-holds i ∷ throughL2-holds i ∷ frozen-holds i ∷ frozenL2-holds i ∷ lastSet-holds i ∷ []
+    ∷ drops-holds i ∷ throughL2-holds i ∷ frozen-holds i ∷ frozenL2-holds i ∷ lastSet-holds i
+    ∷ unaligned-holds i ∷ []
 
 -- ---- "Invalidation changes no order.": two lines of one L1D set are read, then one of them, or both, are made invalid
 unfoldable pub orderOf : Order2 → List ℕ

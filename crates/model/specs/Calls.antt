@@ -15,6 +15,7 @@ use Rattle.model.specs.Reports.{Report, noReport, readReport, writeRepor
 use Rattle.model.specs.Modes.{changeMode, changeMar, changeFreeze}
 use Rattle.model.specs.Commands.{l2WritebackAll, l2WritebackInvalidateAll, l2WritebackBlock, l2WritebackInvalidateBlock, l2InvalidateBlock, l1dWritebackInvalidateBlock, l1dInvalidateBlock, l1dInvalidateAll}
 use Rattle.model.specs.Refusals.{lentDue, viewDue, accessDue, blockDue, modeDue, marDue, freezeDue, unless}
+use Rattle.model.specs.Unaligned.{readUp, writeUp, readUpReport, writeUpReport, unalignedDue}
 use Rattle.model.specs.Trace.{Decoded, decode}
 use Rattle.model.specs.declared.Command.{Command}
 use Rattle.model.specs.declared.Record.{Record}
@@ -92,13 +93,41 @@ accepted c z =
 unfoldable pub step : Command → State → Reply
 step c z = cond (eqb (commandDue c z) 0) (accepted c z) (refused (commandDue c z) z)
 
--- 02, U2: "neither exceeds 128 for one access", whatever the record
+-- 02, U2: "neither exceeds 128 for one access", whatever the record. With non-aligned accesses, which are several, "the
+-- bound .. becomes 256" (02, U6; `AtMost256` in Bytewise).
 abbrev pub AtMost128 : Type 0
 AtMost128 = (c : Command) (z : State) → (step c z .report .read ≤ 128) × (step c z .report .written ≤ 128)
 
 -- ---- a direct call: "The lowest due number wins"
 unfoldable pub call : Command → State → Reply
 call c z = cond (eqb (lentDue z) 0) (step c z) (refused (lentDue z) z)
+
+-- ---- 02, U6: a non-aligned read of n bytes at a, and a write of value v: accepted; behind checks 1 and 2; the call
+unfoldable pub readUnalignedDone : ℕ → ℕ → State → Reply
+readUnalignedDone n a z =
+    replied 0 (readUp n a z .server) (little (readUp n a z .bytes)) (readUpReport n a z) (readUp n a z .next)
+
+unfoldable pub writeUnalignedDone : ℕ → ℕ → ℕ → State → Reply
+writeUnalignedDone n a v z =
+    replied 0 (writeUp n a (littleBytes v n) z .server) 0 (writeUpReport n a (littleBytes v n) z)
+    (writeUp n a (littleBytes v n) z .next)
+
+abbrev pub unalignedDueIn : State → ℕ → ℕ → ℕ → ℕ
+unalignedDueIn z n a v = unalignedDue (sramOf (z .rec)) (z .rec .extlen) n a v
+
+unfoldable pub readUnalignedStep : ℕ → ℕ → State → Reply
+readUnalignedStep n a z =
+    cond (eqb (unalignedDueIn z n a 0) 0) (readUnalignedDone n a z) (refused (unalignedDueIn z n a 0) z)
+
+unfoldable pub writeUnalignedStep : ℕ → ℕ → ℕ → State → Reply
+writeUnalignedStep n a v z =
+    cond (eqb (unalignedDueIn z n a v) 0) (writeUnalignedDone n a v z) (refused (unalignedDueIn z n a v) z)
+
+unfoldable pub readUnalignedCall : ℕ → ℕ → State → Reply
+readUnalignedCall n a z = cond (eqb (lentDue z) 0) (readUnalignedStep n a z) (refused (lentDue z) z)
+
+unfoldable pub writeUnalignedCall : ℕ → ℕ → ℕ → State → Reply
+writeUnalignedCall n a v z = cond (eqb (lentDue z) 0) (writeUnalignedStep n a v z) (refused (lentDue z) z)
 
 -- ---- the fresh start: "A fresh start can meet only 1, and then returns the record of L = 32,768, E = 128."
 unfoldable pub freshOk : List ℕ → List ℕ → List ℕ → Bool
@@ -168,18 +197,22 @@ viewDone a z =
       next = z;
     }
 
--- ---- the calls, of every kind: a command, the fresh start, the technician's view of the line at an address. Lists
--- of calls hold these.
+-- ---- the calls, of every kind: a command, the fresh start, the technician's view of the line at an address, the
+-- non-aligned accesses (size, address; size, address, value). Lists of calls hold these.
 pub data Call : Type 0 where
   oneCommand : Command → Call
   freshStart : Call
   look : ℕ → Call
+  readUnaligned : ℕ → ℕ → Call
+  writeUnaligned : ℕ → ℕ → ℕ → Call
 
 -- what a call gives on a state
 abbrev pub called : Call → State → Reply
 called (oneCommand c) z = call c z
 called freshStart z = freshCall (z .l1d) (z .l2) (z .ext)
 called (look a) z = viewDone a z
+called (readUnaligned n a) z = readUnalignedCall n a z
+called (writeUnaligned n a v) z = writeUnalignedCall n a v z
 
 -- the state after calls, one after another
 unfoldable pub after : List Call → State → State

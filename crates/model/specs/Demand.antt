@@ -11,12 +11,13 @@ use lib.Dec.{leb, eqb}
 use Rattle.model.specs.Bytes.{part}
 use Rattle.model.specs.Records.{State, sramOf, l1dLineAt, l2LineAt}
 use Rattle.model.specs.Flat.{Flat, freshFlat, flatCalled}
-use Rattle.model.specs.Calls.{freshCall, Call, oneCommand, freshStart, look, called, commands}
+use Rattle.model.specs.Calls.{freshCall, Call, oneCommand, freshStart, look, readUnaligned, writeUnaligned, called, commands}
 use Rattle.model.specs.declared.Command.{Command}
 
 -- ---- which calls a list may hold: reads (0), writes (1), the writeback commands (2 to 5 and 7), mode changes (10),
 -- MAR changes (11) and freezes (12; 02, U11: "Read values in lists with freezes are still flat memory's."), each with
--- any numbers, refused ones too; and views. No fresh start: flat memory begins with the external memory as lent.
+-- any numbers, refused ones too; views; and non-aligned accesses (02, U6: "Lists with these accesses keep agreeing
+-- with flat memory."). No fresh start: flat memory begins with the external memory as lent.
 abbrev pub listedCode : ℕ → Bool
 listedCode k = leb k 5 || (eqb k 7 || (eqb k 10 || (eqb k 11 || eqb k 12)))
 
@@ -24,23 +25,29 @@ abbrev pub listedCall : Call → Bool
 listedCall (oneCommand c) = listedCode (c .code)
 listedCall freshStart = false
 listedCall (look a) = true
+listedCall (readUnaligned n a) = true
+listedCall (writeUnaligned n a v) = true
 
 unfoldable pub listed : List Call → Bool
 listed [] = true
 listed (c ∷ cs) = listedCall c && listed cs
 
--- ---- what is compared: the number and the value of reads, writes and mode changes. So both refuse the same ones, by
--- the same number, and an accepted read gives the same value.
+-- ---- what is compared: the number and the value of reads and writes, aligned or not, and of mode changes. So both
+-- refuse the same ones, by the same number, and an accepted read gives the same value.
 abbrev pub compared : Call → Bool
 compared (oneCommand c) = eqb (c .code) 0 || (eqb (c .code) 1 || eqb (c .code) 10)
 compared freshStart = false
 compared (look a) = false
+compared (readUnaligned n a) = true
+compared (writeUnaligned n a v) = true
 
 -- ---- the global writeback commands, "2 and 3 being the global ones"
 abbrev pub global : Call → Bool
 global (oneCommand c) = eqb (c .code) 2 || eqb (c .code) 3
 global freshStart = false
 global (look a) = false
+global (readUnaligned n a) = false
+global (writeUnaligned n a v) = false
 
 -- ---- 01: "in a mode other than 0" is struck by 02, U10: "After a global writeback, external memory and SRAM are now
 -- flat memory's in every mode, mode 0 included.": byte for byte, and no line of either cache is dirty

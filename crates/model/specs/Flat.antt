@@ -8,7 +8,8 @@ use Rattle.model.specs.Bytes.{part, stored, little, littleBytes, zeroFro
 use Rattle.model.specs.Memories.{externalBase, sramLength}
 use Rattle.model.specs.Modes.{smaller}
 use Rattle.model.specs.Refusals.{accessDue, modeDue}
-use Rattle.model.specs.Calls.{Call, oneCommand, freshStart, look}
+use Rattle.model.specs.Unaligned.{unalignedDue}
+use Rattle.model.specs.Calls.{Call, oneCommand, freshStart, look, readUnaligned, writeUnaligned}
 use Rattle.model.specs.declared.Command.{Command}
 
 -- "State: L, E, S, S bytes of SRAM, E of external memory." (E is the length of external memory, S that of SRAM.)
@@ -70,11 +71,27 @@ flatStep c f =
     (cond (eqb (c .code) 1) (flatWrite (c .first) (c .second) (c .value) f)
     (cond (eqb (c .code) 10) (flatChange (c .first) f) (flatReply 0 0 f)))
 
+-- 02, U6: a non-aligned read or write, refused by this S, its bytes read and written at once
+abbrev pub flatUnalignedDue : ℕ → ℕ → ℕ → Flat → ℕ
+flatUnalignedDue n a v f = unalignedDue (length (f .sram)) (length (f .ext)) n a v
+
+unfoldable pub flatReadUnaligned : ℕ → ℕ → Flat → FlatReply
+flatReadUnaligned n a f =
+    cond (eqb (flatUnalignedDue n a 0 f) 0) (flatReply 0 (little (flatPart a n f)) f)
+    (flatReply (flatUnalignedDue n a 0 f) 0 f)
+
+unfoldable pub flatWriteUnaligned : ℕ → ℕ → ℕ → Flat → FlatReply
+flatWriteUnaligned n a v f =
+    cond (eqb (flatUnalignedDue n a v f) 0) (flatReply 0 0 (flatPut a (littleBytes v n) f))
+    (flatReply (flatUnalignedDue n a v f) 0 f)
+
 -- a call of any kind; the state after calls, one after another
 abbrev pub flatCalled : Call → Flat → FlatReply
 flatCalled (oneCommand c) f = flatStep c f
 flatCalled freshStart f = flatReply 0 0 f
 flatCalled (look a) f = flatReply 0 0 f
+flatCalled (readUnaligned n a) f = flatReadUnaligned n a f
+flatCalled (writeUnaligned n a v) f = flatWriteUnaligned n a v f
 
 unfoldable pub flatAfter : List Call → Flat → Flat
 flatAfter [] f = f

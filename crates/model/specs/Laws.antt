@@ -1,27 +1,28 @@
 -- Laws of the definitions, which callers cite in place of their text: choices and tests, parts of a memory and bytes
 -- stored in it, numbers due, MAR bits, the order of use, the way that is chosen, counts, mode 0, the lines that a block
 -- touches, replies. No definition of paper 01 stands here.
-use Prim.Native.Nat.{ℕ, zero, suc, _<_, _≤_, _%_, _/_, _+_, _*_, _-_}
+use Prim.Native.Nat.{ℕ, zero, suc, _<_, _≤_, _%_, _/_, _+_, _*_, _-_, _^_}
 use mathlib.Core.Bool.{Bool, true, false, cond, _&&_}
-use mathlib.Core.List.{List, [], map, _++_}
+use mathlib.Core.List.{List, [], _∷_, map, _++_}
 use mathlib.Core.Logic.{_≢_, _↔_, _⊎_, inl, inr, ⊎-elim}
 use mathlib.Core.Path.{_≡_, refl, sym, ap, _∙_, subst}
 use native.Mathlib.Omega.{arith}
-use native.Mathlib.Nat.{add-sub-of-le, eq-of-mul-eq-mul-right, mul-le-mul-right, div-mul-le-self, le-div-iff-mul-le, lt-div-mul-add, mul-div-cancel}
+use native.Mathlib.Nat.{pow-succ', mul-assoc, div-div-eq-div-mul, add-sub-of-le, eq-of-mul-eq-mul-right, mul-le-mul-right, div-mul-le-self, le-div-iff-mul-le, lt-div-mul-add, mul-div-cancel}
 use lib.ListN.{length, getD, take, drop, length-append, length-take, length-drop, take-append-drop, List·getD-append, length-map}
 use lib.Seq.{getD-take, getD-drop, getD-append-add, length-take-le}
 use lib.Dec.{ltb, leb, eqb}
-use borrow.Author.Tests.{ltb-true, ltb-false, lt-ltb, le-ltb, leb-true, le-leb, lt-leb, eqb-true, eqb-false, eq-eqb, ne-eqb}
+use borrow.Author.Tests.{ltb-true, ltb-false, lt-ltb, le-ltb, leb-true, leb-false, le-leb, lt-leb, eqb-true, eqb-false, eq-eqb, ne-eqb}
 use Rattle.model.specs.Basics.{each}
-use Rattle.model.specs.Bytes.{splice, part, stored, littleBytes}
+use Rattle.model.specs.Bytes.{splice, part, stored, little, littleBytes}
 use Rattle.model.specs.Memories.{externalBase, cacheSize, isMode}
 use Rattle.model.specs.Lines.{Permutation2, Permutation4, inFront, without, used2, used4, l1dGet, l2Get}
 use Rattle.model.specs.Records.{State, l2SetsOf, mode0, covers, marBit, counted}
 use Rattle.model.specs.Ways.{lowestInvalid, l1dVictim, l2Victim}
 use Rattle.model.specs.Modes.{smaller}
-use Rattle.model.specs.Refusals.{lowestDue, unless, lentDue}
+use Rattle.model.specs.Refusals.{lowestDue, unless, placeOk, lentDue}
+use Rattle.model.specs.Unaligned.{bytesPlaced}
 use Rattle.model.specs.Commands.{blockEnd, linesTouched, eachL2, unlessMode0}
-use Rattle.model.specs.Calls.{Reply, replied, reply, refused, carriedOut, commandDue, readDone, writeDone, commandState, accepted, step, call}
+use Rattle.model.specs.Calls.{Reply, replied, reply, refused, carriedOut, commandDue, readDone, writeDone, commandState, accepted, step, call, unalignedDueIn, readUnalignedDone, writeUnalignedDone, readUnalignedStep, writeUnalignedStep, readUnalignedCall, writeUnalignedCall}
 use Rattle.model.specs.declared.Command.{Command}
 use Rattle.model.specs.declared.L1dSet.{L1dSet}
 use Rattle.model.specs.declared.L2Set.{L2Set}
@@ -341,6 +342,57 @@ module _ (n b c l : ℕ) (some : 0 < n) (low : b < 0x100000000) where
         (block-end b c low),
   )
 
+-- ---- 02, U6: the bytes of a non-aligned access are placed one by one where they are placed together
+one-more : (s e k a : ℕ) → s + suc (suc k) ≤ externalBase →
+    (placeOk s e (suc k) a && placeOk s e 1 (a + suc k)) ≡ placeOk s e (suc (suc k)) a
+unfolding placeOk
+one-more s e k a h =
+    bool (ltb a externalBase)
+    (λ t. let t′ = ltb-true a externalBase t in
+    bool (leb (a + suc (suc k)) s)
+    (λ u. let u′ = leb-true (a + suc (suc k)) s u in
+    rw (t, u, le-leb (a + suc k) s (omega arith), lt-ltb (a + suc k) externalBase (omega arith), le-leb (a + suc k + 1) s (omega arith)) refl)
+    (λ u. let u′ = leb-false (a + suc (suc k)) s u in
+    bool (leb (a + suc k) s)
+    (λ w. let w′ = leb-true (a + suc k) s w in
+    rw (t, u, w, lt-ltb (a + suc k) externalBase (omega arith), lt-leb (a + suc k + 1) s (omega arith)) refl)
+    (λ w. rw (t, u, w) refl)))
+    (λ t. let t′ = ltb-false a externalBase t in
+    bool (leb (a + suc (suc k)) (externalBase + e))
+    (λ u. let u′ = leb-true (a + suc (suc k)) (externalBase + e) u in
+    rw (
+      t,
+      u,
+      le-leb (a + suc k) (externalBase + e) (omega arith),
+      le-ltb (a + suc k) externalBase (omega arith),
+      le-leb (a + suc k + 1) (externalBase + e) (omega arith),
+    ) refl)
+    (λ u. let u′ = leb-false (a + suc (suc k)) (externalBase + e) u in
+    bool (leb (a + suc k) (externalBase + e))
+    (λ w. let w′ = leb-true (a + suc k) (externalBase + e) w in
+    rw (t, u, w, le-ltb (a + suc k) externalBase (omega arith), lt-leb (a + suc k + 1) (externalBase + e) (omega arith)) refl)
+    (λ w. rw (t, u, w) refl)))
+
+pub placed-together : (s e k a : ℕ) → s + suc k ≤ externalBase → bytesPlaced s e (suc k) a ≡ placeOk s e (suc k) a
+unfolding bytesPlaced
+placed-together s e zero a h = let j : a + 0 ≡ a = omega arith in rw j refl
+placed-together s e (suc k) a h = rw (placed-together s e k a (omega arith)) (one-more s e k a h)
+
+-- the value of bytes with one more behind them; byte k of a value
+pub little-behind : (bs : List ℕ) (b : ℕ) → little (bs ++ (b ∷ [])) ≡ little bs + 256 ^ length bs * b
+unfolding little
+little-behind [] b = omega arith
+little-behind (c ∷ bs) b =
+    let e : 256 ^ suc (length bs) * b ≡ 256 * (256 ^ length bs * b) = rw (pow-succ' 256 (length bs)) (mul-assoc 256 (256 ^ length bs) b) in
+    rw (little-behind bs b, e) (omega arith)
+
+pub byte-of : (v n k : ℕ) → k < n → getD (littleBytes v n) k 0 ≡ v / 256 ^ k % 256
+unfolding littleBytes
+byte-of v zero k h = absurd (omega arith)
+byte-of v (suc n) zero h = omega arith
+byte-of v (suc n) (suc k) h =
+    byte-of (v / 256) n k (omega arith) ∙ rw (pow-succ' 256 k, div-div-eq-div-mul v 256 (256 ^ k)) refl
+
 -- ---- a command hands back no bytes: its reply is its number, server, value, report and state
 abbrev told : Reply → Reply
 told r = replied (r .number) (r .server) (r .value) (r .report) (r .next)
@@ -360,3 +412,18 @@ unfolding call
 call-told c z =
     cond-elim (λ (r : Reply). told r ≡ r) (eqb (lentDue z) 0) (step c z) (refused (lentDue z) z)
     (λ _. step-told c z) (λ _. refl)
+
+-- nor does a non-aligned access
+pub read-unaligned-told : (n a : ℕ) (z : State) → told (readUnalignedCall n a z) ≡ readUnalignedCall n a z
+unfolding readUnalignedCall readUnalignedStep readUnalignedDone
+read-unaligned-told n a z =
+    let P : Reply → Type 0 = λ r. told r ≡ r in let d = unalignedDueIn z n a 0 in
+    cond-elim P (eqb (lentDue z) 0) (readUnalignedStep n a z) (refused (lentDue z) z)
+    (λ _. cond-elim P (eqb d 0) (readUnalignedDone n a z) (refused d z) (λ _. refl) (λ _. refl)) (λ _. refl)
+
+pub write-unaligned-told : (n a v : ℕ) (z : State) → told (writeUnalignedCall n a v z) ≡ writeUnalignedCall n a v z
+unfolding writeUnalignedCall writeUnalignedStep writeUnalignedDone
+write-unaligned-told n a v z =
+    let P : Reply → Type 0 = λ r. told r ≡ r in let d = unalignedDueIn z n a v in
+    cond-elim P (eqb (lentDue z) 0) (writeUnalignedStep n a v z) (refused (lentDue z) z)
+    (λ _. cond-elim P (eqb d 0) (writeUnalignedDone n a v z) (refused d z) (λ _. refl) (λ _. refl)) (λ _. refl)

@@ -11,8 +11,10 @@ pub mod Modes
 pub mod Commands
 pub mod Flat
 pub mod Refusals
+pub mod Unaligned
 pub mod Trace
 pub mod Calls
+pub mod Bytewise
 pub mod Demand
 pub mod Stays
 pub mod Traces

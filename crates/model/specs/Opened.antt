@@ -29,12 +29,16 @@ use Rattle.model.specs.Commands.{l2WritebackInvalidateBlock, dropL2, l2I
 use Rattle.model.specs.Commands.{l1dWritebackInvalidateBlock, l1dInvalidateBlock, l1dInvalidateAll}
 use Rattle.model.specs.Refusals.{lentL1d, lentL2, lentExternal, sizeOk, placeOk, valueOk, inRange, holdsRange}
 use Rattle.model.specs.Refusals.{lentDue, viewLentDue, accessDue, blockDue, modeDue, marDue, freezeDue, viewDue}
+use Rattle.model.specs.Unaligned.{unalignedSize, readUp, writeUp, bytesPlaced, readUpReport, writeUpReport}
+use Rattle.model.specs.Unaligned.{unalignedDue}
 use Rattle.model.specs.Trace.{moreGroups, groups, numberBelow, oneNumber, secondNumber, twoNumbers, valueNumber}
 use Rattle.model.specs.Trace.{threeNumbers, decodeAfter, decode}
 use Rattle.model.specs.Calls.{commandDue, readDone, writeDone, commandState, accepted, step, call, freshOk}
+use Rattle.model.specs.Calls.{readUnalignedDone, writeUnalignedDone, readUnalignedStep, writeUnalignedStep}
+use Rattle.model.specs.Calls.{readUnalignedCall, writeUnalignedCall}
 use Rattle.model.specs.Calls.{freshCall, putAnswer, runFrom, runCall, viewCall, viewDone, after}
 use Rattle.model.specs.Flat.{freshFlat, flatPart, flatPut, flatMode, flatRead, flatWrite, flatChange, flatStep}
-use Rattle.model.specs.Flat.{flatAfter}
+use Rattle.model.specs.Flat.{flatAfter, flatReadUnaligned, flatWriteUnaligned}
 
 unfoldable pub opened : Unit {0}
 unfolding
@@ -61,8 +65,11 @@ unfolding
     l1dInvalidateBlock l1dInvalidateAll
     lentL1d lentL2 lentExternal sizeOk placeOk valueOk inRange holdsRange lentDue viewLentDue accessDue blockDue
     modeDue marDue freezeDue viewDue
+    unalignedSize readUp writeUp bytesPlaced readUpReport writeUpReport unalignedDue
     moreGroups groups numberBelow oneNumber secondNumber twoNumbers valueNumber threeNumbers decodeAfter decode
     commandDue readDone writeDone commandState accepted step call freshOk freshCall putAnswer runFrom runCall
     viewCall viewDone after
-    freshFlat flatPart flatPut flatMode flatRead flatWrite flatChange flatStep flatAfter
+    readUnalignedDone writeUnalignedDone readUnalignedStep writeUnalignedStep readUnalignedCall writeUnalignedCall
+    freshFlat flatPart flatPut flatMode flatRead flatWrite flatChange flatStep flatAfter flatReadUnaligned
+    flatWriteUnaligned
 opened = tt

@@ -2,24 +2,27 @@
 -- nothing; any other starts and ends in a `Pair` (`call-both`), for whatever relation of bytes. For the first sentence
 -- any two bytes may stand for an address: a `Pair` then says that two states have one record and equal lengths.
 use Prim.Native.Nat.{ℕ}
-use mathlib.Core.Bool.{true, false}
-use mathlib.Core.Path.{_≡_, refl}
+use mathlib.Core.Bool.{true, false, cond}
+use mathlib.Core.Path.{_≡_, refl, sym, _∙_}
+use native.Mathlib.Omega.{arith}
 use mathlib.Core.List.{List}
 use lib.ListN.{length}
 use lib.Dec.{eqb}
 use borrow.Author.Tests.{eqb-true, eq-eqb}
 use Rattle.model.specs.Bytes.{littleBytes}
 use Rattle.model.specs.Memories.{l1dLength}
-use Rattle.model.specs.Records.{State, withRecord, freshRecord, freshState}
+use Rattle.model.specs.Records.{State, sramOf, withRecord, freshRecord, freshState}
 use Rattle.model.specs.Refusals.{lentL1d, lentL2, lentExternal, lentDue, viewLentDue, viewDue}
+use Rattle.model.specs.Unaligned.{readUp}
 use Rattle.model.specs.Trace.{command}
-use Rattle.model.specs.Calls.{Reply, refused, carriedOut, step, call, freshOk, freshCall, viewDone, Call, oneCommand, freshStart, look, called}
+use Rattle.model.specs.Calls.{Reply, refused, carriedOut, step, call, freshOk, freshCall, viewDone, unalignedDueIn, readUnalignedDone, writeUnalignedDone, readUnalignedStep, writeUnalignedStep, readUnalignedCall, writeUnalignedCall, Call, oneCommand, freshStart, look, readUnaligned, writeUnaligned, called}
 use Rattle.model.specs.Laws.{length-littleBytes, cond-both}
-use Rattle.two_runs.specs.TwoRuns.{SameButStored, FitAlike, SameButWritten, sameCommand, sameStart, sameLook, ListsSameButWritten, Shared, SharedAlong, SameBehaviour}
+use Rattle.two_runs.specs.TwoRuns.{SameButStored, FitAlike, SameButWritten, sameCommand, sameStart, sameLook, sameRead, sameWrite, ListsSameButWritten, Shared, SharedAlong, SameBehaviour}
 use Rattle.two_runs.specs.TwoRuns as Says
 use Rattle.two_runs.proofs.Areas.{Pairing, Twins, Area}
 use Rattle.two_runs.proofs.Pair.{Layout, layoutOf, Pair, pair-stored, one-record}
-use Rattle.two_runs.proofs.Calling.{Replies, start-pair, step-both}
+use Rattle.two_runs.proofs.Calling.{no-answer, Replies, start-pair, step-both}
+use Rattle.two_runs.proofs.Unaligned.{unaligned-alike, due-fit, read-up-both, write-up-both}
 
 -- ---- what goes by the record and the lengths alone
 pub lent-due : (z z′ : State) → SameButStored z z′ → lentDue z ≡ lentDue z′
@@ -49,6 +52,66 @@ module _ (P : Pairing) (none : (a : ℕ) → P a 0 0) (z z′ : State) (s : Same
       (λ t. reply (step (command k a b v) z) (step (command k a b v′) z′)
       (one-record (Pair P (layoutOf (z .rec))) (Replies P k a b) (step (command k a b v)) (step (command k a b v′)) z
       (λ d m e q. step-both none q a b v v′ k f) z′ (s .rec) (start (eqb-true (lentDue z) 0 t))))
+      (λ _. refusal (lentDue z)))
+
+-- ---- a non-aligned access: likewise. Its reply is that of a read, or of a write, of n bytes at a
+module _ (P : Pairing) (z z′ : State) (s : SameButStored z z′) (start : lentDue z ≡ 0 → Pair P (layoutOf (z .rec)) z z′)
+    (C : Reply → Reply → Type 0) (refusal : (k : ℕ) → C (refused k z) (refused k z′)) (n a : ℕ) where
+  same-due : (v : ℕ) → unalignedDueIn z n a v ≡ unalignedDueIn z′ n a v
+  same-due v = let e = s .rec in rw e refl
+
+  pub read-unaligned-both : ((x x′ : Reply) → Replies P 0 n a x x′ → C x x′) → C (readUnalignedCall n a z) (readUnalignedCall n a z′)
+  unfolding readUnalignedCall readUnalignedStep readUnalignedDone
+  read-unaligned-both reply =
+      let d = unalignedDueIn z n a 0 in
+      rw (← (lent-due z z′ s), ← (same-due 0))
+      (cond-both C (eqb (lentDue z) 0) (readUnalignedStep n a z) (refused (lentDue z) z)
+      (cond (eqb d 0) (readUnalignedDone n a z′) (refused d z′)) (refused (lentDue z) z′)
+      (λ t. let q = start (eqb-true (lentDue z) 0 t) in
+      cond-both C (eqb d 0) (readUnalignedDone n a z) (refused d z) (readUnalignedDone n a z′) (refused d z′)
+      (λ u. let r = read-up-both a z z′ q n (due-fit q n a 0 (eqb-true d 0 u)) in
+      reply (readUnalignedDone n a z) (readUnalignedDone n a z′)
+      (record {
+        number = refl;
+        server = r .0 .server;
+        report = r .0 .report;
+        answer = record {
+          count = n;
+          bs = readUp n a z .bytes;
+          bs′ = readUp n a z′ .bytes;
+          value = refl;
+          value′ = refl;
+          twins = r .1;
+          reads = λ i h. (refl, h);
+        };
+        bytes = refl;
+        next = (layoutOf (z .rec), r .0 .next);
+      }))
+      (λ _. refusal d))
+      (λ _. refusal (lentDue z)))
+
+  pub write-unaligned-both : (v v′ : ℕ) → FitAlike n v v′ → Twins P a n (littleBytes v n) (littleBytes v′ n) →
+      ((x x′ : Reply) → Replies P 1 n a x x′ → C x x′) → C (writeUnalignedCall n a v z) (writeUnalignedCall n a v′ z′)
+  unfolding writeUnalignedCall writeUnalignedStep writeUnalignedDone
+  write-unaligned-both v v′ f tw reply =
+      let d = unalignedDueIn z n a v in
+      let e : unalignedDueIn z′ n a v′ ≡ d = sym (same-due v ∙ unaligned-alike (sramOf (z′ .rec)) (z′ .rec .extlen) n a v v′ f) in
+      rw (← (lent-due z z′ s), e)
+      (cond-both C (eqb (lentDue z) 0) (writeUnalignedStep n a v z) (refused (lentDue z) z)
+      (cond (eqb d 0) (writeUnalignedDone n a v′ z′) (refused d z′)) (refused (lentDue z) z′)
+      (λ t. let q = start (eqb-true (lentDue z) 0 t) in
+      cond-both C (eqb d 0) (writeUnalignedDone n a v z) (refused d z) (writeUnalignedDone n a v′ z′) (refused d z′)
+      (λ u. let r = write-up-both a z z′ q (littleBytes v n) (littleBytes v′ n) n tw n (omega arith) (due-fit q n a v (eqb-true d 0 u)) in
+      reply (writeUnalignedDone n a v z) (writeUnalignedDone n a v′ z′)
+      (record {
+        number = refl;
+        server = r .server;
+        report = r .report;
+        answer = no-answer P 1 n a;
+        bytes = refl;
+        next = (layoutOf (z .rec), r .next);
+      }))
+      (λ _. refusal d))
       (λ _. refusal (lentDue z)))
 
 -- ---- a fresh start: likewise
@@ -89,15 +152,31 @@ record Same (x x′ : Reply) : Type 0 where
 shared : {x x′ : Reply} → Same x x′ → Shared x x′
 shared r = record { number = r .number; server = r .server; report = r .report; rec = r .next .rec }
 
+any-pair : (z z′ : State) → SameButStored z z′ → lentDue z ≡ 0 → Pair Any (layoutOf (z .rec)) z z′
+any-pair z z′ s u = start-pair Any z z′ (s .rec) (s .l1d) (s .l2) (s .ext) u (λ _ _ _. any) (λ _ _ _. any) any any
+
+any-twins : (n a v v′ : ℕ) → Twins Any a n (littleBytes v n) (littleBytes v′ n)
+any-twins n a v v′ = record { long = length-littleBytes v n; long′ = length-littleBytes v′ n; byte = λ _ _. refl }
+
+refused-same : (z z′ : State) → SameButStored z z′ → (n : ℕ) → Same (refused n z) (refused n z′)
+refused-same z z′ s n = record { number = refl; server = refl; report = refl; next = s }
+
+replied-same : {k a b : ℕ} {x x′ : Reply} → Replies Any k a b x x′ → Same x x′
+replied-same r = let p = r .next in record { number = r .number; server = r .server; report = r .report; next = pair-stored (p .1) }
+
 command-same : (z z′ : State) → SameButStored z z′ → (k a b v v′ : ℕ) → (k ≡ 1 → FitAlike a v v′) →
     Same (call (command k a b v) z) (call (command k a b v′) z′)
 command-same z z′ s k a b v v′ f =
-    call-both Any (λ _. refl) z z′ s
-    (λ u. start-pair Any z z′ (s .rec) (s .l1d) (s .l2) (s .ext) u (λ _ _ _. any) (λ _ _ _. any) any any)
-    k a b v v′ (λ e. (f e, record { long = length-littleBytes v a; long′ = length-littleBytes v′ a; byte = λ _ _. refl }))
-    Same (λ n. record { number = refl; server = refl; report = refl; next = s })
-    (λ x x′ r. let p = r .next in
-    record { number = r .number; server = r .server; report = r .report; next = pair-stored (p .1) })
+    call-both Any (λ _. refl) z z′ s (any-pair z z′ s)
+    k a b v v′ (λ e. (f e, any-twins a b v v′)) Same (refused-same z z′ s) (λ x x′ r. replied-same r)
+
+read-unaligned-same : (z z′ : State) → SameButStored z z′ → (n a : ℕ) → Same (readUnalignedCall n a z) (readUnalignedCall n a z′)
+read-unaligned-same z z′ s n a =
+    read-unaligned-both Any z z′ s (any-pair z z′ s) Same (refused-same z z′ s) n a (λ x x′ r. replied-same r)
+
+write-unaligned-same : (z z′ : State) → SameButStored z z′ → (n a v v′ : ℕ) → FitAlike n v v′ → Same (writeUnalignedCall n a v z) (writeUnalignedCall n a v′ z′)
+write-unaligned-same z z′ s n a v v′ f =
+    write-unaligned-both Any z z′ s (any-pair z z′ s) Same (refused-same z z′ s) n a v v′ f (any-twins n a v v′) (λ x x′ r. replied-same r)
 
 fresh-same : (z z′ : State) → SameButStored z z′ → Same (called freshStart z) (called freshStart z′)
 fresh-same z z′ s =
@@ -112,6 +191,8 @@ called-same : (c c′ : Call) → SameButWritten c c′ → (z z′ : State) →
 called-same (oneCommand c) (oneCommand c′) (sameCommand {k} {a} {b} {v} {v′} f) z z′ s = command-same z z′ s k a b v v′ f
 called-same freshStart freshStart sameStart z z′ s = fresh-same z z′ s
 called-same (look a) (look a′) (sameLook {a = y}) z z′ s = look-same z z′ s y
+called-same (readUnaligned n a) (readUnaligned n′ a′) (sameRead {n = m} {a = y}) z z′ s = read-unaligned-same z z′ s m y
+called-same (writeUnaligned n a v) (writeUnaligned n′ a′ v′) (sameWrite {n = m} {a = y} {v = u} {v′ = u′} f) z z′ s = write-unaligned-same z z′ s m y u u′ f
 
 pub same-behaviour : SameBehaviour
 same-behaviour z z′ s cs cs′ h = along h z z′ s

@@ -172,7 +172,7 @@ pub record Replies (P : Pairing) (k a b : ℕ) (x x′ : Reply) : Type 0 where
   pub bytes : x .bytes ≡ x′ .bytes
   pub next : (g : Layout) × Pair P g (x .next) (x′ .next)
 
-no-answer : (P : Pairing) (k a b : ℕ) → Answer P k a b 0 0
+pub no-answer : (P : Pairing) (k a b : ℕ) → Answer P k a b 0 0
 unfolding little
 no-answer P k a b =
     record { count = 0; bs = []; bs′ = []; value = refl; value′ = refl; twins = no-twins P b; reads = λ i h. absurd (omega arith) }

@@ -12,15 +12,17 @@ use borrow.Author.Tests.{ltb-true, ltb-false}
 use Rattle.model.specs.Bytes.{little, littleBytes}
 use Rattle.model.specs.Records.{State, withRecord, l1dLineAt, l2LineAt, freshL1dSet, freshL2Set, freshRecord, freshState}
 use Rattle.model.specs.Trace.{command}
-use Rattle.model.specs.Calls.{Reply, call, freshOk, freshCall, viewDone, Call, oneCommand, freshStart, look, called}
+use Rattle.model.specs.Calls.{Reply, call, freshOk, freshCall, viewDone, readUnalignedCall, writeUnalignedCall, Call, oneCommand, freshStart, look, readUnaligned, writeUnaligned, called}
 use Rattle.model.specs.Laws.{bool, false-true, length-littleBytes}
 use Rattle.model.specs.declared.Line.{Line}
 use Rattle.agreement.proofs.Tables.{l1dStore, l2Store, fresh-line}
 use Rattle.agreement.proofs.Changes.{l1d-fresh, l2-fresh}
 use Rattle.two_runs.specs.TwoRuns.{SameBytesBut, ValueFor, SameAnswerBut, SameBut, SameButAlong, OneByteStays}
 use Rattle.two_runs.specs.TwoRuns as Says
-use Rattle.two_runs.proofs.Calling.{Answer}
-use Rattle.two_runs.proofs.Behaviour.{view-due, call-both, fresh-both, fresh-stored}
+use Rattle.agreement.proofs.Unaligned.{written-byte}
+use Rattle.two_runs.proofs.Areas.{Twins}
+use Rattle.two_runs.proofs.Calling.{Answer, Replies}
+use Rattle.two_runs.proofs.Behaviour.{view-due, call-both, read-unaligned-both, write-unaligned-both, fresh-both, fresh-stored}
 use Rattle.two_runs.proofs.Along.{Byte, zero-byte, equal-byte, Along, along-start, along-says, along-pair, pair-along}
 use Rattle.two_runs.proofs.Looking.{look-bytes}
 
@@ -59,15 +61,9 @@ value-byte (suc n) (b ∷ bs) h (suc k) l =
     let e : (b + 256 * little bs) / 256 ≡ little bs = omega arith in
     rw e (value-byte n bs (λ i j. h (suc i) (omega arith)) k (omega arith))
 
-written-byte : (v n k : ℕ) → getD (littleBytes v n) k 0 < 256
-unfolding littleBytes
-written-byte v zero k = omega arith
-written-byte v (suc n) zero = omega arith
-written-byte v (suc n) (suc k) = written-byte (v / 256) n k
-
-same-value : (x k a b u v v′ : ℕ) → Answer (Byte x) k a b v v′ →
-    SameBytesBut (ValueFor (oneCommand (command k a b u)) x) (littleBytes v 8) (littleBytes v′ 8)
-same-value x k a b u v v′ r =
+same-value : (x k a b v v′ : ℕ) → Answer (Byte x) k a b v v′ → (Stands : ℕ → Type 0) → ((i : ℕ) → (k ≡ 0) × (i < a) × (b + i ≡ x) → Stands i) →
+    SameBytesBut Stands (littleBytes v 8) (littleBytes v′ 8)
+same-value x k a b v v′ r Stands stands =
     let l = r .twins .long in let l′ = r .twins .long′ in let e = r .value in let e′ = r .value′ in
     let m = length-littleBytes v 8 in let m′ = length-littleBytes v′ 8 in
     record {
@@ -77,7 +73,7 @@ same-value x k a b u v v′ r =
           (λ t. let t′ = ltb-true i 8 t in
           rw (e, e′) (value-byte 8 (r .bs) (λ j h. r .twins .byte j (omega arith) .below) i t′
           ∙ bool (ltb i (r .count))
-          (λ y. let y′ = ltb-true i (r .count) y in let c = r .reads i y′ in r .twins .byte i y′ .same (λ g. n (c .0, c .1, g)))
+          (λ y. let y′ = ltb-true i (r .count) y in let c = r .reads i y′ in r .twins .byte i y′ .same (λ g. n (stands i (c .0, c .1, g))))
           (λ y. let y′ = ltb-false i (r .count) y in
           List·getD-eq-default (r .bs) 0 {n = i} (omega arith) ∙ sym (List·getD-eq-default (r .bs′) 0 {n = i} (omega arith)))
           ∙ sym (value-byte 8 (r .bs′) (λ j h. r .twins .byte j (omega arith) .below′) i t′)))
@@ -85,28 +81,40 @@ same-value x k a b u v v′ r =
           List·getD-eq-default (littleBytes v 8) 0 {n = i} (omega arith) ∙ sym (List·getD-eq-default (littleBytes v′ 8) 0 {n = i} (omega arith)));
     }
 
--- ---- one command
-command-stays : (x : ℕ) (z z′ : State) → Along x z z′ → (k a b v : ℕ) →
-    Stays x (oneCommand (command k a b v)) (call (command k a b v) z) (call (command k a b v) z′)
-command-stays x z z′ h k a b v =
-    call-both (Byte x) (zero-byte x) z z′ (h .stored) (along-pair x z z′ h) k a b v v
-    (λ _. (
-      λ _. refl,
-      record {
-        long = length-littleBytes v a;
-        long′ = length-littleBytes v a;
-        byte = λ i _. equal-byte refl (written-byte v a i);
-      },
-    ))
-    (Stays x (oneCommand (command k a b v))) (λ n. same-reply refl refl refl refl refl h)
-    (λ y y′ r. let p = r .next in
+-- ---- one command, one non-aligned access
+same-twins : (x n a v : ℕ) → Twins (Byte x) a n (littleBytes v n) (littleBytes v n)
+same-twins x n a v = record { long = length-littleBytes v n; long′ = length-littleBytes v n; byte = λ i _. equal-byte refl (written-byte v n i) }
+
+replied-stays : (x : ℕ) (c : Call) (z z′ : State) → Along x z z′ → (k a b : ℕ) → ((i : ℕ) → (k ≡ 0) × (i < a) × (b + i ≡ x) → ValueFor c x i) →
+    (y y′ : Reply) → Replies (Byte x) k a b y y′ → Stays x c y y′
+replied-stays x c z z′ h k a b stands y y′ r =
+    let p = r .next in
     record {
       number = r .number;
       server = r .server;
       report = r .report;
-      answer = record { value = same-value x k a b v (y .value) (y′ .value) (r .answer); handedBack = equal-bytes (r .bytes) };
+      answer = record { value = same-value x k a b (y .value) (y′ .value) (r .answer) (ValueFor c x) stands; handedBack = equal-bytes (r .bytes) };
       along = pair-along (h .external) (p .1);
-    })
+    }
+
+command-stays : (x : ℕ) (z z′ : State) → Along x z z′ → (k a b v : ℕ) →
+    Stays x (oneCommand (command k a b v)) (call (command k a b v) z) (call (command k a b v) z′)
+command-stays x z z′ h k a b v =
+    call-both (Byte x) (zero-byte x) z z′ (h .stored) (along-pair x z z′ h) k a b v v
+    (λ _. (λ _. refl, same-twins x a b v))
+    (Stays x (oneCommand (command k a b v))) (λ n. same-reply refl refl refl refl refl h)
+    (replied-stays x (oneCommand (command k a b v)) z z′ h k a b (λ _ p. p))
+
+read-unaligned-stays : (x : ℕ) (z z′ : State) → Along x z z′ → (n a : ℕ) → Stays x (readUnaligned n a) (readUnalignedCall n a z) (readUnalignedCall n a z′)
+read-unaligned-stays x z z′ h n a =
+    read-unaligned-both (Byte x) z z′ (h .stored) (along-pair x z z′ h) (Stays x (readUnaligned n a)) (λ k. same-reply refl refl refl refl refl h) n a
+    (replied-stays x (readUnaligned n a) z z′ h 0 n a (λ _ p. (p .1, p .2)))
+
+write-unaligned-stays : (x : ℕ) (z z′ : State) → Along x z z′ → (n a v : ℕ) →
+    Stays x (writeUnaligned n a v) (writeUnalignedCall n a v z) (writeUnalignedCall n a v z′)
+write-unaligned-stays x z z′ h n a v =
+    write-unaligned-both (Byte x) z z′ (h .stored) (along-pair x z z′ h) (Stays x (writeUnaligned n a v)) (λ k. same-reply refl refl refl refl refl h) n a
+    v v (λ _. refl) (same-twins x n a v) (replied-stays x (writeUnaligned n a v) z z′ h 1 n a (λ _ p. let e = p .0 in absurd (omega arith)))
 
 -- ---- a fresh start: nothing is held, SRAM is zero, or L2 is as it was lent
 zeros : (n i : ℕ) → _≡_ {A = ℕ} (getD (replicate n 0) i 0) 0
@@ -174,6 +182,8 @@ called-stays : (x : ℕ) (c : Call) (z z′ : State) → Along x z z′ → Stay
 called-stays x (oneCommand c) z z′ h = command-stays x z z′ h (c .code) (c .first) (c .second) (c .value)
 called-stays x freshStart z z′ h = fresh-stays x z z′ h
 called-stays x (look a) z z′ h = look-stays x z z′ h a
+called-stays x (readUnaligned n a) z z′ h = read-unaligned-stays x z z′ h n a
+called-stays x (writeUnaligned n a v) z z′ h = write-unaligned-stays x z z′ h n a v
 
 says : (x : ℕ) (c : Call) (y y′ : Reply) → Stays x c y y′ → SameBut x c y y′
 says x c y y′ r =

@@ -5,8 +5,8 @@
 -- address, the second sentence.
 --
 -- "For every list of single calls, trace runs and U7's writer left out": the lists hold calls of the one type `Call`,
--- which has neither: commands of any code with any numbers, refused ones too, fresh starts, views. The start states
--- need not be well formed, and need not come from a fresh start: a list may begin with one.
+-- which has neither: commands of any code with any numbers, refused ones too, fresh starts, views, non-aligned
+-- accesses. The start states need not be well formed, and need not come from a fresh start: a list may begin with one.
 use Prim.Native.Nat.{ℕ, _+_, _≤_, _<_}
 use mathlib.Core.Bool.{true}
 use mathlib.Core.Path.{_≡_}
@@ -18,7 +18,7 @@ use Rattle.model.specs.Lines.{l1dKind, l2LineLength, l1dData}
 use Rattle.model.specs.Records.{State, sramOf, l1dLineAt, l2LineAt, l2Data}
 use Rattle.model.specs.Refusals.{sizeOk, valueOk}
 use Rattle.model.specs.Trace.{command}
-use Rattle.model.specs.Calls.{Reply, Call, oneCommand, freshStart, look, called}
+use Rattle.model.specs.Calls.{Reply, Call, oneCommand, freshStart, look, readUnaligned, writeUnaligned, called}
 
 -- ==== the first sentence
 -- ---- "two runs that differ only in stored .. data": any two states with one record and memories of equal lengths
@@ -38,6 +38,8 @@ pub data SameButWritten : Call → Call → Type 0 where
   sameCommand : {k a b v v′ : ℕ} → (k ≡ 1 → FitAlike a v v′) → SameButWritten (oneCommand (command k a b v)) (oneCommand (command k a b v′))
   sameStart : SameButWritten freshStart freshStart
   sameLook : {a : ℕ} → SameButWritten (look a) (look a)
+  sameRead : {n a : ℕ} → SameButWritten (readUnaligned n a) (readUnaligned n a)
+  sameWrite : {n a v v′ : ℕ} → FitAlike n v v′ → SameButWritten (writeUnaligned n a v) (writeUnaligned n a v′)
 
 -- call by call along two lists, which so have the same length
 pub data ListsSameButWritten : List Call → List Call → Type 0 where
@@ -79,18 +81,22 @@ ExternalFor x k = externalBase + k ≡ x
 abbrev pub LineFor : ℕ → ℕ → ℕ → Type 0
 LineFor b x k = b + k ≡ x
 
--- .. of the value that is answered to a read of n bytes at a, its first n for a, a + 1, .., and of any other answer's
--- value none; ..
+-- .. of the value that is answered to a read of n bytes at a, aligned or not, its first n for a, a + 1, .., and of any
+-- other answer's value none; ..
 abbrev pub ValueFor : Call → ℕ → ℕ → Type 0
 ValueFor (oneCommand c) x k = (c .code ≡ 0) × (k < c .first) × (c .second + k ≡ x)
 ValueFor freshStart x k = ⊥
 ValueFor (look a) x k = ⊥
+ValueFor (readUnaligned n a) x k = (k < n) × (a + k ≡ x)
+ValueFor (writeUnaligned n a v) x k = ⊥
 
 -- .. and of the bytes that are handed back, those of a view for the addresses of the line that it shows
 abbrev pub HandedBackFor : Call → ℕ → ℕ → Type 0
 HandedBackFor (oneCommand c) x k = ⊥
 HandedBackFor freshStart x k = ⊥
 HandedBackFor (look a) x k = LineFor a x k
+HandedBackFor (readUnaligned n a) x k = ⊥
+HandedBackFor (writeUnaligned n a v) x k = ⊥
 
 -- ---- "Where they differ only in one byte of external memory at the start": in the byte at address x. What is lent is
 -- bytes, numbers below 256; a model's list could hold others, which would carry into the next byte of a value.
