@@ -6,7 +6,7 @@ ghost use mathlib.Core.Logic.{_≢_};
 ghost use mathlib.Core.Path.{_≡_};
 ghost use Rattle.model.specs.Refusals.{lentDue, viewDue};
 ghost use Rattle.model.specs.Trace.{command};
-ghost use Rattle.model.specs.Calls.{oneCommand, freshStart, called, ran, runCall};
+ghost use Rattle.model.specs.Calls.{oneCommand, freshStart, readUnaligned, writeUnaligned, called, ran, runCall};
 ghost use Rattle.traces.specs.ShortRuns.{shortRunOf, shortRunNumber};
 ghost use Rattle.traces.specs.Writing.{writeCommand};
 ghost use Rattle.traces.specs.Load.{loadTrace};
@@ -55,6 +55,40 @@ pub extern "C" fn c64x_write(
     ensures refused { λ x. ⌜ (x .number ≢ 0 → now (words .exit) ≡ now (words .entry)) ⌝ }
 {
     c_answers::carry_out(words, 1, size, address, value, l1d, l2, ext)
+}
+
+// Non-aligned accesses (02, U6).
+#[no_mangle]
+pub extern "C" fn c64x_read_unaligned(
+    words: &mut [u32; WORDS],
+    size: u32,
+    address: u32,
+    l1d: &mut [u8],
+    l2: &mut [u8],
+    ext: &mut [u8],
+) -> CAnswer
+    ensures { λ x. ⌜ Tells x (stateIn (now (words .exit)) (now (l1d .exit)) (now (l2 .exit)) (now (ext .exit)))
+        (called (readUnaligned size address) (stateIn (now (words .entry)) (now (l1d .entry)) (now (l2 .entry)) (now (ext .entry)))) ⌝ }
+    ensures refused { λ x. ⌜ (x .number ≢ 0 → now (words .exit) ≡ now (words .entry)) ⌝ }
+{
+    c_answers::read_unaligned(words, size, address, l1d, l2, ext)
+}
+
+#[no_mangle]
+pub extern "C" fn c64x_write_unaligned(
+    words: &mut [u32; WORDS],
+    size: u32,
+    address: u32,
+    value: u64,
+    l1d: &mut [u8],
+    l2: &mut [u8],
+    ext: &mut [u8],
+) -> CAnswer
+    ensures { λ x. ⌜ Tells x (stateIn (now (words .exit)) (now (l1d .exit)) (now (l2 .exit)) (now (ext .exit)))
+        (called (writeUnaligned size address value) (stateIn (now (words .entry)) (now (l1d .entry)) (now (l2 .entry)) (now (ext .entry)))) ⌝ }
+    ensures refused { λ x. ⌜ (x .number ≢ 0 → now (words .exit) ≡ now (words .entry)) ⌝ }
+{
+    c_answers::write_unaligned(words, size, address, value, l1d, l2, ext)
 }
 
 #[no_mangle]

@@ -6,7 +6,7 @@ ghost use mathlib.Core.Path.{_≡_};
 ghost use Rattle.model.specs.Records.{state};
 ghost use Rattle.model.specs.Refusals.{viewDue};
 ghost use Rattle.model.specs.Trace.{command};
-ghost use Rattle.model.specs.Calls.{oneCommand, called, freshCall, runCall, viewCall};
+ghost use Rattle.model.specs.Calls.{oneCommand, readUnaligned, writeUnaligned, called, freshCall, runCall, viewCall};
 ghost use Rattle.by_value.specs.Called.{calledAs, ranAs};
 use model::Left;
 use model::Record;
@@ -51,6 +51,66 @@ pub fn one_command(
     let mut tags = [0u32; WORDS];
     packing::pack(r, &mut tags);
     let x = calls::carry_out(&mut tags, code, first, second, value, l1d, l2, ext);
+    let after = packing::unpack(&tags);
+    let k = x.l1d_left;
+    let l = x.l2_left;
+    Called {
+        number: x.number,
+        server: x.server,
+        value: x.value,
+        l1d_left: k,
+        l2_left: l,
+        external_read: x.read,
+        external_written: x.written,
+        record: after,
+    }
+}
+
+// A non-aligned read, and a write (02, U6).
+pub fn read_unaligned(
+    r: Record,
+    size: u32,
+    address: u32,
+    l1d: &mut [u8],
+    l2: &mut [u8],
+    ext: &mut [u8],
+) -> Called
+    ensures { λ x. ⌜ calledAs x (now (l1d .exit)) (now (l2 .exit)) (now (ext .exit))
+        ≡ called (readUnaligned size address) (state r (now (l1d .entry)) (now (l2 .entry)) (now (ext .entry))) ⌝ }
+{
+    let mut tags = [0u32; WORDS];
+    packing::pack(r, &mut tags);
+    let x = calls::read_unaligned(&mut tags, size, address, l1d, l2, ext);
+    let after = packing::unpack(&tags);
+    let k = x.l1d_left;
+    let l = x.l2_left;
+    Called {
+        number: x.number,
+        server: x.server,
+        value: x.value,
+        l1d_left: k,
+        l2_left: l,
+        external_read: x.read,
+        external_written: x.written,
+        record: after,
+    }
+}
+
+pub fn write_unaligned(
+    r: Record,
+    size: u32,
+    address: u32,
+    value: u64,
+    l1d: &mut [u8],
+    l2: &mut [u8],
+    ext: &mut [u8],
+) -> Called
+    ensures { λ x. ⌜ calledAs x (now (l1d .exit)) (now (l2 .exit)) (now (ext .exit))
+        ≡ called (writeUnaligned size address value) (state r (now (l1d .entry)) (now (l2 .entry)) (now (ext .entry))) ⌝ }
+{
+    let mut tags = [0u32; WORDS];
+    packing::pack(r, &mut tags);
+    let x = calls::write_unaligned(&mut tags, size, address, value, l1d, l2, ext);
     let after = packing::unpack(&tags);
     let k = x.l1d_left;
     let l = x.l2_left;

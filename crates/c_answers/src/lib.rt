@@ -4,7 +4,7 @@ ghost use mathlib.Core.Logic.{_≢_};
 ghost use mathlib.Core.Path.{_≡_};
 ghost use lib.ListN.{length};
 ghost use Rattle.model.specs.Trace.{command};
-ghost use Rattle.model.specs.Calls.{oneCommand, freshStart, called};
+ghost use Rattle.model.specs.Calls.{oneCommand, freshStart, readUnaligned, writeUnaligned, called};
 ghost use Rattle.tags.specs.Words.{recordWords, stateIn};
 ghost use Rattle.c_answers.specs.Told.{toldLeft, toldAnswer, Tells};
 use access::Answer;
@@ -86,6 +86,42 @@ pub fn carry_out(
     ensures refused { λ x. ⌜ (x .number ≢ 0 → now (tags .exit) ≡ now (tags .entry)) ⌝ }
 {
     let x = calls::carry_out(tags, code, first, second, value, l1d, l2, ext);
+    answer_for_c(x)
+}
+
+// A non-aligned read, and a write (02, U6).
+pub fn read_unaligned(
+    tags: &mut [u32],
+    size: u32,
+    address: u32,
+    l1d: &mut [u8],
+    l2: &mut [u8],
+    ext: &mut [u8],
+) -> CAnswer
+    requires { ⌜ length (now tags) ≡ recordWords ⌝ }
+    ensures { λ x. ⌜ Tells x (stateIn (now (tags .exit)) (now (l1d .exit)) (now (l2 .exit)) (now (ext .exit)))
+        (called (readUnaligned size address) (stateIn (now (tags .entry)) (now (l1d .entry)) (now (l2 .entry)) (now (ext .entry)))) ⌝ }
+    ensures refused { λ x. ⌜ (x .number ≢ 0 → now (tags .exit) ≡ now (tags .entry)) ⌝ }
+{
+    let x = calls::read_unaligned(tags, size, address, l1d, l2, ext);
+    answer_for_c(x)
+}
+
+pub fn write_unaligned(
+    tags: &mut [u32],
+    size: u32,
+    address: u32,
+    value: u64,
+    l1d: &mut [u8],
+    l2: &mut [u8],
+    ext: &mut [u8],
+) -> CAnswer
+    requires { ⌜ length (now tags) ≡ recordWords ⌝ }
+    ensures { λ x. ⌜ Tells x (stateIn (now (tags .exit)) (now (l1d .exit)) (now (l2 .exit)) (now (ext .exit)))
+        (called (writeUnaligned size address value) (stateIn (now (tags .entry)) (now (l1d .entry)) (now (l2 .entry)) (now (ext .entry)))) ⌝ }
+    ensures refused { λ x. ⌜ (x .number ≢ 0 → now (tags .exit) ≡ now (tags .entry)) ⌝ }
+{
+    let x = calls::write_unaligned(tags, size, address, value, l1d, l2, ext);
     answer_for_c(x)
 }
 

@@ -8,8 +8,8 @@ use lib.ListN.{length}
 use Rattle.model.specs.Flat.{Flat, freshFlat, flatCalled}
 use Rattle.model.specs.Refusals.{viewDue}
 use Rattle.model.specs.Records.{State}
-use Rattle.model.specs.Laws.{cond-elim, call-told}
-use Rattle.model.specs.Calls.{Reply, freshOk, freshCall, viewCall, viewDone, Call, oneCommand, freshStart, look, called}
+use Rattle.model.specs.Laws.{cond-elim, call-told, read-unaligned-told, write-unaligned-told}
+use Rattle.model.specs.Calls.{Reply, freshOk, freshCall, viewCall, viewDone, Call, oneCommand, freshStart, look, readUnaligned, writeUnaligned, called}
 use Rattle.model.specs.declared.Command.{Command}
 use Rattle.tags.specs.Words.{recordIn}
 use Rattle.model.specs.Demand.{Settled, Agree, next}
@@ -38,8 +38,9 @@ demand3-from-c d m e x h q z cs l r =
     along cs h r (freshFlat (length m) e)
     (subst (λ (y : State). Agree cs y (freshFlat (length m) e)) (sym (q .next)) (demand3 d m e accepted cs l))
 
--- ---- what the contracts of crate boundary say makes such a call: a command's and the fresh start's, which hand back no
--- bytes, and the view's, whose number and bytes C is given and which leaves words and bytes as they are
+-- ---- what the contracts of crate boundary say makes such a call: a command's, a non-aligned access's and the fresh
+-- start's, which hand back no bytes, and the view's, whose number and bytes C is given and which leaves words and bytes
+-- as they are
 abbrev plainly : CAnswer → Answered
 plainly x = record { number = x .number; server = x .server; value = x .value; bytes = [] }
 
@@ -52,6 +53,16 @@ from-c r x k none t = record {
 
 pub command-from-c : (c : Command) (h k : Held) (x : CAnswer) → Tells x (stateOf k) (called (oneCommand c) (stateOf h)) → FromC (oneCommand c) h (plainly x) k
 command-from-c c h k x t = from-c (called (oneCommand c) (stateOf h)) x k (sym (ap (λ (r : Reply). r .bytes) (call-told c (stateOf h)))) t
+
+pub read-unaligned-from-c : (n a : ℕ) (h k : Held) (x : CAnswer) → Tells x (stateOf k) (called (readUnaligned n a) (stateOf h)) →
+    FromC (readUnaligned n a) h (plainly x) k
+read-unaligned-from-c n a h k x t =
+    from-c (called (readUnaligned n a) (stateOf h)) x k (sym (ap (λ (r : Reply). r .bytes) (read-unaligned-told n a (stateOf h)))) t
+
+pub write-unaligned-from-c : (n a v : ℕ) (h k : Held) (x : CAnswer) → Tells x (stateOf k) (called (writeUnaligned n a v) (stateOf h)) →
+    FromC (writeUnaligned n a v) h (plainly x) k
+write-unaligned-from-c n a v h k x t =
+    from-c (called (writeUnaligned n a v) (stateOf h)) x k (sym (ap (λ (r : Reply). r .bytes) (write-unaligned-told n a v (stateOf h)))) t
 
 pub fresh-from-c : (h k : Held) (x : CAnswer) → Tells x (stateOf k) (called freshStart (stateOf h)) → FromC freshStart h (plainly x) k
 unfolding freshCall

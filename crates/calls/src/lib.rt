@@ -1,14 +1,15 @@
-// The calls of paper 01 on a record that is lent as words: the fresh start, any command, the run over a trace. Every
-// content of the words, every number that a caller can pass and every length of a lent buffer meets a check, and a
-// refused call leaves every word and every byte as it was. The contracts equate the answer, the record and every lent
-// byte with paper 01's definitions (model/specs/Calls).
+// The calls of paper 01 on a record that is lent as words: the fresh start, any command, the run over a trace; and the
+// non-aligned accesses of 02, U6. Every content of the words, every number that a caller can pass and every length of a
+// lent buffer meets a check, and a refused call leaves every word and every byte as it was. The contracts equate the
+// answer, the record and every lent byte with paper 01's definitions (model/specs/Calls).
 ghost use mathlib.Core.Logic.{_≢_};
 ghost use mathlib.Core.Path.{_≡_};
+ghost use Prim.Native.Nat.{_<_};
 ghost use lib.ListN.{length};
 ghost use Rattle.model.specs.Refusals.{lentDue};
 ghost use Rattle.model.specs.Trace.{command};
 ghost use Rattle.access.specs.Serving.{answerOf, plainAnswer};
-ghost use Rattle.model.specs.Calls.{oneCommand, freshStart, called, freshOk, ran, runCall};
+ghost use Rattle.model.specs.Calls.{oneCommand, freshStart, readUnaligned, writeUnaligned, called, freshOk, ran, runCall};
 ghost use Rattle.tags.specs.Words.{recordWords, stateIn};
 use access::Answer;
 use geometry::L1d;
@@ -64,6 +65,64 @@ pub fn carry_out(
     let mut answer = [0u8; 10];
     let q = run::run(tags, true, c, &none, l1d, l2, ext, &mut answer);
     q.last
+}
+
+// A non-aligned read (code 0, of value 0) or write (code 1): the checks of lengths and record, then its bytes.
+fn unaligned(
+    tags: &mut [u32],
+    code: u8,
+    size: u32,
+    address: u32,
+    value: u64,
+    l1d: &mut [u8],
+    l2: &mut [u8],
+    ext: &mut [u8],
+) -> Answer
+    requires { ⌜ (length (now tags) ≡ recordWords) × (code < 2) ⌝ }
+    ensures reads { λ x. ⌜ (code ≡ 0 → value ≡ 0 → answerOf x (stateIn (now (tags .exit)) (now (l1d .exit)) (now (l2 .exit)) (now (ext .exit)))
+        ≡ called (readUnaligned size address) (stateIn (now (tags .entry)) (now (l1d .entry)) (now (l2 .entry)) (now (ext .entry)))) ⌝ }
+    ensures writes { λ x. ⌜ (code ≡ 1 → answerOf x (stateIn (now (tags .exit)) (now (l1d .exit)) (now (l2 .exit)) (now (ext .exit)))
+        ≡ called (writeUnaligned size address value) (stateIn (now (tags .entry)) (now (l1d .entry)) (now (l2 .entry)) (now (ext .entry)))) ⌝ }
+    ensures refused { λ x. ⌜ (x .number ≢ 0 → now (tags .exit) ≡ now (tags .entry)) ⌝ }
+{
+    let due = record_check::lent_due(tags, l1d, l2, ext);
+    if due == 0 {
+        return unaligned::carry_out(tags, code, size, address, value, l1d, l2, ext);
+    }
+    numbered(due)
+}
+
+pub fn read_unaligned(
+    tags: &mut [u32],
+    size: u32,
+    address: u32,
+    l1d: &mut [u8],
+    l2: &mut [u8],
+    ext: &mut [u8],
+) -> Answer
+    requires { ⌜ length (now tags) ≡ recordWords ⌝ }
+    ensures { λ x. ⌜ answerOf x (stateIn (now (tags .exit)) (now (l1d .exit)) (now (l2 .exit)) (now (ext .exit)))
+        ≡ called (readUnaligned size address) (stateIn (now (tags .entry)) (now (l1d .entry)) (now (l2 .entry)) (now (ext .entry))) ⌝ }
+    ensures refused { λ x. ⌜ (x .number ≢ 0 → now (tags .exit) ≡ now (tags .entry)) ⌝ }
+{
+    unaligned(tags, 0, size, address, 0, l1d, l2, ext)
+}
+
+pub fn write_unaligned(
+    tags: &mut [u32],
+    size: u32,
+    address: u32,
+    value: u64,
+    l1d: &mut [u8],
+    l2: &mut [u8],
+    ext: &mut [u8],
+) -> Answer
+    requires { ⌜ length (now tags) ≡ recordWords ⌝ }
+    ensures { λ x. ⌜ answerOf x (stateIn (now (tags .exit)) (now (l1d .exit)) (now (l2 .exit)) (now (ext .exit)))
+        ≡ called (writeUnaligned size address value) (stateIn (now (tags .entry)) (now (l1d .entry)) (now (l2 .entry)) (now (ext .entry))) ⌝ }
+    ensures refused { λ x. ⌜ (x .number ≢ 0 → now (tags .exit) ≡ now (tags .entry)) ⌝ }
+{
+    unaligned(tags, 1, size, address, value, l1d, l2, ext)
 }
 
 fn fresh_ok(l1d: &[u8], l2: &[u8], ext: &[u8]) -> bool

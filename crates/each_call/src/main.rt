@@ -40,7 +40,7 @@ fn seen<'a>(r: Record, l2: &'a [u8], ext: &'a [u8], address: u32) {
     show(part.len() as u64, wide(part[0]), wide(part[2]));
 }
 
-// The call of one row: its code (13: a view) and its numbers.
+// The call of one row: its code (13: a view; 14 and 15: a non-aligned read and write) and its numbers.
 fn one(
     r: Record,
     code: u32,
@@ -89,6 +89,12 @@ fn one(
     }
     if code == 12 {
         return told(command_calls::freeze(r, a, l1d, l2, ext));
+    }
+    if code == 14 {
+        return told(by_value::read_unaligned(r, a, b, l1d, l2, ext));
+    }
+    if code == 15 {
+        return told(by_value::write_unaligned(r, a, b, wide32(v), l1d, l2, ext));
     }
     seen(r, l2, ext, a);
     r
@@ -375,8 +381,28 @@ fn main() {
         1,
         0,
         0,
+        15,
+        4,
+        2147483774,
+        16909060,
+        14,
+        4,
+        2147483774,
+        0,
+        14,
+        8,
+        2147483773,
+        0,
+        14,
+        2,
+        0,
+        0,
+        15,
+        8,
+        2147549180,
+        1,
     ];
-    for k in 0..57 {
+    for k in 0..62 {
         let p = k * 4;
         r = one(
             r,

@@ -1,12 +1,14 @@
 -- Each number, as the code comes to it: the tests passed so far, and what the next one says. Where only the last test
 -- is left, one law gives the number for both its answers (`access-last`).
-use Prim.Native.Nat.{ℕ, _+_, _%_, _≤_, _<_}
+use Prim.Native.Nat.{ℕ, suc, _+_, _-_, _%_, _≤_, _<_}
 use mathlib.Core.Bool.{Bool, true, false, _&&_, _||_}
 use mathlib.Core.Path.{_≡_, refl, sym, _∙_}
 use native.Mathlib.Omega.{arith}
 use lib.Dec.{ltb, leb, eqb}
 use borrow.Author.Tests.{lt-ltb, le-ltb, le-leb, lt-leb, eq-eqb, ne-eqb, eqb-true}
 use Rattle.model.specs.Memories.{externalBase, isMode, cacheSize}
+use Rattle.model.specs.Unaligned.{unalignedSize, bytesPlaced, unalignedDue}
+use Rattle.model.specs.Laws.{bool, placed-together}
 use Rattle.model.specs.Refusals.{unless, sizeOk, placeOk, valueOk, accessDue, blockDue, modeDue, freezeDue}
 
 -- "4: address not a multiple of the size"
@@ -88,6 +90,41 @@ module _ (q : Asked) where
       pub access-last : placed ≡ true → (w : Bool) → w ≡ valueOk (q .size) (q .value) → dueOf ≡ unless w 6
       unfolding accessDue
       access-last z w f = rw (x, y, z, f) refl
+
+-- ---- a non-aligned read or write: the bytes lie in memory one by one where they do together
+pub unaligned-joined : (n : ℕ) → (eqb n 4 || eqb n 8) ≡ unalignedSize n
+unfolding unalignedSize
+unaligned-joined n = refl
+
+unaligned-sizes : (n : ℕ) → unalignedSize n ≡ true → (1 ≤ n) × (n ≤ 8)
+unfolding unalignedSize
+unaligned-sizes n h =
+    bool (eqb n 4) (λ t. let e = eqb-true n 4 t in (omega arith, omega arith))
+    (λ t. let e = eqb-true n 8 (rw t at h) in (omega arith, omega arith))
+
+module _ (q : Asked) where
+  abbrev pub unalignedOf : ℕ
+  unalignedOf = unalignedDue (q .sram) (q .ext) (q .size) (q .address) (q .value)
+
+  pub unaligned-three : unalignedSize (q .size) ≡ false → 3 ≡ unalignedOf
+  unfolding unalignedDue
+  unaligned-three x = rw x refl
+
+  module _ (low : q .sram + 8 ≤ externalBase) (x : unalignedSize (q .size) ≡ true) where
+    together : bytesPlaced (q .sram) (q .ext) (q .size) (q .address) ≡ placed q
+    together =
+        let n = q .size in let l = unaligned-sizes n x in let l₀ = l .0 in let l₁ = l .1 in
+        let i : n ≡ suc (n - 1) = omega arith in
+        rw i (placed-together (q .sram) (q .ext) (n - 1) (q .address) (omega arith))
+
+    pub unaligned-five : placed q ≡ false → 5 ≡ unalignedOf
+    unfolding unalignedDue
+    unaligned-five z = let t = together ∙ z in rw (x, t) refl
+
+    -- w: what the test of the value says
+    pub unaligned-last : placed q ≡ true → (w : Bool) → w ≡ valueOk (q .size) (q .value) → unalignedOf ≡ unless w 6
+    unfolding unalignedDue
+    unaligned-last z w f = let t = together ∙ z in rw (x, t, f) refl
 
 -- ---- a block, a mode
 module _ (b c : ℕ) where

@@ -2,7 +2,10 @@
 // answers for every argument.
 ghost use mathlib.Core.Bool.{true};
 ghost use mathlib.Core.Path.{_≡_};
+ghost use Prim.Native.Nat.{_+_, _≤_};
+ghost use Rattle.model.specs.Memories.{externalBase};
 ghost use Rattle.model.specs.Refusals.{sizeOk, placeOk, valueOk, accessDue, blockDue, modeDue, freezeDue};
+ghost use Rattle.model.specs.Unaligned.{unalignedSize, unalignedDue};
 ghost use Rattle.refusals.specs.Due.{aligned};
 
 // Sums of an address and a length are made of 64 bits, so that none wraps.
@@ -76,6 +79,34 @@ pub fn access_due(sram: u32, ext: u32, size: u32, address: u32, value: u64) -> u
         return 0;
     }
     6
+}
+
+// ---- a non-aligned read or write (02, U6): 3, 5 and 6
+fn unaligned_size(size: u32) -> bool
+    ensures { λ b. ⌜ b ≡ unalignedSize size ⌝ }
+{
+    (size == 4) | (size == 8)
+}
+
+// All bytes are looked at together: where SRAM ends below external memory, each of them lies in one of the two where
+// all of them together do.
+pub fn unaligned_due(sram: u32, ext: u32, size: u32, address: u32, value: u64) -> u8
+    requires { ⌜ sram + 8 ≤ externalBase ⌝ }
+    ensures { λ n. ⌜ n ≡ unalignedDue sram ext size address value ⌝ }
+{
+    let sized = unaligned_size(size);
+    let all_placed = place_ok(sram, ext, size, address);
+    let fits = value_ok(size, value);
+    if sized {
+        if all_placed {
+            if fits {
+                return 0;
+            }
+            return 6;
+        }
+        return 5;
+    }
+    3
 }
 
 // ---- a block: 4 and 7

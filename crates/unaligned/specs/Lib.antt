@@ -1,0 +1,3 @@
+pub mod Upwards
+pub mod Single
+pub mod Meets
