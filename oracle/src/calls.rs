@@ -10,6 +10,7 @@ use crate::machine::{Events, Machine, Report, SERVER_NONE};
 use crate::modes::{change_freeze, change_mar, change_mode, holds_a_line_of};
 use crate::record::Record;
 use crate::trace::Command;
+use crate::unaligned::{carry_out_unaligned, Unaligned};
 use crate::wellformed::is_well_formed;
 
 pub use crate::trace::run;
@@ -394,4 +395,44 @@ pub fn freeze(
     frozen: u32,
 ) -> Reply {
     direct(record, l1d, l2, ext, &Command::Freeze { frozen })
+}
+
+/// A non-aligned access (02, U6): checks 1 and 2, then the rest.
+pub fn unaligned(
+    record: &mut Record,
+    l1d: &mut [u8],
+    l2: &mut [u8],
+    ext: &mut [u8],
+    access: &Unaligned,
+) -> Reply {
+    let number = check_lent_and_record(record, l1d.len(), l2.len(), ext.len());
+    if number != 0 {
+        return Reply::refused(number);
+    }
+    carry_out_unaligned(&mut Machine::new(record, l1d, l2, ext), access)
+}
+
+/// A non-aligned load (02, U6).
+pub fn read_unaligned(
+    record: &mut Record,
+    l1d: &mut [u8],
+    l2: &mut [u8],
+    ext: &mut [u8],
+    size: u32,
+    address: u32,
+) -> Reply {
+    unaligned(record, l1d, l2, ext, &Unaligned::Read { size, address })
+}
+
+/// A non-aligned store (02, U6).
+pub fn write_unaligned(
+    record: &mut Record,
+    l1d: &mut [u8],
+    l2: &mut [u8],
+    ext: &mut [u8],
+    size: u32,
+    address: u32,
+    value: u64,
+) -> Reply {
+    unaligned(record, l1d, l2, ext, &Unaligned::Write { size, address, value })
 }

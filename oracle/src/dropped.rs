@@ -11,7 +11,7 @@ use crate::calls::direct_with_events;
 use crate::flat::Flat;
 use crate::gen::Setup;
 use crate::geometry::{external_offset, EXTERNAL_BASE};
-use crate::{Answer, Command};
+use crate::{Answer, Command, Unaligned};
 
 /// A sentence of the request that a read does not keep to, from 1 to 3.
 #[derive(Clone, PartialEq, Eq, Debug)]
@@ -108,6 +108,27 @@ impl History {
             }
             // Commands do what their events say, and a freeze (02, U11) changes no byte.
             _ => {}
+        }
+        Ok(read)
+    }
+
+    /// A non-aligned access is a CPU access too, "done as single-byte accesses from the
+    /// lowest address up" (02, U6): its bytes are as many calls. A refused one is none.
+    pub fn unaligned(&mut self, access: &Unaligned, answer: &Answer) -> Result<Read, Broken> {
+        let mut read = Read::default();
+        if answer.number != 0 {
+            return Ok(read);
+        }
+        let value = if access.is_write() { access.value() } else { answer.value };
+        for (address, value) in bytes(access.address(), access.size(), value) {
+            let (size, value) = (1, u64::from(value));
+            let (command, value) = match access {
+                Unaligned::Read { .. } => (Command::Read { size, address }, value),
+                Unaligned::Write { .. } => (Command::Write { size, address, value }, 0),
+            };
+            let seen = self.call(&command, &Answer { value, ..*answer })?;
+            read.bytes += seen.bytes;
+            read.older += seen.older;
         }
         Ok(read)
     }

@@ -1,9 +1,10 @@
 //! "Flat memory": what a program sees that knows nothing of caches. It shares
 //! no function with the machine that it is set against, so that a mistake in a
-//! size, a place or a check of that one is seen. Only the commands' names are
-//! those of the trace.
+//! size, a place or a check of that one is seen. Only the names of commands and
+//! accesses are those that the machine has.
 
 use crate::trace::Command;
+use crate::unaligned::Unaligned;
 
 /// "External: E bytes, ... at address 80000000h."
 const EXTERNAL_AT: u64 = 0x8000_0000;
@@ -110,6 +111,52 @@ impl Flat {
             Command::Write { size, address, value } => Some((self.write(size, address, value), 0)),
             Command::Mode { mode } => Some((self.change_mode(mode), 0)),
             _ => None,
+        }
+    }
+
+    /// "Lists with these accesses keep agreeing with flat memory." (02, U6) All the bytes of
+    /// one at once, which stand beside each other in one memory; `Err` is the number due: 3,
+    /// 5, then 6. No alignment is asked for.
+    fn stretch(&mut self, access: &Unaligned) -> Result<&mut [u8], u8> {
+        let (size, address, value) = match *access {
+            Unaligned::Read { size, address } => (size, address, None),
+            Unaligned::Write { size, address, value } => (size, address, Some(value)),
+        };
+        // "3 refuses sizes 1 and 2"
+        let bytes = match size {
+            4 => 4,
+            8 => 8,
+            _ => return Err(3),
+        };
+        let first = u64::from(address);
+        let (memory, offset) = match first.checked_sub(EXTERNAL_AT) {
+            Some(offset) => (&mut self.ext, offset as usize),
+            None => (&mut self.sram, first as usize),
+        };
+        let stretch = memory.get_mut(offset..offset + bytes).ok_or(5)?;
+        if size == 4 && value.is_some_and(|value| value > u64::from(u32::MAX)) {
+            return Err(6);
+        }
+        Ok(stretch)
+    }
+
+    /// The number and value of a non-aligned access.
+    pub fn apply_unaligned(&mut self, access: &Unaligned) -> (u8, u64) {
+        let stretch = match self.stretch(access) {
+            Ok(stretch) => stretch,
+            Err(number) => return (number, 0),
+        };
+        let mut eight = [0; 8];
+        match *access {
+            Unaligned::Read { .. } => {
+                eight[..stretch.len()].copy_from_slice(stretch);
+                (0, u64::from_le_bytes(eight))
+            }
+            Unaligned::Write { value, .. } => {
+                eight = value.to_le_bytes();
+                stretch.copy_from_slice(&eight[..stretch.len()]);
+                (0, 0)
+            }
         }
     }
 }

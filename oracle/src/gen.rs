@@ -5,6 +5,7 @@ use crate::calls;
 use crate::geometry::{cache_size, mode_is_legal, sram_size, L1d, EXTERNAL_BASE, L1D_BYTES, L2};
 use crate::record::{Line, Record};
 use crate::trace::{run, Command, RunResult};
+use crate::unaligned::Unaligned;
 use crate::wellformed::Clause;
 use crate::{Answer, Reply};
 
@@ -172,6 +173,19 @@ impl Setup {
             Command::Mode { mode } => calls::mode_change(record, l1d, l2, ext, mode),
             Command::Mar { number, bit } => calls::mar_change(record, l1d, l2, ext, number, bit),
             Command::Freeze { frozen } => calls::freeze(record, l1d, l2, ext, frozen),
+        }
+    }
+
+    /// A non-aligned access, with all that it gives back (02, U6).
+    pub fn unaligned(&mut self, access: &Unaligned) -> Reply {
+        calls::unaligned(&mut self.record, &mut self.l1d, &mut self.l2, &mut self.ext, access)
+    }
+
+    /// Any single call.
+    pub fn single(&mut self, single: &Single) -> Reply {
+        match single {
+            Single::Command(command) => self.reply(command),
+            Single::Unaligned(access) => self.unaligned(access),
         }
     }
 
@@ -1342,6 +1356,68 @@ pub fn command(rng: &mut Rng, hot: &Hot, mix: &Mix) -> Command {
     }
 }
 
+/// A single call: a command that a trace could hold as well, or an access that none can
+/// (02, U6).
+#[derive(Clone, Copy, PartialEq, Eq, Debug)]
+pub enum Single {
+    Command(Command),
+    Unaligned(Unaligned),
+}
+
+/// A random single call: a command, but of the accesses one in six is a non-aligned one.
+pub fn single(rng: &mut Rng, hot: &Hot, mix: &Mix) -> Single {
+    let drawn = command(rng, hot, mix);
+    let is_write = match drawn {
+        Command::Read { .. } => false,
+        Command::Write { .. } => true,
+        _ => return Single::Command(drawn),
+    };
+    if rng.chance(5, 6) {
+        return Single::Command(drawn);
+    }
+    Single::Unaligned(unaligned_access(rng, hot, is_write))
+}
+
+/// A random non-aligned access; most of them pass the checks. One in four goes from one
+/// hot line into the next, and as many come from the line before.
+pub fn unaligned_access(rng: &mut Rng, hot: &Hot, is_write: bool) -> Unaligned {
+    let size = if rng.chance(1, 24) {
+        rng.pick(&[1, 2, 1, 2, 0, 3, 5, 6, 7, 9, 12, 16, 256, 260, 264, 1 << 31, u32::MAX])
+    } else {
+        rng.pick(&[4, 8])
+    };
+    let address = unaligned_address(rng, hot, size.clamp(2, 8));
+    if is_write {
+        Unaligned::Write { size, address, value: written_value(rng, size) }
+    } else {
+        Unaligned::Read { size, address }
+    }
+}
+
+/// An address at which so many bytes begin: in or across hot lines, seldom around an end of
+/// a memory, near FFFFFFFFh or anywhere.
+fn unaligned_address(rng: &mut Rng, hot: &Hot, size: u32) -> u32 {
+    let line = rng.pick(&hot.lines);
+    // Across the beginning of a line.
+    let back = 1 + rng.below(size - 1);
+    match rng.below(64) {
+        0 => rng.next_u32(),
+        1 => u32::MAX - rng.below(2 * size),
+        2 => EXTERNAL_BASE.wrapping_sub(size).wrapping_add(rng.below(2 * size)),
+        3 => EXTERNAL_BASE.wrapping_add(hot.e).wrapping_sub(size).wrapping_add(rng.below(2 * size)),
+        4 => {
+            let end = sram_size(hot.l, rng.pick(&LEGAL_MODES));
+            end.wrapping_sub(size).wrapping_add(rng.below(2 * size))
+        }
+        5 => EXTERNAL_BASE + rng.below(hot.e),
+        6 => rng.below(hot.l),
+        7..=11 => line + 4 * rng.below(16),
+        12..=27 => line + L1d::LINE - back,
+        28..=43 => line.wrapping_sub(back),
+        _ => line + rng.below(L1d::LINE),
+    }
+}
+
 /// An access size, seldom an illegal one.
 fn access_size(rng: &mut Rng) -> u32 {
     if rng.chance(1, 64) {
@@ -1420,6 +1496,7 @@ pub fn look_address(rng: &mut Rng, hot: &Hot) -> u32 {
 pub enum Call {
     FreshStart,
     Direct(Command),
+    Unaligned(Unaligned),
     Run { trace: Vec<u8>, answer_bytes: usize },
     Look { address: u32 },
 }
@@ -1440,7 +1517,10 @@ pub fn call(rng: &mut Rng, hot: &Hot, mix: &Mix) -> Call {
             Call::Run { trace: made.bytes, answer_bytes }
         }
         25..=64 => Call::Look { address: look_address(rng, hot) },
-        _ => Call::Direct(command(rng, hot, mix)),
+        _ => match single(rng, hot, mix) {
+            Single::Command(command) => Call::Direct(command),
+            Single::Unaligned(access) => Call::Unaligned(access),
+        },
     }
 }
 

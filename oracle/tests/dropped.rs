@@ -4,7 +4,7 @@
 
 use oracle::calls::direct_with_events;
 use oracle::dropped::{History, Read};
-use oracle::gen::{command, hot, Mix, Rng, Setup, LEGAL_L};
+use oracle::gen::{hot, single, Mix, Rng, Setup, Single, LEGAL_L};
 use oracle::machine::Events;
 use oracle::Command;
 
@@ -177,7 +177,7 @@ fn an_older_value_comes_back() {
 #[test]
 fn lists_with_drops_keep_to_the_sentences() {
     let mix = Mix { l2_block_invalidate: 40, l1d_block_invalidate: 40, mode: 5, ..Mix::ALL };
-    let mut met = Read::default();
+    let (mut met, mut unaligned) = (Read::default(), Read::default());
     for (number, l) in LEGAL_L.into_iter().enumerate() {
         let mut rng = Rng::new(4_000 + number as u64);
         let e = [8_192, 65_536, 6 * 65_536][number % 3];
@@ -187,16 +187,25 @@ fn lists_with_drops_keep_to_the_sentences() {
         let mut history = History::fresh(&setup);
         let lines = hot(&mut rng, l, e);
         for turn in 0..6_000 {
-            let command = command(&mut rng, &lines, &mix);
-            let answer = setup.call(&command);
-            match history.call(&command, &answer) {
+            let call = single(&mut rng, &lines, &mix);
+            let answer = setup.single(&call).answer;
+            let seen = match &call {
+                Single::Command(command) => history.call(command, &answer),
+                Single::Unaligned(access) => history.unaligned(access, &answer),
+            };
+            match seen {
                 Ok(read) => {
                     met.bytes += read.bytes;
                     met.older += read.older;
+                    if let Single::Unaligned(_) = call {
+                        unaligned.bytes += read.bytes;
+                        unaligned.older += read.older;
+                    }
                 }
-                Err(broken) => panic!("{l} {turn} {command:?}: {broken:?}"),
+                Err(broken) => panic!("{l} {turn} {call:?}: {broken:?}"),
             }
         }
     }
     assert!(met.bytes > 50_000 && met.older > 500, "{met:?}");
+    assert!(unaligned.bytes > 5_000 && unaligned.older > 50, "{unaligned:?}");
 }

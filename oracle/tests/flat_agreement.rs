@@ -2,7 +2,7 @@
 //! every accepted call keeps the record well formed.
 
 use oracle::flat::Flat;
-use oracle::gen::{command, hot, Mix, Rng, Setup, E_BOTH_RANGES, LEGAL_L};
+use oracle::gen::{hot, single, Mix, Rng, Setup, Single, E_BOTH_RANGES, LEGAL_L};
 use oracle::wellformed::broken_clauses;
 use oracle::{Command, Line};
 
@@ -17,6 +17,9 @@ struct Met {
     /// Global writebacks, by the mode.
     settled: [u32; 8],
     bypassed_in: [u32; 2],
+    /// Non-aligned accesses by the number, and accepted ones of a frozen L1D.
+    unaligned: [u32; 7],
+    unaligned_frozen: u32,
 }
 
 /// "After a global writeback, external memory and SRAM are now flat memory's in
@@ -44,7 +47,21 @@ fn run_list(seed: u64, l: u32, e: u32, calls: u32, mix: &Mix, met: &mut Met) {
         if rng.chance(1, 1_000) {
             lines = hot(&mut rng, l, e);
         }
-        let command = command(&mut rng, &lines, mix);
+        let command = match single(&mut rng, &lines, mix) {
+            Single::Command(command) => command,
+            // "Lists with these accesses keep agreeing with flat memory." (02, U6)
+            Single::Unaligned(access) => {
+                let answer = setup.unaligned(&access).answer;
+                let (number, value) = flat.apply_unaligned(&access);
+                assert_eq!(answer.number, number, "{seed} {turn} {access:x?}");
+                if !drops {
+                    assert_eq!(answer.value, value, "{seed} {turn} {access:x?}");
+                }
+                met.unaligned[number as usize] += 1;
+                met.unaligned_frozen += u32::from(number == 0) * setup.record.frozen;
+                continue;
+            }
+        };
         let answer = setup.call(&command);
         met.numbers[answer.number as usize] += 1;
         met.servers[answer.server as usize] += 1;
@@ -142,6 +159,8 @@ fn check_met(met: &Met) {
     for number in [0, 3, 4, 5, 6, 7, 8, 9, 10, 17] {
         assert!(met.numbers[number] > 20, "{met:?}");
     }
+    assert!([0, 3, 5, 6].iter().all(|&number| met.unaligned[number] > 20), "{met:?}");
+    assert!(met.unaligned[4] == 0 && met.unaligned_frozen > 500, "{met:?}");
     for mode in [0, 1, 2, 3, 7] {
         assert!(met.modes[mode] > 500, "{met:?}");
         assert!(met.settled[mode] > 2, "{met:?}");

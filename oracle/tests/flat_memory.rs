@@ -1,7 +1,7 @@
 //! Flat memory by itself: each sentence of the paper's section on it.
 
 use oracle::flat::Flat;
-use oracle::Command;
+use oracle::{Command, Unaligned};
 
 const EXT: u32 = 0x8000_0000;
 
@@ -103,11 +103,37 @@ fn nothing_else() {
     assert_eq!(flat, before);
 }
 
-/// The module names nothing of the machine but the commands.
+/// A non-aligned access, at once: the bytes at its address, and no others (02, U6).
+#[test]
+fn unaligned_accesses() {
+    let mut flat = Flat::fresh(32_768, &[9; 256]);
+    let write = Unaligned::Write { size: 8, address: EXT + 61, value: 0x0807_0605_0403_0201 };
+    assert_eq!(flat.apply_unaligned(&write), (0, 0));
+    assert_eq!(flat.ext[60..70], [9, 1, 2, 3, 4, 5, 6, 7, 8, 9]);
+    let read = |size, address| Unaligned::Read { size, address };
+    assert_eq!(flat.apply_unaligned(&read(4, EXT + 63)), (0, 0x0605_0403));
+    assert_eq!(flat.apply_unaligned(&read(8, EXT + 248)), (0, 0x0909_0909_0909_0909));
+    assert_eq!(flat.apply_unaligned(&read(8, EXT + 249)), (5, 0));
+    assert_eq!(flat.apply_unaligned(&read(4, EXT - 1)), (5, 0));
+    assert_eq!(flat.apply_unaligned(&read(4, 32_764)), (0, 0));
+    assert_eq!(flat.apply_unaligned(&read(4, 32_765)), (5, 0));
+    assert_eq!(flat.apply_unaligned(&read(4, u32::MAX)), (5, 0));
+    assert_eq!(flat.apply_unaligned(&read(2, EXT)), (3, 0));
+    let wide = |address| Unaligned::Write { size: 4, address, value: 1 << 32 };
+    assert_eq!(flat.apply_unaligned(&wide(1)), (6, 0));
+    assert_eq!(flat.apply_unaligned(&wide(32_765)), (5, 0));
+    // What its S leaves of SRAM counts.
+    flat.change_mode(1);
+    assert_eq!(flat.apply_unaligned(&read(4, 0)), (5, 0));
+}
+
+/// The module names nothing of the machine but the commands and accesses.
 #[test]
 fn shares_no_function_with_the_machine() {
     let text = include_str!("../src/flat.rs");
     let uses: Vec<&str> = text.lines().filter(|line| line.contains("crate::")).collect();
-    assert_eq!(uses, ["use crate::trace::Command;"]);
-    assert!(!text.contains("super::"));
+    assert_eq!(uses, ["use crate::trace::Command;", "use crate::unaligned::Unaligned;"]);
+    assert!(!["super::", ".size()", ".address()", ".value()"]
+        .iter()
+        .any(|word| text.contains(word)));
 }

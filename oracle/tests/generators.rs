@@ -5,8 +5,8 @@ use std::collections::BTreeSet;
 use oracle::calls::fresh_start;
 use oracle::gen::{
     any_ill_formed_record, call, command, encode, hot, hot_for, ill_formed_record, l_for,
-    look_address, make_length_wrong, senseless_record, sizes, trace, Call, Fault, Mix, Rng, Setup,
-    TraceKind, E_BOTH_RANGES, FAULTS, LEGAL_MODES, TRACE_KINDS, WRONG_LENGTHS,
+    look_address, make_length_wrong, senseless_record, single, sizes, trace, Call, Fault, Mix, Rng,
+    Setup, TraceKind, E_BOTH_RANGES, FAULTS, LEGAL_MODES, TRACE_KINDS, WRONG_LENGTHS,
 };
 use oracle::trace::decode;
 use oracle::wellformed::{broken_clauses, is_well_formed};
@@ -43,9 +43,9 @@ fn random_records_are_well_formed_and_calls_keep_them_so() {
                     as u64;
             let lines = hot_for(&mut rng, &setup.record);
             for _ in 0..40 {
-                let command = command(&mut rng, &lines, &Mix::ALL);
-                setup.call(&command);
-                assert_eq!(broken_clauses(&setup.record), [], "{command:?}");
+                let call = single(&mut rng, &lines, &Mix::ALL);
+                setup.single(&call);
+                assert_eq!(broken_clauses(&setup.record), [], "{call:?}");
             }
         }
     }
@@ -95,8 +95,8 @@ fn refuses_everything(rng: &mut Rng, mut setup: Setup, number: u8) {
     let before = setup.clone();
     let lines = hot(rng, 65_536, 65_536);
     for _ in 0..10 {
-        let command = command(rng, &lines, &Mix::ALL);
-        assert_eq!(setup.call(&command), Answer::refused(number));
+        let call = single(rng, &lines, &Mix::ALL);
+        assert_eq!(setup.single(&call).answer, Answer::refused(number));
     }
     let kind = rng.pick(&TRACE_KINDS);
     let made = trace(rng, &lines, &Mix::ALL, 5, kind);
@@ -150,6 +150,10 @@ fn nothing_panics_whatever_the_content() {
                 Call::FreshStart => {}
                 Call::Direct(command) => {
                     let answer = setup.call(&command);
+                    assert!(well_formed || answer.number == 1 || answer.number == 2);
+                }
+                Call::Unaligned(access) => {
+                    let answer = setup.unaligned(&access).answer;
                     assert!(well_formed || answer.number == 1 || answer.number == 2);
                 }
                 Call::Run { trace, answer_bytes } => {

@@ -4,9 +4,9 @@
 //! afterwards in no byte of any answer, of external memory, of SRAM or of a valid
 //! line that doesn't stand for that address."
 
-use oracle::gen::{command, hot_for, l_for, look_address, Mix, Rng, Setup, LEGAL_MODES};
+use oracle::gen::{hot_for, l_for, look_address, single, Mix, Rng, Setup, Single, LEGAL_MODES};
 use oracle::geometry::{L1d, EXTERNAL_BASE, L2};
-use oracle::{Command, Line, Reply};
+use oracle::{Command, Line, Reply, Unaligned};
 
 /// Random memories under a record of this mode.
 fn setup(rng: &mut Rng, mode: u32) -> Setup {
@@ -37,14 +37,19 @@ fn data_steers_nothing() {
         rng.fill(&mut other.ext);
         let lines = hot_for(&mut rng, &one.record);
         for _ in 0..200 {
-            let first = command(&mut rng, &lines, &Mix::ALL);
+            let first = single(&mut rng, &lines, &Mix::ALL);
             let second = match first {
-                Command::Write { size, address, value } => {
-                    Command::Write { size, address, value: other_value(&mut rng, size, value) }
+                Single::Command(Command::Write { size, address, value }) => {
+                    let value = other_value(&mut rng, size, value);
+                    Single::Command(Command::Write { size, address, value })
+                }
+                Single::Unaligned(Unaligned::Write { size, address, value }) => {
+                    let value = other_value(&mut rng, size, value);
+                    Single::Unaligned(Unaligned::Write { size, address, value })
                 }
                 same => same,
             };
-            let (ours, theirs) = (one.reply(&first), other.reply(&second));
+            let (ours, theirs) = (one.single(&first), other.single(&second));
             let shared = |reply: Reply| (reply.answer.number, reply.answer.server, reply.report);
             assert_eq!(shared(ours), shared(theirs), "{first:?}");
             assert!(one.record == other.record, "{first:?}");
@@ -100,11 +105,14 @@ fn one_byte_stays_at_its_address() {
         let mut other = one.clone();
         other.ext[offset] ^= 1 + rng.below(255) as u8;
         for _ in 0..200 {
-            let call = command(&mut rng, &lines, &mix);
-            let (ours, theirs) = (one.call(&call), other.call(&call));
+            let call = single(&mut rng, &lines, &mix);
+            let (ours, theirs) = (one.single(&call).answer, other.single(&call).answer);
             parted += u32::from(ours.value != theirs.value);
             let (at, size) = match call {
-                Command::Read { size, address } => (address, size.min(8) as usize),
+                Single::Command(Command::Read { size, address })
+                | Single::Unaligned(Unaligned::Read { size, address }) => {
+                    (address, size.min(8) as usize)
+                }
                 _ => (0, 0),
             };
             let (ours, theirs) = (ours.value.to_le_bytes(), theirs.value.to_le_bytes());
