@@ -35,8 +35,9 @@
  *    2  the record is not well formed: a mark other than 0 or 1, a line in a set that is not its own or held twice, a
  *       line of memory that may not be cached, an order that names a line twice, a wrong count of dirty lines, and the
  *       like
- *    3  the size is not 1, 2, 4 or 8
- *    4  the address is not a multiple of the size; a block's base is not one of 4; a viewed address is not one of 64
+ *    3  the size is not 1, 2, 4 or 8; of a non-aligned access: it is not 4 or 8
+ *    4  the address is not a multiple of the size, but a non-aligned access may have any; a block's base is not one of
+ *       4; a viewed address is not one of 64
  *    5  not all of the access, or of the viewed line, lies in SRAM or in external memory
  *    6  the value needs more bytes than the size
  *    7  a block's count is above 65,535
@@ -84,10 +85,11 @@ extern "C" {
  * up when calls are added, or when one does more than it did, and programs stay as they are. Version 1 passed the
  * record by value; since 2.4 the L2 commands reach all of L1D; since 2.5 L1D can be frozen, and a byte of the record
  * that was padding says whether it is; since 3.0 two counts of dirty lines stand in front of the record's sets; since
- * 4.0 an answer also tells which lines an access put out and how many bytes of external memory it moved.
+ * 4.0 an answer also tells which lines an access put out and how many bytes of external memory it moved; since 4.1
+ * there are non-aligned accesses.
  */
 #define C64X_VERSION_MAJOR 4
-#define C64X_VERSION_MINOR 0
+#define C64X_VERSION_MINOR 1
 
 /* The stack that a call needs at most, in bytes. */
 #define C64X_STACK_BYTES 4096
@@ -198,15 +200,16 @@ typedef struct {
  *   external_read     how many bytes the access took out of external memory
  *   external_written  how many bytes it put there
  *
- * Neither count is ever above 128. A line that L2 fetches is 128 bytes read, a dirty one that leaves it 128 written. In
- * mode 0 nothing stands between L1D and external memory: a line that comes from there into L1D is 64 read, a dirty one
- * that goes back 64 written. An access to external memory itself counts its own 1, 2, 4 or 8 bytes: with MAR bit 0, and
- * in mode 0 a write of what L1D does not hold, or a read of it while L1D is frozen. What moves between L1D, SRAM and
- * the L2 cache does not count.
+ * Neither count is ever above 128 (256 for a non-aligned access). A line that L2 fetches is 128 bytes read, a dirty one
+ * that leaves it 128 written. In mode 0 nothing stands between L1D and external memory: a line that comes from there
+ * into L1D is 64 read, a dirty one that goes back 64 written. An access to external memory itself counts its own 1, 2,
+ * 4 or 8 bytes: with MAR bit 0, and in mode 0 a write of what L1D does not hold, or a read of it while L1D is frozen.
+ * What moves between L1D, SRAM and the L2 cache does not count.
  *
  * L1D lines that go because their L2 line is put out are told by neither `left`: no way was chosen for them. A refused
- * call, and every call that is no read or write, has kind 0 in both and counts of 0, whatever it wrote back. The
- * answers of a run carry none of this: to see what an access puts out, make it as a call of its own.
+ * call, and every call that is no read or write, has kind 0 in both and counts of 0, whatever it wrote back. A
+ * non-aligned access has its counts, and kind 0 in both `left`. The answers of a run carry none of this: to see what an
+ * access puts out, make it as a call of its own.
  */
 typedef struct {
     uint64_t value;
@@ -332,6 +335,22 @@ c64x_answer c64x_fresh(c64x_record *record, C64X_LENT);
  */
 c64x_answer c64x_read(c64x_record *record, uint32_t size, uint32_t address, C64X_LENT);
 c64x_answer c64x_write(c64x_record *record, uint32_t size, uint32_t address, uint64_t value, C64X_LENT);
+
+/*
+ * The processor's non-aligned accesses (LDNW, LDNDW, STNW, STNDW): a load or a store of 4 or 8 bytes at any address,
+ * one that is a multiple of the size too, the lowest byte first in memory. It is done as 4 or 8 accesses of one byte
+ * each, from the lowest address up, and does to the caches what these would do: across the end of a line it uses two
+ * lines of L1D, and with them may fetch two of L2. All its bytes are checked before the first is touched: one that lies
+ * outside is enough for 5, also one above FFFFFFFFh, and nothing has moved then.
+ *
+ * The answer is one for all bytes. `server` is the highest of theirs: 4 where any of them came from external memory,
+ * though the others were in L1D. `external_read` and `external_written` are the sums over the bytes, at most 256 each:
+ * two lines of L2 fetched, and two dirty ones that left for them. `l1d_left` and `l2_left` tell nothing, with kind 0
+ * and address 0, since up to two lines leave each cache: to see which, make the accesses of one byte by c64x_read and
+ * c64x_write. A trace has no such access. Refused: 1, 2, 3 (also sizes 1 and 2), 5, a write also 6.
+ */
+c64x_answer c64x_read_unaligned(c64x_record *record, uint32_t size, uint32_t address, C64X_LENT);
+c64x_answer c64x_write_unaligned(c64x_record *record, uint32_t size, uint32_t address, uint64_t value, C64X_LENT);
 
 /*
  * The cache commands, on all lines or on those of a block. A block is the address of its first byte (`base`) and a

@@ -62,7 +62,7 @@ static inline const char *c64x_number_text(unsigned number)
     case C64X_ACCEPTED: return "done";
     case C64X_REFUSED_LENGTH: return "refused: a lent length is illegal or unlike the record's";
     case C64X_REFUSED_RECORD: return "refused: the record is not well formed";
-    case C64X_REFUSED_SIZE: return "refused: the size is not 1, 2, 4 or 8";
+    case C64X_REFUSED_SIZE: return "refused: the size is not 1, 2, 4 or 8 (non-aligned: 4 or 8)";
     case C64X_REFUSED_ALIGNMENT: return "refused: the address is not aligned";
     case C64X_REFUSED_PLACE: return "refused: neither SRAM nor external memory";
     case C64X_REFUSED_VALUE: return "refused: the value needs more bytes than the size";
@@ -145,6 +145,16 @@ static inline c64x_answer c64x_chip_read(c64x_chip *chip, uint32_t size, uint32_
 static inline c64x_answer c64x_chip_write(c64x_chip *chip, uint32_t size, uint32_t address, uint64_t value)
 {
     return c64x_write(&chip->record, size, address, value, C64X_CHIP_LENT(chip));
+}
+
+static inline c64x_answer c64x_chip_read_unaligned(c64x_chip *chip, uint32_t size, uint32_t address)
+{
+    return c64x_read_unaligned(&chip->record, size, address, C64X_CHIP_LENT(chip));
+}
+
+static inline c64x_answer c64x_chip_write_unaligned(c64x_chip *chip, uint32_t size, uint32_t address, uint64_t value)
+{
+    return c64x_write_unaligned(&chip->record, size, address, value, C64X_CHIP_LENT(chip));
 }
 
 static inline c64x_answer c64x_chip_l2_writeback_all(c64x_chip *chip)

@@ -2,9 +2,9 @@
  * Every call of include/c64x_chip.h, on cases whose outcome the papers give: the worked example, C5, C6, C8, C9 and
  * C10, what each cache command does to a dirty line and L2's to lines that L1D alone holds, each number of the refusal
  * table with nothing changed, and short runs at the ends of each length; a frozen L1D; which lines accesses put out,
- * and the bytes of external memory that they move; the trace of the worked example, C3 and C4 are written through
- * c64x_put_command; a load by hand; after these the counts of dirty lines. It is compiled as C and as C++. Prints how
- * many checks passed; exit status 1 where one failed.
+ * and the bytes of external memory that they move; non-aligned accesses; the trace of the worked example, C3 and C4
+ * are written through c64x_put_command; a load by hand; after these the counts of dirty lines. It is compiled as C and
+ * as C++. Prints how many checks passed; exit status 1 where one failed.
  */
 #include <stdio.h>
 #include <string.h>
@@ -480,6 +480,154 @@ static void put_out_of_neither(void)
     CHECK(is(c64x_answer_at(answers, 1), 0, C64X_SERVER_EXTERNAL, 0) && moved(c64x_answer_at(answers, 1), 0, 0));
 }
 
+/* A non-aligned access was accepted: the server, the value, and the bytes of external memory; no line is told. */
+static int unaligned(c64x_answer answer, unsigned server, uint64_t value, unsigned read, unsigned written)
+{
+    return is(answer, C64X_ACCEPTED, server, value) && moved(answer, read, written);
+}
+
+static c64x_answer read8(uint32_t address)
+{
+    return c64x_chip_read_unaligned(&chip, 8, address);
+}
+
+static c64x_answer write8(uint32_t address, uint64_t value)
+{
+    return c64x_chip_write_unaligned(&chip, 8, address, value);
+}
+
+/* Where 8 bytes from 61 on lie: three in a line and five in the next. */
+static int eight_from_61(const uint8_t *memory)
+{
+    static const uint8_t eight[] = {0x11, 0x22, 0x33, 0x44, 0x55, 0x66, 0x77, 0x88};
+    return memory[60] == 0 && memcmp(memory + 61, eight, sizeof eight) == 0 && memory[69] == 0;
+}
+
+/* Any address, the lowest byte first; SRAM, external memory past the caches, and across two lines of L1D. */
+static void unaligned_anywhere(void)
+{
+    const uint64_t value = UINT64_C(0x8877665544332211);
+    CHECK(C64X_VERSION_MAJOR == 4 && C64X_VERSION_MINOR >= 1);
+    start(sizeof l2);
+    CHECK(unaligned(write8(61, value), C64X_SERVER_SRAM, 0, 0, 0) && eight_from_61(l2));
+    CHECK(unaligned(c64x_chip_read_unaligned(&chip, 4, 62), C64X_SERVER_SRAM, 0x55443322, 0, 0));
+    CHECK(clean(l1d_line(0)) && clean(l1d_line(64)));
+    CHECK(unaligned(read8(61), C64X_SERVER_L1D, value, 0, 0));
+    CHECK(unaligned(c64x_chip_write_unaligned(&chip, 4, 62, UINT32_MAX), C64X_SERVER_L1D, 0, 0, 0));
+    CHECK(dirty(l1d_line(0)) && dirty(l1d_line(64)) && dirty_are(2, 0) && eight_from_61(l2));
+    CHECK(c64x_chip_read(&chip, 8, 56).value == UINT64_C(0xFFFF110000000000));
+    CHECK(c64x_chip_read(&chip, 8, 64).value == UINT64_C(0x000000887766FFFF));
+    /* past the caches just the bytes are moved */
+    CHECK(unaligned(write8(EXT + 61, value), C64X_SERVER_EXTERNAL, 0, 0, 8) && eight_from_61(ext));
+    CHECK(unaligned(read8(EXT + 61), C64X_SERVER_EXTERNAL, value, 8, 0));
+    CHECK(unaligned(c64x_chip_read_unaligned(&chip, 4, EXT + 65), C64X_SERVER_EXTERNAL, 0x88776655, 4, 0));
+    /* a multiple of the size is an address like any other */
+    CHECK(unaligned(read8(EXT + 64), C64X_SERVER_EXTERNAL, UINT64_C(0x8877665544), 8, 0));
+    for (unsigned mode = 0; mode < 2; mode++) {
+        cached(mode);
+        for (size_t i = 0; i < sizeof ext; i++)
+            ext[i] = (uint8_t)(i * 7);
+        for (uint32_t i = 0; i < 140; i++) {
+            uint64_t expected = 0;
+            for (uint32_t byte = 8; byte-- > 0;)
+                expected = expected << 8 | ext[i + byte];
+            CHECK(read8(EXT + i).value == expected);
+            CHECK(c64x_chip_read_unaligned(&chip, 4, EXT + i).value == (expected & UINT32_MAX));
+        }
+        CHECK(dirty_are(0, 0));
+    }
+}
+
+/* The server is the highest of the bytes', and their counts are added up: in mode 1 two lines of L2, 256 bytes each way
+   where two dirty ones leave; in mode 0 two of L1D. */
+static void unaligned_across(void)
+{
+    cached(1);
+    CHECK(unaligned(read8(EXT + 60), C64X_SERVER_EXTERNAL, 0, 128, 0));                  /* two halves of one line */
+    CHECK(clean(l1d_line(EXT)) && clean(l1d_line(EXT + 64)) && clean(l2_line(EXT)));
+    CHECK(unaligned(read8(EXT + 124), C64X_SERVER_EXTERNAL, 0, 128, 0));                 /* L1D, then fetched */
+    CHECK(unaligned(read8(EXT + 124), C64X_SERVER_L1D, 0, 0, 0));
+    CHECK(done(c64x_chip_l1d_invalidate_block(&chip, EXT + 64, 1)));
+    CHECK(unaligned(write8(EXT + 125, 7), C64X_SERVER_L2_CACHE, 0, 0, 0));               /* L2, then L1D */
+    CHECK(!l1d_line(EXT + 64) && dirty(l2_line(EXT)) && dirty(l1d_line(EXT + 128)) && dirty_are(1, 1));
+    CHECK(unaligned(read8(EXT + 125), C64X_SERVER_L2_CACHE, 7, 0, 0));
+    cached(1);
+    for (uint32_t i = 0; i < 4; i++)
+        CHECK(unaligned(write8(EXT + i * APART + 124, 7), C64X_SERVER_EXTERNAL, 0, 256, 0));
+    CHECK(dirty_are(0, 8) && ext[124] == 0);
+    CHECK(unaligned(read8(EXT + 4 * APART + 124), C64X_SERVER_EXTERNAL, 0, 256, 256));
+    CHECK(!l2_line(EXT) && !l2_line(EXT + 128) && ext[124] == 7 && dirty_are(0, 6));
+    CHECK(unaligned(write8(EXT + 5 * APART + 124, 7), C64X_SERVER_EXTERNAL, 0, 256, 256));
+    CHECK(unaligned(read8(EXT + 4 * APART + 124), C64X_SERVER_L1D, 0, 0, 0));
+    cached(0);
+    for (uint32_t i = 0; i < 2; i++) {
+        CHECK(unaligned(read8(EXT + i * APART + 60), C64X_SERVER_EXTERNAL, 0, 128, 0));
+        CHECK(unaligned(write8(EXT + i * APART + 60, 7), C64X_SERVER_L1D, 0, 0, 0));
+    }
+    CHECK(unaligned(read8(EXT + 2 * APART + 60), C64X_SERVER_EXTERNAL, 0, 128, 128) && ext[60] == 7);
+    CHECK(!l1d_line(EXT) && !l1d_line(EXT + 64) && dirty(l1d_line(EXT + APART)));
+    CHECK(order_is(0, 0, 1) && order_is(1, 0, 1));
+    CHECK(unaligned(write8(EXT + 3 * APART + 60, 7), C64X_SERVER_EXTERNAL, 0, 0, 8));
+    /* frozen: no order changes, and of what L1D does not hold just the bytes come */
+    CHECK(done(c64x_chip_freeze(&chip, 1)));
+    CHECK(unaligned(read8(EXT + APART + 60), C64X_SERVER_L1D, 7, 0, 0) && order_is(0, 0, 1) && order_is(1, 0, 1));
+    CHECK(unaligned(read8(EXT + 3 * APART + 60), C64X_SERVER_EXTERNAL, 7, 8, 0) && !l1d_line(EXT + 3 * APART));
+}
+
+/* From the lowest address up: the way of the lower half is chosen before the line that leaves L2 has freed those of its
+   own halves, the way of the upper one after it. */
+static void unaligned_upwards(void)
+{
+    cached(1);
+    for (uint32_t i = 0; i < 2; i++)
+        CHECK(unaligned(read8(EXT + i * APART + 60), C64X_SERVER_EXTERNAL, 0, 128, 0));
+    for (uint32_t i = 2; i < 4; i++)
+        CHECK(c64x_chip_write(&chip, 1, EXT + i * APART, 7).server == C64X_SERVER_EXTERNAL);
+    CHECK(unaligned(read8(EXT + 60), C64X_SERVER_L1D, 0, 0, 0));
+    CHECK(unaligned(read8(EXT + 4 * APART + 60), C64X_SERVER_EXTERNAL, 0, 128, 0));
+    CHECK(!l2_line(EXT) && !l1d_line(EXT) && !l1d_line(EXT + 64));
+    CHECK(chip.record.l1d[0].lines[1].address == EXT + 4 * APART && !chip.record.l1d[0].lines[0].valid);
+    CHECK(chip.record.l1d[1].lines[0].address == EXT + 4 * APART + 64 && l1d_line(EXT + APART + 64));
+    CHECK(order_is(0, 1, 0) && order_is(1, 0, 1));
+}
+
+/* 1, 2, then 3, 5 and 6, never 4: all bytes are checked before one is moved. */
+static void unaligned_refusals(void)
+{
+    static const uint32_t sizes[] = {0, 1, 2, 3, 5, 7, 9, 16, 260, 264, UINT32_MAX};
+    static const uint32_t ends[] = {32768, EXT, EXT + 65536};
+    three_levels();
+    CHECK(unaligned(read8(32760), C64X_SERVER_SRAM, 0, 0, 0));
+    CHECK(unaligned(write8(EXT + 65528, UINT64_MAX), C64X_SERVER_EXTERNAL, 0, 128, 0));
+    keep();
+    for (size_t i = 0; i < sizeof sizes / sizeof sizes[0]; i++) {
+        CHECK(refused(c64x_chip_read_unaligned(&chip, sizes[i], EXT), C64X_REFUSED_SIZE));
+        CHECK(refused(c64x_chip_write_unaligned(&chip, sizes[i], EXT + 65535, UINT64_MAX), C64X_REFUSED_SIZE));
+    }
+    for (uint32_t size = 4; size <= 8; size += 4) {
+        for (size_t i = 0; i < sizeof ends / sizeof ends[0]; i++)
+            for (uint32_t back = 1; back < size; back++) {
+                CHECK(refused(c64x_chip_read_unaligned(&chip, size, ends[i] - back), C64X_REFUSED_PLACE));
+                CHECK(refused(c64x_chip_write_unaligned(&chip, size, ends[i] - back, 1), C64X_REFUSED_PLACE));
+            }
+        for (uint32_t back = 1; back <= size; back++) {
+            CHECK(refused(c64x_chip_read_unaligned(&chip, size, 0 - back), C64X_REFUSED_PLACE));
+            CHECK(refused(c64x_chip_write_unaligned(&chip, size, 0 - back, 1), C64X_REFUSED_PLACE));
+        }
+    }
+    CHECK(refused(c64x_chip_write_unaligned(&chip, 4, EXT + 65533, UINT64_MAX), C64X_REFUSED_PLACE));
+    CHECK(refused(c64x_chip_write_unaligned(&chip, 4, EXT + 1, UINT64_C(0x100000000)), C64X_REFUSED_VALUE));
+    chip.record.l1d[5].order.first = 1;
+    chip.record.l1d[5].order.second = 1;
+    keep();
+    CHECK(refused(c64x_chip_read_unaligned(&chip, 1, EXT), C64X_REFUSED_RECORD));
+    CHECK(refused(c64x_chip_write_unaligned(&chip, 4, UINT32_MAX, UINT64_MAX), C64X_REFUSED_RECORD));
+    chip.ext_len = 128;
+    keep();
+    CHECK(refused(c64x_chip_read_unaligned(&chip, 4, EXT), C64X_REFUSED_LENGTH));
+    CHECK(refused(c64x_chip_write_unaligned(&chip, 1, EXT, 0), C64X_REFUSED_LENGTH));
+}
+
 /* Runs, views and calls of each number from 1 on: nothing changes. */
 static void refusals(void)
 {
@@ -727,6 +875,10 @@ int main(void)
     put_out_of_l1d();
     put_out_of_l2();
     put_out_of_neither();
+    unaligned_anywhere();
+    unaligned_across();
+    unaligned_upwards();
+    unaligned_refusals();
     refusals();
     short_runs();
     writing();
