@@ -142,6 +142,13 @@ static c64x_answer library_call(union both *both, const struct lent *m, const st
     }
 }
 
+static c64x_answer library_unaligned(union both *both, const struct lent *m, const struct unaligned *u)
+{
+    c64x_record *r = &both->library;
+    return u->write ? c64x_write_unaligned(r, u->size, u->address, u->value, LENT(*m))
+                    : c64x_read_unaligned(r, u->size, u->address, LENT(*m));
+}
+
 static uint8_t library_view(uint32_t address, uint8_t *seen, size_t seen_len)
 {
     return c64x_view(&lib.r.library, address, lib.m.l2, lib.m.l2_len, lib.m.ext, lib.m.ext_len, seen, seen_len);
@@ -309,6 +316,14 @@ static void some_command(struct trace *t)
     else put(t, 11, 128 + below(2), 1, 0);
 }
 
+/* A non-aligned access at any address: most of them pass the checks, half of these across two lines. */
+static struct unaligned some_unaligned(void)
+{
+    uint32_t size = below(30) ? 4u << below(2) : below(17), a = some_address();
+    if (below(2)) a = (a | 63) - below(8);
+    return (struct unaligned){ (int)below(2), size, a, below(30) ? some_value(size == 8 ? 8 : 4) : UINT64_MAX };
+}
+
 /* Writes the counts of dirty lines into a record. */
 static void count_dirty(struct record *r)
 {
@@ -364,7 +379,7 @@ static void same_checks(size_t *refused, size_t *passed)
 
 static void same_calls(struct trace *t)
 {
-    size_t refused = 0, passed = 0, put_out[2][4] = { { 0 } };
+    size_t refused = 0, passed = 0, put_out[2][4] = { { 0 } }, unaligned = 0, two = 0;
     static const size_t ext[6] = { 128, 4096, 65536, 262144, 16777216 + 65536, 131072 };
     for (int round = 0; round < 160; round++) {
         fresh("random", 32768 * (1 + below(8)), ext[below(round % 16 ? 4 : 6)]);
@@ -402,6 +417,12 @@ static void same_calls(struct trace *t)
             compare_call("direct call", x, y, &t);
             put_out[0][t.l1d_left.kind]++;
             put_out[1][t.l2_left.kind]++;
+            struct unaligned u = some_unaligned();
+            x = library_unaligned(&lib.r, &lib.m, &u);
+            y = model_unaligned(&c.r.model, &c.m, &u, &t);
+            compare_call("non-aligned access", x, y, &t);
+            unaligned += y.number == 0;
+            two += t.external_read > 128;
             uint32_t seen_at = some_address() & ~(below(8) ? 63u : 0);
             size_t length = 63 + below(3);
             uint8_t seen[65] = { 0 }, seen_by_c[65] = { 0 };
@@ -420,6 +441,7 @@ static void same_calls(struct trace *t)
            refused + passed, passed);
     printf("of the calls L1D put a clean line out in %zu, a dirty one in %zu, L2 in %zu and %zu: also the same\n",
            put_out[0][2], put_out[0][3], put_out[1][2], put_out[1][3]);
+    printf("%zu non-aligned accesses, %zu of which had L2 fetch two lines: also the same\n", unaligned, two);
 }
 
 /* ---- the classes of a trace run */
@@ -754,6 +776,32 @@ static void direct(const char *name, uint8_t code, uint32_t first, uint32_t seco
     row(name, &library_ns, &c_ns, 1);
 }
 
+/* A non-aligned access of 8 bytes, in the same way; so many bytes of external memory have to be read and written. */
+static void unaligned(const char *name, int write, uint32_t address, uint32_t read, uint32_t written)
+{
+    static union both kept;
+    struct times library_ns = NO_TIME, c_ns = NO_TIME;
+    struct unaligned u = { write, 8, address, 0x0807060504030201u };
+    kept = c.r;
+    for (int i = 0; i < CALLS; i++) {
+        lib.r = kept;
+        double at = now();
+        c64x_answer x = library_unaligned(&lib.r, &lib.m, &u);
+        took(&library_ns, at);
+        c.r = kept;
+        at = now();
+        struct report t;
+        struct answer y = model_unaligned(&c.r.model, &c.m, &u, &t);
+        took(&c_ns, at);
+        compare_call(name, x, y, &t);
+        if (t.external_read != read || t.external_written != written) differ(name, "not the bytes that it has to move");
+        if (i == 0 || i == CALLS - 1) compare(name);
+    }
+    lib.r = kept;
+    c.r = kept;
+    row(name, &library_ns, &c_ns, 1);
+}
+
 /* The technician's call. */
 static void view(const char *name, uint32_t address, uint8_t expected)
 {
@@ -773,6 +821,20 @@ static void view(const char *name, uint32_t address, uint8_t expected)
         if (x != expected || y != expected || memcmp(seen, seen_by_c, sizeof seen) != 0) differ(name, "view");
     }
     row(name, &library_ns, &c_ns, 1);
+}
+
+/* Non-aligned accesses to the first lines of external memory, which L1D holds, and to lines that no cache holds: for
+   each that comes into L2 so many bytes leave. */
+static void each_unaligned(uint32_t leaves)
+{
+    unaligned("non-aligned read, L1D hit", 0, EXTERNAL + 65, 0, 0);
+    unaligned("non-aligned read, L1D hits in two lines", 0, EXTERNAL + 123, 0, 0);
+    unaligned("non-aligned read, miss", 0, EXTERNAL + 0x50001, 128, leaves);
+    unaligned("non-aligned read, misses in two lines", 0, EXTERNAL + 0x5007B, 256, 2 * leaves);
+    unaligned("non-aligned write, L1D hit", 1, EXTERNAL + 65, 0, 0);
+    unaligned("non-aligned write, L1D hits in two lines", 1, EXTERNAL + 123, 0, 0);
+    unaligned("non-aligned write, miss", 1, EXTERNAL + 0x50001, 128, leaves);
+    unaligned("non-aligned write, misses in two lines", 1, EXTERNAL + 0x5007B, 256, 2 * leaves);
 }
 
 static void each_call(uint32_t count)
@@ -879,10 +941,12 @@ static void directs(struct trace *t)
     for (uint32_t i = 0; i < 4; i++) put(t, 0, 4, EXTERNAL + 64 * i, 0);
     play("few lines", t);
     each_call(16);
+    each_unaligned(0);
 
     head("direct call, all lines dirty (L = 262,144, mode 7)");
     fill(t, 262144, 1 << 20, 7);
     each_call(65535);
+    each_unaligned(128);
 
     head("direct call, all lines of L1D dirty (L = 65,536)");
     full_l1d(t);

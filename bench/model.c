@@ -488,6 +488,31 @@ PART void write(struct machine *k, uint32_t size, uint32_t a, uint64_t value, st
     if (!k->r->frozen) l1d_use(s, w);
 }
 
+/* A non-aligned access (02, U6): as many accesses of one byte, once all have passed the checks. The server is the
+   highest of theirs, the counts are added up, and no line that left is told. */
+static inline uint8_t unaligned_due(const struct machine *k, uint32_t size, uint32_t address, uint64_t value)
+{
+    if (size != 4 && size != 8) return 3;
+    if (!place_ok(k->sram, k->r->extlen, size, address)) return 5;
+    return size < 8 && value >> 32 ? 6 : 0;
+}
+
+static inline void unaligned(struct machine *k, const struct unaligned *u, struct answer *q, struct report *t)
+{
+    uint64_t value = 0;
+    uint8_t highest = 0;
+    for (uint32_t i = 0; i < u->size; i++) {
+        q->value = 0;
+        if (u->write) write(k, 1, u->address + i, u->value >> (8 * i) & 255, q, t);
+        else read(k, 1, u->address + i, q, t);
+        value |= q->value << (8 * i);
+        if (q->server > highest) highest = q->server;
+    }
+    q->value = value;
+    q->server = highest;
+    t->l1d_left = t->l2_left = (struct left){ 0, 0 };
+}
+
 /* ---- cache commands */
 
 static inline uint64_t block_end(uint32_t base, uint32_t count)
@@ -646,6 +671,17 @@ struct answer model_call(struct record *r, const struct lent *m, const struct co
     if (q.number) return q;
     struct machine k = machine_of(r, m);
     carry_out(&k, c, &q, t);
+    return q;
+}
+
+struct answer model_unaligned(struct record *r, const struct lent *m, const struct unaligned *u, struct report *t)
+{
+    struct answer q = { lent_due(r, m), 0, 0 };
+    *t = (struct report){ 0 };
+    if (q.number) return q;
+    struct machine k = machine_of(r, m);
+    q.number = unaligned_due(&k, u->size, u->address, u->write ? u->value : 0);
+    if (!q.number) unaligned(&k, u, &q, t);
     return q;
 }
 

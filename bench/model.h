@@ -90,6 +90,16 @@ uint8_t model_fresh(struct record *r, const struct lent *m);
 /* Any command as a direct call, with all its checks; what it reports goes to `t`. */
 struct answer model_call(struct record *r, const struct lent *m, const struct command *c, struct report *t);
 
+/* A non-aligned access (paper 02, U6), which no trace has; the value counts for a write alone. */
+struct unaligned {
+    int write;
+    uint32_t size;
+    uint32_t address;
+    uint64_t value;
+};
+
+struct answer model_unaligned(struct record *r, const struct lent *m, const struct unaligned *u, struct report *t);
+
 struct run_result model_run(struct record *r, const struct lent *m, const uint8_t *trace, size_t trace_len,
                             uint8_t *answers, size_t answers_len);
 

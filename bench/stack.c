@@ -15,7 +15,10 @@
 #define EXT_BYTES (1u << 20)
 
 /* The calls, in the order of the codes of a trace; then the others. */
-enum { FRESH = 13, RUN, VIEW, VIEW_NUMBER, SHORT_RUN_OF, SHORT_RUN_NUMBER, PUT, LOAD, KINDS };
+enum {
+    FRESH = 13, READ_UNALIGNED, WRITE_UNALIGNED, RUN, VIEW, VIEW_NUMBER, SHORT_RUN_OF, SHORT_RUN_NUMBER, PUT, LOAD,
+    KINDS
+};
 
 static const char *const names[KINDS] = {
     "c64x_read",
@@ -32,6 +35,8 @@ static const char *const names[KINDS] = {
     "c64x_change_mar",
     "c64x_freeze",
     "c64x_fresh",
+    "c64x_read_unaligned",
+    "c64x_write_unaligned",
     "c64x_run",
     "c64x_view",
     "c64x_view_number",
@@ -92,6 +97,8 @@ static void call(void)
     case 11: c64x_change_mar(r, first, second, LENT); break;
     case 12: c64x_freeze(r, first, LENT); break;
     case FRESH: c64x_fresh(r, LENT); break;
+    case READ_UNALIGNED: c64x_read_unaligned(r, first, second, LENT); break;
+    case WRITE_UNALIGNED: c64x_write_unaligned(r, first, second, now.value, LENT); break;
     case RUN: c64x_run(r, trace, trace_len, LENT, answers, sizeof answers); break;
     case VIEW: c64x_view(r, first, l2, l2_len, ext, sizeof ext, seen, sizeof seen); break;
     case VIEW_NUMBER: c64x_view_number(r, first, l2, l2_len, ext, sizeof ext); break;
@@ -193,6 +200,10 @@ static void every_call(void)
         { 10, 0, 0, 0 }, { 10, 1, 0, 0 }, { 10, 2, 0, 0 }, { 10, 3, 0, 0 }, { 10, 7, 0, 0 }, { 10, 4, 0, 0 },
         { 11, 128, 1, 0 }, { 11, 128, 0, 0 }, { 11, 129, 0, 0 }, { 11, 7, 0, 0 },
         { 12, 1, 0, 0 }, { 12, 0, 0, 0 }, { 12, 2, 0, 0 },
+        { READ_UNALIGNED, 8, EXTERNAL + 61, 0 }, { READ_UNALIGNED, 8, EXTERNAL + 0x5007B, 0 },
+        { READ_UNALIGNED, 8, 61, 0 }, { READ_UNALIGNED, 2, 0, 0 }, { READ_UNALIGNED, 4, UINT32_MAX, 0 },
+        { WRITE_UNALIGNED, 8, EXTERNAL + 61, 5 }, { WRITE_UNALIGNED, 8, EXTERNAL + 0x5007B, 5 },
+        { WRITE_UNALIGNED, 8, 61, 5 }, { WRITE_UNALIGNED, 4, EXTERNAL, UINT64_MAX },
         { FRESH, 0, 0, 0 }, { VIEW, EXTERNAL + 64, 0, 0 }, { VIEW, 64, 0, 0 }, { VIEW, 4, 0, 0 },
         { VIEW_NUMBER, EXTERNAL + 64, 0, 0 }, { VIEW_NUMBER, 4, 0, 0 },
         { PUT, 4, EXTERNAL, 5 }, { PUT, UINT32_MAX, UINT32_MAX, UINT64_MAX },
@@ -262,6 +273,9 @@ int main(void)
         for (int i = 0; i < 20; i++) {
             struct call q = some_command();
             measure(q.kind, q.first, q.second, q.value);
+            q = some_command();
+            measure(below(2) ? READ_UNALIGNED : WRITE_UNALIGNED, below(20) ? 4u << below(2) : below(10),
+                    q.kind < 2 ? q.second + below(64) : EXTERNAL + below(EXT_BYTES), below(256));
             measure(VIEW, q.second & ~63u, 0, 0);
         }
         trace_len = 0;
