@@ -3,11 +3,12 @@
 
 use oracle::gen::Setup;
 use oracle::trace::ANSWER_BYTES;
-use oracle::Command;
+use oracle::{Command, Unaligned};
 
-/// What comes next: a command, a view of an address, or a run over a trace.
+/// What comes next: a command, a non-aligned access, a view of an address, or a run over a trace.
 enum Next {
     Call(Command),
+    Access(Unaligned),
     View(u32),
     Run(&'static [u8]),
 }
@@ -73,6 +74,11 @@ const LIST: &[Next] = &[
     View(0x80010000),
     Call(Mode { mode: 2 }),
     Call(Mode { mode: 1 }),
+    Access(Unaligned::Write { size: 4, address: 0x8000007E, value: 0x01020304 }),
+    Access(Unaligned::Read { size: 4, address: 0x8000007E }),
+    Access(Unaligned::Read { size: 8, address: 0x8000007D }),
+    Access(Unaligned::Read { size: 2, address: 0x0 }),
+    Access(Unaligned::Write { size: 8, address: 0x8000FFFC, value: 1 }),
     Run(&[
         11, 129, 1, 1, 0, 1, 128, 129, 128, 128, 8, 1, 1, 128, 129, 128, 128, 8, 4, 10, 2, 0, 1,
         128, 129, 128, 128, 8, 12, 2,
@@ -86,6 +92,10 @@ fn main() {
         match next {
             Call(command) => {
                 let answer = setup.call(command);
+                println!("{} {} {}", answer.number, answer.server, answer.value);
+            }
+            Access(access) => {
+                let answer = setup.unaligned(access).answer;
                 println!("{} {} {}", answer.number, answer.server, answer.value);
             }
             View(address) => {

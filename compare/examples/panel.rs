@@ -37,7 +37,7 @@ const REFUSALS: [&str; 13] = [
     "done",
     "refused: a lent length is illegal or unlike the record's",
     "refused: the record is not well formed",
-    "refused: the size is not 1, 2, 4 or 8",
+    "refused: the size is not 1, 2, 4 or 8 (non-aligned: 4 or 8)",
     "refused: the address is not aligned",
     "refused: neither SRAM nor external memory",
     "refused: the value needs more bytes than the size",

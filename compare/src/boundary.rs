@@ -8,7 +8,7 @@ use std::ops::{Deref, DerefMut};
 use oracle::gen::Rng;
 use oracle::geometry::{L1d, L2};
 use oracle::record::{L1dSet, L2Set, Line, Record};
-use oracle::{Command, Left, Report};
+use oracle::{Command, Left, Report, Unaligned};
 
 /// The structs name their padding, so that it can be filled and compared.
 /// Equality is that of the fields: an accepted call may change padding.
@@ -330,6 +330,8 @@ calls! {
     c64x_fresh();
     c64x_read(size: u32, address: u32);
     c64x_write(size: u32, address: u32, value: u64);
+    c64x_read_unaligned(size: u32, address: u32);
+    c64x_write_unaligned(size: u32, address: u32, value: u64);
     c64x_l2_writeback_all();
     c64x_l2_writeback_invalidate_all();
     c64x_l2_writeback_block(base: u32, count: u32);
@@ -435,6 +437,45 @@ pub fn direct(record: &mut CRecord, command: &Command, lent: Lent) -> CAnswer {
         Command::Mar { number, bit } => call!(c64x_change_mar(number, bit)),
         Command::Freeze { frozen } => call!(c64x_freeze(frozen)),
     }
+}
+
+/// A non-aligned access.
+pub fn unaligned(record: &mut CRecord, access: &Unaligned, lent: Lent) -> CAnswer {
+    match *access {
+        Unaligned::Read { size, address } => {
+            call_lent!(c64x_read_unaligned, record, lent, size, address)
+        }
+        Unaligned::Write { size, address, value } => {
+            call_lent!(c64x_write_unaligned, record, lent, size, address, value)
+        }
+    }
+}
+
+/// The bytes of a non-aligned access as single calls, from the lowest address up or from the
+/// highest down: what each answers, in this order.
+pub fn by_bytes(
+    record: &mut CRecord,
+    access: &Unaligned,
+    lent: Lent,
+    downwards: bool,
+) -> Vec<CAnswer> {
+    let mut bytes: Vec<u32> = (0..access.size()).collect();
+    if downwards {
+        bytes.reverse();
+    }
+    let mut answers = Vec::new();
+    for byte in bytes {
+        let (size, address) = (1, access.address().wrapping_add(byte));
+        let command = match *access {
+            Unaligned::Read { .. } => Command::Read { size, address },
+            Unaligned::Write { value, .. } => {
+                Command::Write { size, address, value: value >> (8 * byte) & 0xFF }
+            }
+        };
+        let lent = Lent { l1d: &mut *lent.l1d, l2: &mut *lent.l2, ext: &mut *lent.ext };
+        answers.push(direct(record, &command, lent));
+    }
+    answers
 }
 
 /// A fresh start.
@@ -571,6 +612,17 @@ fn way_of(lines: &[CLine], address: u32) -> Option<usize> {
     lines.iter().position(|line| line.valid == 1 && line.address == address)
 }
 
+/// Whether L1D holds the line of this address.
+pub fn l1d_holds(record: &CRecord, address: u32) -> bool {
+    way_of(&record.l1d[L1d::set_of(address)].lines, L1d::line_address(address)).is_some()
+}
+
+/// Whether L2 holds the line of this address.
+pub fn l2_holds(record: &CRecord, address: u32) -> bool {
+    let Some(set) = L2::set_of(record.mode.into(), address) else { return false };
+    way_of(&record.l2[set].lines, L2::line_address(address)).is_some()
+}
+
 /// Whether L1D holds this line, and dirty.
 pub fn l1d_is_dirty(record: &CRecord, address: u32) -> bool {
     let lines = &record.l1d[L1d::set_of(address)].lines;
@@ -687,11 +739,11 @@ pub fn record_difference(ours: &CRecord, theirs: &CRecord) -> String {
 #[cfg(test)]
 mod tests {
     use super::{
-        byte_difference, dirty_line, dirty_marks, left_by_records, padding_of, record_of,
-        report_of, CAnswer, CLeft, CReport, Held,
+        by_bytes, byte_difference, dirty_line, dirty_marks, l1d_holds, l2_holds, left_by_records,
+        padding_of, record_of, report_of, CAnswer, CLeft, CReport, Held, Lent,
     };
     use oracle::gen::Setup;
-    use oracle::{Left, Line, Record, Report};
+    use oracle::{Left, Line, Record, Report, Unaligned};
 
     /// 2 for each of 128 sets of L1D, 2 for each line.
     const PADDING_BYTES: usize = 128 * 2 + (128 * 2 + 512 * 4) * 2;
@@ -807,5 +859,27 @@ mod tests {
         assert_eq!(told(&setup, next + 64)[0], (CLeft::clean(64), CLeft::dirty(A)));
         setup.freeze(1);
         assert_eq!(told(&setup, next), [(none, CLeft::dirty(A)), (none, CLeft::dirty(A))]);
+    }
+
+    #[test]
+    fn bytes_in_both_directions() {
+        let mut setup = Setup::fresh_over(65_536, (0..128).collect());
+        setup.mar(128, 1);
+        setup.mode(1);
+        let access = Unaligned::Read { size: 4, address: 0x8000_003E };
+        for (downwards, values) in [(false, [62, 63, 64, 65]), (true, [65, 64, 63, 62])] {
+            let Setup { mut l1d, mut l2, mut ext, .. } = setup.clone();
+            let mut record = record_of(&setup.record);
+            let lent = Lent { l1d: &mut l1d, l2: &mut l2, ext: &mut ext };
+            let bytes = by_bytes(&mut record, &access, lent, downwards);
+            let told = bytes.iter().map(|byte| (byte.number, byte.server, byte.value));
+            let servers = [4, 1, 3, 1];
+            assert!(told.eq(servers.iter().zip(values).map(|(&server, value)| (0, server, value))));
+            for address in [0x8000_0000, 0x8000_003F, 0x8000_0040, 0x8000_007F] {
+                assert!(l1d_holds(&record, address) && l2_holds(&record, address));
+            }
+            assert!(!l1d_holds(&record, 0x8000_0080) && !l2_holds(&record, 0x8000_0080));
+            assert!(!l1d_holds(&record, 0x8000_2000) && !l2_holds(&record, 0x8000_2000));
+        }
     }
 }

@@ -248,6 +248,37 @@ fn run(arguments: &Arguments) -> Result<bool, String> {
         put_out.silent,
         put_out.moved
     );
+    let unaligned = &met.unaligned;
+    println!(
+        "non-aligned reads and writes by number: {:?}, by server: {:?}, of 4 and 8 bytes: {:?}, \
+         aligned: {:?}; across two lines of L1D: {:?}, of L2: {:?}, with the first in L1D alone: \
+         {:?}, the second: {:?}, of a frozen L1D: {:?}",
+        unaligned.numbers,
+        unaligned.servers,
+        unaligned.sizes,
+        unaligned.aligned,
+        unaligned.l1d_lines,
+        unaligned.l2_lines,
+        unaligned.first_held,
+        unaligned.second_held,
+        unaligned.frozen
+    );
+    println!(
+        "non-aligned: 256 bytes each way {:?}, past the caches {:?}, across the MAR ranges {:?}; sizes \
+         1 and 2 refused {:?}, 5 across the ends of memory {:?}; by flat memory {:?}, bytes by their \
+         history {}, not the last one written {}; by single bytes {:?}, of which another from the \
+         highest address down {}",
+        unaligned.bound,
+        unaligned.past,
+        unaligned.ranges,
+        unaligned.short,
+        unaligned.ends,
+        unaligned.flat,
+        unaligned.history_bytes,
+        unaligned.older_bytes,
+        unaligned.single,
+        unaligned.direction
+    );
     let faults = met.possible_faults();
     println!(
         "ill-formed records made: {}; of each fault in each mode: {} at least",
@@ -388,6 +419,7 @@ fn met_everything(met: &Met) -> bool {
         && met.frozen.met_everything()
         && met.counts.met_everything()
         && met.put_out.met_everything()
+        && met.unaligned.met_everything()
         && met.loads.iter().all(|&count| count > 500)
         && met.long_runs > 0
         && met.short_runs == 4_681

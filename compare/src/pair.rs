@@ -9,18 +9,18 @@ use oracle::dropped::History;
 use oracle::flat::Flat;
 use oracle::gen::{code, Fault, Setup, FAULTS, LEGAL_MODES, RANGE_BYTES};
 use oracle::geometry::{
-    external_length_is_legal, l2_length_is_legal, L1d, EXTERNAL_BASE, L1D_BYTES, L2,
+    external_length_is_legal, l2_length_is_legal, sram_size, L1d, EXTERNAL_BASE, L1D_BYTES, L2,
 };
 use oracle::machine::{SERVER_EXTERNAL, SERVER_L1D, SERVER_L2};
 use oracle::short_runs;
 use oracle::trace::{decode, ANSWER_BYTES};
 use oracle::wellformed::is_well_formed;
-use oracle::{Answer, Command, Record, Reply, RunResult};
+use oracle::{Answer, Command, Record, Reply, RunResult, Unaligned};
 
 use crate::boundary::{
-    self, byte_difference, dirty_line, dirty_marks, l1d_is_dirty, left_by_records, padding_of,
-    record_difference, record_of, report_of, same_record, CAnswer, CLeft, CLine, CRecord, CReport,
-    CRunNumber, CShortRun, Held, Lent,
+    self, byte_difference, dirty_line, dirty_marks, l1d_holds, l1d_is_dirty, l2_holds,
+    left_by_records, padding_of, record_difference, record_of, report_of, same_record, CAnswer,
+    CLeft, CLine, CRecord, CReport, CRunNumber, CShortRun, Held, Lent,
 };
 use crate::now;
 use crate::plant;
@@ -67,6 +67,7 @@ pub enum Op {
     Fresh,
     Record(Box<Record>),
     Direct(Command),
+    Unaligned(Unaligned),
     Run { trace: Vec<u8>, answer_bytes: usize },
     RunAndSingleCalls { trace: Vec<u8>, answer_bytes: usize },
     View { address: u32, buffer: usize },
@@ -124,6 +125,122 @@ pub struct Met {
     pub frozen: Frozen,
     pub counts: Counts,
     pub put_out: PutOut,
+    pub unaligned: UnalignedMet,
+}
+
+/// What non-aligned accesses met; pairs of counts are those of reads and of writes, but where
+/// something else is said.
+#[derive(Clone, Default, Debug)]
+pub struct UnalignedMet {
+    /// By their number, and accepted ones by their server and by their size, 4 or 8.
+    pub numbers: [[u64; 7]; 2],
+    pub servers: [[u64; 5]; 2],
+    pub sizes: [[u64; 2]; 2],
+    /// Accepted ones at a multiple of their size.
+    pub aligned: [u64; 2],
+    /// Across two lines of L1D, and of L2 where there is one, that the caches may hold.
+    pub l1d_lines: [u64; 2],
+    pub l2_lines: [u64; 2],
+    /// Of the former, those of which L1D held the first line alone, and the second alone.
+    pub first_held: [u64; 2],
+    pub second_held: [u64; 2],
+    /// Across two lines while L1D was frozen.
+    pub frozen: [u64; 2],
+    /// 256 bytes read and as many written.
+    pub bound: [u64; 2],
+    /// Past the caches, and across the two MAR ranges with one bit of each kind.
+    pub past: [u64; 2],
+    pub ranges: [u64; 2],
+    /// Sizes 1 and 2, refused with 3 where an access of that size would pass.
+    pub short: [u64; 2],
+    /// Refused with 5: across the end of SRAM, across 80000000h, across the end of external
+    /// memory, across FFFFFFFFh.
+    pub ends: [u64; 4],
+    /// Set against flat memory, and bytes against their history, of which not the last one
+    /// written.
+    pub flat: [u64; 2],
+    pub history_bytes: u64,
+    pub older_bytes: u64,
+    /// Set against single-byte calls, and those that would leave another record from the
+    /// highest address down.
+    pub single: [u64; 2],
+    pub direction: u64,
+}
+
+impl UnalignedMet {
+    /// Whether everything came up that should.
+    pub fn met_everything(&self) -> bool {
+        let numbers = self.numbers.iter().flat_map(|by| [by[0], by[1], by[2], by[3], by[5]]);
+        let servers = self.servers.iter().flat_map(|by| by[1..].to_vec());
+        let lines = self.l1d_lines.iter().chain(&self.l2_lines).chain(&self.first_held);
+        let lines = lines.chain(&self.second_held).chain(&self.frozen).copied();
+        let plain = self.aligned.iter().chain(self.sizes.iter().flatten()).chain(&self.flat);
+        let mut many = numbers.chain(servers).chain(lines).chain(plain.copied());
+        let few = self.past.iter().chain(&self.short).chain(&self.single).chain(&self.ends);
+        let rare = self.ranges.iter().chain([&self.direction]);
+        many.all(|count| count > 100)
+            && few.into_iter().all(|&count| count > 50)
+            && self.bound.iter().all(|&count| count > 30)
+            && rare.into_iter().all(|&count| count > 5)
+            // A read has no value that is too wide, and 4 is no number of theirs.
+            && (self.numbers[0][6], self.numbers[1][6] > 100) == (0, true)
+            && self.numbers.iter().all(|by| by[4] == 0)
+            && self.history_bytes > 2_000
+            && self.older_bytes > 50
+    }
+
+    /// An access, what it answered, and the record before it.
+    fn count(&mut self, access: &Unaligned, passed: &CRecord, called: &CAnswer) {
+        let by = usize::from(access.is_write());
+        let (size, address) = (access.size(), access.address());
+        self.numbers[by][usize::from(called.number) % 7] += 1;
+        // Of no bytes the one at the address.
+        let last = u64::from(address) + u64::from(size.max(1)) - 1;
+        let across = |end: u64| u64::from(address) < end && end <= last;
+        let (base, extlen) = (u64::from(EXTERNAL_BASE), u64::from(passed.extlen));
+        if called.number == 5 {
+            let sram = sram_size(passed.l2len, passed.mode.into());
+            let ends = [u64::from(sram), base, base + extlen, 1 << 32];
+            for (count, end) in self.ends.iter_mut().zip(ends) {
+                *count += u64::from(across(end));
+            }
+        }
+        let in_memory = address >= EXTERNAL_BASE && last < base + extlen;
+        let short = matches!(size, 1 | 2) && address % size == 0;
+        self.short[by] += u64::from(called.number == 3 && short && in_memory);
+        if called.number != 0 {
+            return;
+        }
+        let last = last as u32;
+        self.servers[by][usize::from(called.server) % 5] += 1;
+        self.sizes[by][usize::from(size == 8)] += 1;
+        self.aligned[by] += u64::from(address % size == 0);
+        let may_hold = |address: u32| match address {
+            0..EXTERNAL_BASE => true,
+            _ if address < EXTERNAL_BASE + RANGE_BYTES => passed.mar128 == 1,
+            _ => passed.mar129 == 1,
+        };
+        let two_lines = L1d::line_address(address) != L1d::line_address(last);
+        match (may_hold(address), may_hold(last)) {
+            (false, false) => self.past[by] += 1,
+            (true, true) if two_lines => {
+                self.l1d_lines[by] += 1;
+                let two_l2_lines = L2::line_address(address) != L2::line_address(last);
+                let with_l2 = passed.mode != 0 && address >= EXTERNAL_BASE;
+                self.l2_lines[by] += u64::from(two_l2_lines && with_l2);
+                self.frozen[by] += u64::from(passed.frozen == 1);
+                match (l1d_holds(passed, address), l1d_holds(passed, last)) {
+                    (true, false) => self.first_held[by] += 1,
+                    (false, true) => self.second_held[by] += 1,
+                    _ => {}
+                }
+            }
+            (true, true) => {}
+            _ => self.ranges[by] += 1,
+        }
+        let counts = (called.external_read, called.external_written);
+        self.bound[by] += u64::from(counts == (256, 256));
+    }
 }
 
 /// What accesses reported.
@@ -312,6 +429,9 @@ pub struct TwoRuns {
     pub modes: [u64; 8],
     /// What L1D and L2 told, by kind.
     pub left: [[u64; 4]; 2],
+    /// Accepted non-aligned reads and writes, and those that answer the byte.
+    pub unaligned: [u64; 2],
+    pub unaligned_parted: u64,
 }
 
 impl TwoRuns {
@@ -325,6 +445,8 @@ impl TwoRuns {
             && (0..=10).chain([17]).all(|number| self.numbers[number] > 20)
             && self.frozen[1..].iter().all(|&count| count > 100)
             && self.left.iter().flatten().all(|&count| count > 10)
+            && self.unaligned.iter().all(|&count| count > 100)
+            && self.unaligned_parted > 5
     }
 }
 
@@ -419,6 +541,35 @@ struct Moved {
     l2: Vec<u8>,
     ext: Vec<u8>,
     value: u64,
+}
+
+/// A copy of our side.
+#[derive(Clone)]
+pub struct Ours {
+    pub record: Box<Held>,
+    pub l1d: Vec<u8>,
+    pub l2: Vec<u8>,
+    pub ext: Vec<u8>,
+}
+
+impl Ours {
+    pub fn lent(&mut self) -> (&mut CRecord, Lent<'_>) {
+        (&mut self.record, Lent { l1d: &mut self.l1d, l2: &mut self.l2, ext: &mut self.ext })
+    }
+}
+
+/// What a non-aligned access answers by the answers of its single bytes, in the order of
+/// their addresses: the value little-endian, the highest server, the counts added up.
+fn summed(bytes: &[CAnswer]) -> CAnswer {
+    let mut told = CAnswer::refused(0);
+    for (place, byte) in bytes.iter().enumerate() {
+        told.number = told.number.max(byte.number);
+        told.value |= byte.value << (8 * place);
+        told.server = told.server.max(byte.server);
+        told.external_read += byte.external_read;
+        told.external_written += byte.external_written;
+    }
+    told
 }
 
 /// In how many bytes two memories differ.
@@ -524,18 +675,32 @@ fn expect_answer(name: &str, ours: Answer, theirs: Answer) -> Result<(), Wrong> 
     expect(kind, name, ours, theirs)
 }
 
-/// "neither exceeds 128 for one access", which is asked of the answer alone.
-fn expect_bound(name: &str, ours: &CReport) -> Result<(), Wrong> {
-    if ours.read <= 128 && ours.written <= 128 {
+/// "neither exceeds 128 for one access"; of a non-aligned one, "The bound on external bytes
+/// becomes 256 each way." (02, U6)
+const BOUND: u32 = 128;
+const UNALIGNED_BOUND: u32 = 256;
+
+/// Neither count is above the bound, which is asked of the answer alone.
+fn expect_bound(name: &str, bound: u32, ours: &CReport) -> Result<(), Wrong> {
+    if ours.read <= bound && ours.written <= bound {
         return Ok(());
     }
-    let what = format!("{name} has a count above 128: {ours:?}");
+    let what = format!("{name} has a count above {bound}: {ours:?}");
     Err(Wrong { kind: Kind::Moved, what })
 }
 
 /// What is reported beside number, server and value.
 fn expect_report(name: &str, ours: CReport, theirs: CReport) -> Result<(), Wrong> {
-    expect_bound(name, &ours)?;
+    expect_report_within(BOUND, name, ours, theirs)
+}
+
+fn expect_report_within(
+    bound: u32,
+    name: &str,
+    ours: CReport,
+    theirs: CReport,
+) -> Result<(), Wrong> {
+    expect_bound(name, bound, &ours)?;
     let left = (ours.l1d_left, ours.l2_left) != (theirs.l1d_left, theirs.l2_left);
     expect(if left { Kind::Left } else { Kind::Moved }, name, ours, theirs)
 }
@@ -714,6 +879,7 @@ impl Pair<'_> {
                 Ok(())
             }
             Op::Direct(command) => self.direct(command),
+            Op::Unaligned(access) => self.unaligned(access),
             Op::Run { trace, answer_bytes } => self.run(trace, *answer_bytes).map(|_| ()),
             Op::RunAndSingleCalls { trace, answer_bytes } => {
                 self.run_and_single_calls(trace, *answer_bytes)
@@ -758,7 +924,8 @@ impl Pair<'_> {
         } else {
             self.theirs.reply(command)
         };
-        let moved = self.moved(command, theirs.number);
+        let is_access = accessed(command, theirs.number).is_some();
+        let moved = self.moved(is_access, |record, lent| boundary::direct(record, command, lent));
         let before = plant::before(command, &self.l2, &self.ext);
         let (record, lent) = self.lent();
         let mut called = boundary::direct(record, command, lent);
@@ -779,38 +946,156 @@ impl Pair<'_> {
         self.expect_record(theirs.number == 0)?;
         expect_left_by_records("report", command, &called, &self.passed, &self.record)?;
         if let Some(over) = moved {
-            self.expect_moved(command, &called, &over)?;
+            let written = match command {
+                Command::Write { size, .. } => *size,
+                _ => 0,
+            };
+            self.expect_moved(written, &called, &over)?;
         }
         self.history(command, &ours)?;
         self.flat(command, &ours)
     }
 
+    /// A non-aligned access (02, U6).
+    fn unaligned(&mut self, access: &Unaligned) -> Result<(), Wrong> {
+        let Reply { answer: theirs, report } = if self.odd {
+            Reply::refused(self.odd_number(true))
+        } else {
+            self.theirs.unaligned(access)
+        };
+        let accepted = theirs.number == 0;
+        let moved = self.moved(accepted, |record, lent| boundary::unaligned(record, access, lent));
+        let copy = (self.moves && accepted || plant::wants_copy()).then(|| self.ours());
+        let (record, lent) = self.lent();
+        let mut called = boundary::unaligned(record, access, lent);
+        let lent = Lent { l1d: &mut self.l1d, l2: &mut self.l2, ext: &mut self.ext };
+        plant::unaligned(access, &mut called, &mut self.record, &self.passed, lent, copy.clone());
+        self.met.calls += 1;
+        self.met.numbers[usize::from(theirs.number)] += 1;
+        self.met.servers[usize::from(theirs.server)] += 1;
+        self.met.odd += u64::from(self.odd);
+        if accepted {
+            self.met.modes[self.theirs.record.mode as usize] += 1;
+        }
+        let ours = answer_of(&called);
+        expect_answer("answer", ours, theirs)?;
+        expect_report_within(UNALIGNED_BOUND, "report", called.report(), report_of(&report))?;
+        self.met.unaligned.count(access, &self.passed, &called);
+        self.met.frozen.refused += u64::from(self.passed.frozen > 1 && theirs.number == 2);
+        self.expect_record(accepted)?;
+        if let Some(over) = moved {
+            // The bytes that go over some that were fetched for them.
+            let bytes = (0..access.size()).map(|byte| access.address() + byte);
+            let fetched = bytes.filter(|&address| !l2_holds(&self.passed, address)).count();
+            let written = if access.is_write() { fetched as u32 } else { 0 };
+            self.expect_moved(written, &called, &over)?;
+        }
+        if let (true, true, Some(copy)) = (self.moves, accepted, copy) {
+            self.expect_single_bytes(access, &called, copy)?;
+        }
+        self.unaligned_history(access, &ours)?;
+        self.unaligned_flat(access, &ours)
+    }
+
+    /// Our side as it stands.
+    fn ours(&self) -> Ours {
+        Ours {
+            record: self.record.clone(),
+            l1d: self.l1d.clone(),
+            l2: self.l2.clone(),
+            ext: self.ext.clone(),
+        }
+    }
+
+    /// "each done as single-byte accesses from the lowest address up": these calls, on a copy
+    /// of what was there before. This asks the library itself, and not the reference model.
+    fn expect_single_bytes(
+        &mut self,
+        access: &Unaligned,
+        called: &CAnswer,
+        mut copy: Ours,
+    ) -> Result<(), Wrong> {
+        let mut down = copy.clone();
+        let (record, lent) = copy.lent();
+        let mut told = summed(&boundary::by_bytes(record, access, lent, false));
+        plant::summed(&mut told);
+        let (ours, theirs) = (answer_of(called), answer_of(&told));
+        expect_answer("answer, by single bytes,", ours, theirs)?;
+        let (ours, theirs) = (called.report(), told.report());
+        expect(Kind::Moved, "report, by single bytes,", ours, theirs)?;
+        if **self.record != **copy.record {
+            let difference = record_difference(&self.record, &copy.record);
+            let what = format!("record, by single bytes: {difference}");
+            return Err(Wrong { kind: Kind::Record, what });
+        }
+        expect_bytes("L1D, by single bytes,", &self.l1d, &copy.l1d)?;
+        expect_bytes("L2, by single bytes,", &self.l2, &copy.l2)?;
+        expect_bytes("external memory, by single bytes,", &self.ext, &copy.ext)?;
+        let (record, lent) = down.lent();
+        boundary::by_bytes(record, access, lent, true);
+        let met = &mut self.met.unaligned;
+        met.direction += u64::from(**self.record != **down.record);
+        met.single[usize::from(access.is_write())] += 1;
+        self.met.calls += u64::from(2 * access.size());
+        Ok(())
+    }
+
+    /// What the sentences about dropped lines say of a non-aligned access's answer.
+    fn unaligned_history(&mut self, access: &Unaligned, ours: &Answer) -> Result<(), Wrong> {
+        let Some(history) = &mut self.history else { return Ok(()) };
+        let mut seen = *ours;
+        plant::unaligned_history(access, &mut seen);
+        let read = history.unaligned(access, &seen).map_err(|broken| Wrong {
+            kind: Kind::Sentence(broken.sentence),
+            what: format!("dropped lines, sentence {}: {}", broken.sentence, broken.what),
+        })?;
+        self.met.history_bytes += read.bytes;
+        self.met.older_bytes += read.older;
+        self.met.unaligned.history_bytes += read.bytes;
+        self.met.unaligned.older_bytes += read.older;
+        Ok(())
+    }
+
+    /// "Lists with these accesses keep agreeing with flat memory."
+    fn unaligned_flat(&mut self, access: &Unaligned, ours: &Answer) -> Result<(), Wrong> {
+        let Some(flat) = &mut self.flat else { return Ok(()) };
+        let (mut number, mut value) = flat.apply_unaligned(access);
+        plant::unaligned_flat(access, flat, &mut number, &mut value);
+        expect(Kind::Number, "number, by flat memory,", ours.number, number)?;
+        expect(Kind::Value, "value, by flat memory,", ours.value, value)?;
+        self.met.flat_reads += 1;
+        self.met.unaligned.flat[usize::from(access.is_write())] += 1;
+        Ok(())
+    }
+
     /// An access that will be accepted, made over an external memory each byte of which is
     /// another: what it leaves behind, and the value.
-    fn moved(&mut self, command: &Command, number: u8) -> Option<Moved> {
-        accessed(command, number).filter(|_| self.moves)?;
+    fn moved(
+        &mut self,
+        is_access: bool,
+        call: impl FnOnce(&mut CRecord, Lent) -> CAnswer,
+    ) -> Option<Moved> {
+        if !self.moves || !is_access {
+            return None;
+        }
         let mut record = self.record.clone();
         let (mut l1d, mut l2) = (self.l1d.clone(), self.l2.clone());
         let mut ext: Vec<u8> = self.ext.iter().map(|byte| !byte).collect();
         let lent = Lent { l1d: &mut l1d, l2: &mut l2, ext: &mut ext };
-        let value = boundary::direct(&mut record, command, lent).value;
+        let value = call(&mut record, lent).value;
         self.met.calls += 1;
         Some(Moved { l1d, l2, ext, value })
     }
 
     /// "These counts equal the bytes moved", seen from outside: a byte of external memory that
     /// is the same afterwards was written; one of L1D, of L2 or of the value that is another
-    /// was read. A write that has a line fetched goes over as many of its bytes itself.
-    fn expect_moved(
-        &mut self,
-        command: &Command,
-        called: &CAnswer,
-        over: &Moved,
-    ) -> Result<(), Wrong> {
+    /// was read. A write that has a line fetched goes over as many of its bytes itself as it
+    /// has there.
+    fn expect_moved(&mut self, size: u32, called: &CAnswer, over: &Moved) -> Result<(), Wrong> {
         let l1d = others(&self.l1d, &over.l1d);
         let mut l2 = others(&self.l2, &over.l2);
         let value = others(&called.value.to_le_bytes(), &over.value.to_le_bytes());
-        if let (Command::Write { size, .. }, true) = (command, l2 > 0) {
+        if l2 > 0 {
             l2 += size;
         }
         let written = self.ext.len() as u32 - others(&self.ext, &over.ext);
@@ -1176,6 +1461,7 @@ impl Pair<'_> {
         }
         let address = match *op {
             Op::Direct(Command::Read { address, .. } | Command::Write { address, .. }) => address,
+            Op::Unaligned(access) => access.address(),
             Op::Direct(
                 Command::L2BlockWriteback { base, .. }
                 | Command::L2BlockWritebackInvalidate { base, .. }

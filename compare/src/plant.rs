@@ -16,12 +16,12 @@ use oracle::load::Load;
 use oracle::machine::{SERVER_L1D, SERVER_L2};
 use oracle::trace::{decode, ANSWER_BYTES};
 use oracle::writer::Put;
-use oracle::{Answer, Command};
+use oracle::{Answer, Command, Unaligned};
 
 use crate::boundary::{
-    dirty_marks, CAnswer, CLeft, CLine, CRecord, CRun, CRunNumber, CShortRun, Lent,
+    self, dirty_marks, CAnswer, CLeft, CLine, CRecord, CRun, CRunNumber, CShortRun, Lent,
 };
-use crate::pair::SMALL;
+use crate::pair::{Ours, SMALL};
 
 /// The planted differences; `PLANTS` says what each does.
 #[derive(Clone, Copy, PartialEq, Eq, Debug)]
@@ -163,6 +163,25 @@ enum Plant {
     MovedBytes,
     DataLeft,
     DataMoved,
+    UnalignedDown,
+    UnalignedFirst,
+    UnalignedServer,
+    UnalignedValue,
+    UnalignedStored,
+    UnalignedUnchecked,
+    UnalignedMultiple,
+    UnalignedShort,
+    UnalignedWide,
+    UnalignedMoves,
+    UnalignedCounts,
+    UnalignedBound,
+    UnalignedLeft,
+    UnalignedBytes,
+    FlatUnaligned,
+    FlatUnalignedWrite,
+    HeldUnaligned,
+    DataUnaligned,
+    UnalignedBehind,
     BenchOutput,
     BenchStatus,
 }
@@ -178,7 +197,7 @@ const fn planted(plant: Plant, name: &'static str, about: &'static str) -> Plant
     Planted { plant, name, about }
 }
 
-pub const PLANTS: [Planted; 139] = [
+pub const PLANTS: [Planted; 158] = [
     planted(Plant::ReadValue, "read-value", "a 4-byte read from L2 cache gets 1 more"),
     planted(Plant::ReadOrder, "read-order", "a read hit in L1D turns its set's order around"),
     planted(Plant::WriteNumber, "write-number", "a write refused with 6 gets 5"),
@@ -336,6 +355,45 @@ pub const PLANTS: [Planted; 139] = [
     planted(Plant::MovedBytes, "moved-bytes", "by the bytes of memory a line of L2 is half read"),
     planted(Plant::DataLeft, "data-left", "..: a read of an odd value tells a way that was empty"),
     planted(Plant::DataMoved, "data-moved", "..: a read of an odd value counts no byte"),
+    planted(Plant::UnalignedDown, "unaligned-down", "a non-aligned access: its highest byte first"),
+    planted(Plant::UnalignedFirst, "unaligned-first", "..: of two lines only the first is used"),
+    planted(Plant::UnalignedServer, "unaligned-server", "..: the server is that of the last byte"),
+    planted(
+        Plant::UnalignedValue,
+        "unaligned-value",
+        "..: a read has its bytes the other way round",
+    ),
+    planted(
+        Plant::UnalignedStored,
+        "unaligned-stored",
+        "..: a write puts them the other way round",
+    ),
+    planted(Plant::UnalignedUnchecked, "unaligned-unchecked", "..: its last byte is not checked"),
+    planted(Plant::UnalignedMultiple, "unaligned-multiple", "..: 4 for no multiple of the size"),
+    planted(Plant::UnalignedShort, "unaligned-short", "..: sizes 1 and 2 are accepted"),
+    planted(Plant::UnalignedWide, "unaligned-wide", "..: a write that 6 is due for gets 5"),
+    planted(Plant::UnalignedMoves, "unaligned-moves", "..: a write refused with 5 moves a byte"),
+    planted(
+        Plant::UnalignedCounts,
+        "unaligned-counts",
+        "..: the counts are those of the last byte",
+    ),
+    planted(Plant::UnalignedBound, "unaligned-bound", "..: counts of 256 are one more"),
+    planted(Plant::UnalignedLeft, "unaligned-left", "..: it tells what its last byte put out"),
+    planted(Plant::UnalignedBytes, "unaligned-bytes", "..: its single bytes have a lower server"),
+    planted(Plant::FlatUnaligned, "flat-unaligned", "..: by flat memory it is aligned"),
+    planted(
+        Plant::FlatUnalignedWrite,
+        "flat-unaligned-write",
+        "..: flat memory lacks a byte of it",
+    ),
+    planted(Plant::HeldUnaligned, "held-unaligned", "..: in a list with drops it reads 1 more"),
+    planted(Plant::DataUnaligned, "data-unaligned", "..: with data other servers, in two runs"),
+    planted(
+        Plant::UnalignedBehind,
+        "unaligned-behind",
+        "..: one of 4 bytes answers 8, in two runs",
+    ),
     planted(Plant::BenchOutput, "bench-output", "bench-trace prints a line more after an 8"),
     planted(Plant::BenchStatus, "bench-status", "bench-trace fails after a 7"),
 ];
@@ -767,6 +825,181 @@ fn marked(
             if called.server == SERVER_L2 =>
         {
             change(lent.ext.get_mut(0x2000));
+        }
+        _ => {}
+    }
+}
+
+/// Whether this difference needs our side as it was before a non-aligned access.
+pub fn wants_copy() -> bool {
+    matches!(
+        CHOSEN.get(),
+        Some(
+            Plant::UnalignedDown
+                | Plant::UnalignedServer
+                | Plant::UnalignedStored
+                | Plant::UnalignedCounts
+                | Plant::UnalignedLeft
+        )
+    )
+}
+
+/// The same value with the bytes of this size the other way round.
+fn turned(size: u32, value: u64) -> u64 {
+    value.swap_bytes() >> (64 - 8 * size)
+}
+
+/// Where the byte at an address stands, in SRAM or in external memory itself.
+fn home_byte<'a>(passed: &CRecord, lent: &'a mut Lent, address: u32) -> Option<&'a mut u8> {
+    match address.checked_sub(EXTERNAL_BASE) {
+        Some(offset) => lent.ext.get_mut(offset as usize),
+        None if address < sram_size(passed.l2len, passed.mode.into()) => {
+            lent.l2.get_mut(address as usize)
+        }
+        None => None,
+    }
+}
+
+/// What a non-aligned access gave back, and the record and the memories after it: mistakes in
+/// making one access of many.
+pub fn unaligned(
+    access: &Unaligned,
+    called: &mut CAnswer,
+    record: &mut CRecord,
+    passed: &CRecord,
+    mut lent: Lent,
+    before: Option<Ours>,
+) {
+    let Some(plant) = CHOSEN.get() else { return };
+    let (size, address, is_write) = (access.size(), access.address(), access.is_write());
+    let accepted = called.number == 0;
+    match plant {
+        Plant::UnalignedMultiple if accepted && address % size != 0 => {
+            *record = *passed;
+            *called = CAnswer::refused(4);
+        }
+        Plant::UnalignedShort if called.number == 3 && matches!(size, 1 | 2) => called.number = 0,
+        Plant::UnalignedWide if called.number == 6 => called.number = 5,
+        Plant::UnalignedUnchecked if called.number == 5 => {
+            let mut there = |byte| {
+                let at = address.checked_add(byte);
+                at.is_some_and(|at| home_byte(passed, &mut lent, at).is_some())
+            };
+            if (0..size - 1).all(&mut there) {
+                called.number = 0;
+            }
+        }
+        Plant::UnalignedMoves if called.number == 5 && is_write => {
+            change(home_byte(passed, &mut lent, address));
+        }
+        Plant::UnalignedValue if accepted => called.value = turned(size, called.value),
+        Plant::UnalignedFirst if accepted && passed.frozen == 0 => {
+            let (first, last) = (L1d::set_of(address), L1d::set_of(address + size - 1));
+            if first != last {
+                record.l1d[last].order = passed.l1d[last].order;
+            }
+        }
+        Plant::UnalignedBound if accepted => {
+            for count in [&mut called.external_read, &mut called.external_written] {
+                *count += u32::from(*count == 256);
+            }
+        }
+        _ if accepted => {
+            if let Some(before) = before {
+                unaligned_bytes(*plant, access, called, record, lent, before);
+            }
+        }
+        _ => {}
+    }
+}
+
+/// The same, by the single bytes of an access that was accepted, made from what stood there
+/// before.
+fn unaligned_bytes(
+    plant: Plant,
+    access: &Unaligned,
+    called: &mut CAnswer,
+    record: &mut CRecord,
+    lent: Lent,
+    mut before: Ours,
+) {
+    let access = match (plant, *access) {
+        (Plant::UnalignedStored, Unaligned::Write { size, address, value }) => {
+            Unaligned::Write { size, address, value: turned(size, value) }
+        }
+        (_, access) => access,
+    };
+    let (copy, copied) = before.lent();
+    let bytes = boundary::by_bytes(copy, &access, copied, plant == Plant::UnalignedDown);
+    let Some(last) = bytes.last() else { return };
+    match plant {
+        Plant::UnalignedServer => called.server = last.server,
+        Plant::UnalignedCounts => {
+            called.external_read = last.external_read;
+            called.external_written = last.external_written;
+        }
+        Plant::UnalignedLeft => {
+            let put_out = |left: &CLeft| left.is_line();
+            let l1d = bytes.iter().map(|byte| byte.l1d_left).rfind(put_out);
+            let l2 = bytes.iter().map(|byte| byte.l2_left).rfind(put_out);
+            called.l1d_left = l1d.unwrap_or(CLeft::NONE);
+            called.l2_left = l2.unwrap_or(CLeft::NONE);
+        }
+        Plant::UnalignedDown | Plant::UnalignedStored => {
+            *record = **before.record;
+            lent.l1d.copy_from_slice(&before.l1d);
+            lent.l2.copy_from_slice(&before.l2);
+            lent.ext.copy_from_slice(&before.ext);
+        }
+        _ => {}
+    }
+}
+
+/// What the single bytes of a non-aligned access answer together.
+pub fn summed(told: &mut CAnswer) {
+    if CHOSEN.get() == Some(&Plant::UnalignedBytes) && told.server == SERVER_L2 {
+        told.server -= 1;
+    }
+}
+
+/// What flat memory says of a non-aligned access.
+pub fn unaligned_flat(access: &Unaligned, flat: &mut Flat, number: &mut u8, value: &mut u64) {
+    match (CHOSEN.get(), *access) {
+        (Some(Plant::FlatUnaligned), Unaligned::Read { size, address }) if *number == 0 => {
+            let address = address - address % size;
+            (*number, *value) = flat.apply_unaligned(&Unaligned::Read { size, address });
+        }
+        (Some(Plant::FlatUnalignedWrite), Unaligned::Write { size, address, .. })
+            if *number == 0 =>
+        {
+            let last = address + size - 1;
+            let (_, byte) = flat.read(1, last);
+            flat.write(1, last, (byte + 1) & 0xFF);
+        }
+        _ => {}
+    }
+}
+
+/// The answer of a non-aligned access, as it is set against what its bytes held.
+pub fn unaligned_history(access: &Unaligned, answer: &mut Answer) {
+    let read = !access.is_write() && answer.number == 0;
+    if CHOSEN.get() == Some(&Plant::HeldUnaligned) && read {
+        answer.value ^= 1;
+    }
+}
+
+/// What a non-aligned access of one of two runs gave back: data has steered it.
+pub fn steered_unaligned(access: &Unaligned, called: &mut CAnswer, ext: &[u8]) {
+    if called.number != 0 || access.is_write() {
+        return;
+    }
+    match CHOSEN.get() {
+        Some(Plant::DataUnaligned) if called.value % 2 == 1 => called.server = 5 - called.server,
+        Some(Plant::UnalignedBehind) if access.size() == 4 && access.address() >= EXTERNAL_BASE => {
+            let from = external_offset(access.address()) + 4;
+            if from + 4 <= ext.len() {
+                called.value |= load(ext, from, 4) << 32;
+            }
         }
         _ => {}
     }

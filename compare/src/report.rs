@@ -3,7 +3,7 @@
 
 use oracle::record::{L1dSet, L2Set, Line, Record};
 use oracle::trace::decode;
-use oracle::Command;
+use oracle::{Command, Unaligned};
 
 use crate::pair::Op;
 use crate::shrink::{Case, Size};
@@ -101,6 +101,7 @@ fn report_op(number: usize, op: &Op) {
             report_record(record);
         }
         Op::Direct(command) => println!("{number}: {}", command_words(command)),
+        Op::Unaligned(access) => println!("{number}: {}", unaligned_words(access)),
         Op::View { address, buffer } => {
             println!("{number}: view of {address:#x}, buffer of {buffer} bytes");
         }
@@ -129,6 +130,17 @@ pub fn trace_words(trace: &[u8]) -> Vec<String> {
         place += length;
     }
     words
+}
+
+pub fn unaligned_words(access: &Unaligned) -> String {
+    match *access {
+        Unaligned::Read { size, address } => {
+            format!("non-aligned Read size {size} address {address:#x}")
+        }
+        Unaligned::Write { size, address, value } => {
+            format!("non-aligned Write size {size} address {address:#x} value {value:#x}")
+        }
+    }
 }
 
 pub fn command_words(command: &Command) -> String {

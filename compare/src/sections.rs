@@ -4,13 +4,13 @@
 
 use oracle::gen::{
     self, call, command, crowded, crowded_e, encode, hot, hot_for, ill_formed_record, l_for,
-    look_address, make_length_wrong, senseless_record, well_formed_record,
-    well_formed_record_in_mode, Call, Hot, Mix, Rng, Setup, TraceKind, E_BOTH_RANGES, FAULTS,
-    LEGAL_L, LEGAL_MODES, RANGE_BYTES, TRACE_KINDS, WRONG_LENGTHS,
+    look_address, make_length_wrong, senseless_record, single, well_formed_record,
+    well_formed_record_in_mode, Call, Hot, Mix, Rng, Setup, Single, TraceKind, E_BOTH_RANGES,
+    FAULTS, LEGAL_L, LEGAL_MODES, RANGE_BYTES, TRACE_KINDS, WRONG_LENGTHS,
 };
 use oracle::geometry::{mode_is_legal, sram_size, EXTERNAL_BASE, L2};
 use oracle::short_runs;
-use oracle::{Command, Line, Record};
+use oracle::{Command, Line, Record, Unaligned};
 
 use crate::load;
 use crate::pair::{compare, Met, OddByte, OddPlace, Op, Start};
@@ -206,7 +206,32 @@ fn setup_in_mode(rng: &mut Rng, mode: u32, l: u32, e: u32) -> Setup {
     setup
 }
 
-/// Accesses of each size that end with external memory, and just behind it.
+/// A random single call.
+fn some_single(rng: &mut Rng, lines: &Hot, mix: &Mix) -> Op {
+    match single(rng, lines, mix) {
+        Single::Command(command) => Op::Direct(command),
+        Single::Unaligned(access) => Op::Unaligned(access),
+    }
+}
+
+/// A non-aligned write, and a read of the same bytes.
+fn unaligned_pair(size: u32, address: u32, value: u64) -> [Op; 2] {
+    [Unaligned::Write { size, address, value }, Unaligned::Read { size, address }]
+        .map(Op::Unaligned)
+}
+
+/// One of the two.
+fn unaligned_either(rng: &mut Rng, size: u32, address: u32, value: u64) -> Op {
+    let [write, read] = unaligned_pair(size, address, value);
+    if rng.chance(1, 2) {
+        write
+    } else {
+        read
+    }
+}
+
+/// Accesses of each size that end with external memory, and just behind it; non-aligned ones
+/// also across its end.
 fn accesses_at_the_end(e: u32) -> Vec<Op> {
     let end = EXTERNAL_BASE + e;
     let mut ops = Vec::new();
@@ -216,6 +241,18 @@ fn accesses_at_the_end(e: u32) -> Vec<Op> {
             ops.push(Op::Direct(Command::Read { size, address }));
         }
     }
+    for size in [4, 8] {
+        for back in 0..=size {
+            ops.extend(unaligned_pair(size, end - back, 0xC0 + u64::from(size)));
+        }
+    }
+    // Where both MAR ranges meet, if the memory comes to it.
+    let border = EXTERNAL_BASE + RANGE_BYTES;
+    for size in [4, 8] {
+        for back in 1..size {
+            ops.extend(unaligned_pair(size, border - back, 0xD0 + u64::from(size)));
+        }
+    }
     ops
 }
 
@@ -223,6 +260,7 @@ fn op_of(call: Call, rng: &mut Rng) -> Op {
     match call {
         Call::FreshStart => Op::Fresh,
         Call::Direct(command) => Op::Direct(command),
+        Call::Unaligned(access) => Op::Unaligned(access),
         Call::Run { trace, answer_bytes } => Op::Run { trace, answer_bytes },
         Call::Look { address } => Op::View { address, buffer: view_buffer(rng) },
     }
@@ -326,7 +364,7 @@ fn lists(rng: &mut Rng, group: u64, met: &mut Met) -> Option<Case> {
             }
             ops.push(Op::Run { trace, answer_bytes });
         } else {
-            ops.push(Op::Direct(command(rng, &lines, &mix)));
+            ops.push(some_single(rng, &lines, &mix));
         }
     }
     let flat = mix.l1d_invalidate_all == 0;
@@ -366,7 +404,7 @@ fn dropped(rng: &mut Rng, group: u64, met: &mut Met) -> Option<Case> {
                 ops.push(Op::Run { trace, answer_bytes: 150 + rng.below(60) as usize });
             }
             9..=12 => ops.push(Op::View { address: look_address(rng, &lines), buffer: 64 }),
-            _ => ops.push(Op::Direct(command(rng, &lines, &mix))),
+            _ => ops.push(some_single(rng, &lines, &mix)),
         }
     }
     check(Start { history: true, ..plain(rng, setup) }, ops, met)
@@ -417,7 +455,7 @@ fn reaching(rng: &mut Rng, group: u64, met: &mut Met) -> Option<Case> {
                 let value = rng.next_u32().into();
                 ops.push(Op::Direct(Command::Write { size, address, value }));
             }
-            _ => ops.push(Op::Direct(command(rng, &lines, &mix))),
+            _ => ops.push(some_single(rng, &lines, &mix)),
         }
     }
     check(Start { flat: !drops, history: drops, ..plain(rng, setup) }, ops, met)
@@ -454,7 +492,7 @@ fn frozen(rng: &mut Rng, group: u64, met: &mut Met) -> Option<Case> {
                 ops.push(Op::RunAndSingleCalls { trace, answer_bytes: 10 * (count + 1) });
             }
             5..=14 => ops.extend(thawed_then_frozen(rng, e).map(Op::Direct)),
-            _ => ops.push(Op::Direct(command(rng, &lines, &mix))),
+            _ => ops.push(some_single(rng, &lines, &mix)),
         }
     }
     check(Start { flat: !drops, history: drops, ..plain(rng, setup) }, ops, met)
@@ -519,7 +557,9 @@ fn thrashing(rng: &mut Rng, group: u64, met: &mut Met) -> Option<Case> {
                 ops.push(Op::RunAndSingleCalls { trace, answer_bytes: 10 * count });
             }
             2..=6 => ops.extend(putting_out(rng, mode, e).into_iter().map(Op::Direct)),
-            _ => ops.push(Op::Direct(command(rng, &lines, &mix))),
+            7 | 8 => ops.extend(putting_two_out(rng, mode, e)),
+            9..=11 => ops.extend(freeing_a_way(rng, mode, e)),
+            _ => ops.push(some_single(rng, &lines, &mix)),
         }
     }
     check(Start { flat: true, moves, ..plain(rng, setup) }, ops, met)
@@ -559,6 +599,46 @@ fn putting_out(rng: &mut Rng, mode: u32, e: u32) -> Vec<Command> {
         }
     }
     commands
+}
+
+/// Non-aligned writes fill two sets of L2 that lie beside each other with dirty lines; then
+/// one more, or a read, puts a line out of both.
+fn putting_two_out(rng: &mut Rng, mode: u32, e: u32) -> Vec<Op> {
+    let apart = crowded_e(mode) / 6;
+    let first = EXTERNAL_BASE + 128 * rng.below(apart.min(e) / 128 - 1);
+    let turn = rng.below(6);
+    let size = rng.pick(&[4, 8]);
+    let across = 128 - 1 - rng.below(size - 1);
+    let mut ops = Vec::new();
+    for place in 0..5 {
+        let address = first + (turn + place) % 6 * apart + across;
+        let value = rng.next_u32().into();
+        let write = Unaligned::Write { size, address, value };
+        let last = place == 4 && rng.chance(1, 2);
+        ops.push(Op::Unaligned(if last { Unaligned::Read { size, address } } else { write }));
+    }
+    ops
+}
+
+/// Both halves of two lines of an L2 set are in L1D; in L2 the first of them is the next to
+/// leave, in L1D the second. A non-aligned read then brings both halves of a fifth line: the
+/// way for its lower half is chosen before the line that leaves has freed its own.
+fn freeing_a_way(rng: &mut Rng, mode: u32, e: u32) -> Vec<Op> {
+    let apart = crowded_e(mode) / 6;
+    let first = EXTERNAL_BASE + 128 * rng.below(apart.min(e) / 128);
+    let turn = rng.below(6);
+    let line = |place: u32| first + (turn + place) % 6 * apart;
+    let size = rng.pick(&[4, 8]);
+    let across = 64 - 1 - rng.below(size - 1);
+    let read = |place| Op::Unaligned(Unaligned::Read { size, address: line(place) + across });
+    let mut ops = vec![Op::Direct(Command::Freeze { frozen: 0 })];
+    ops.extend([read(0), read(1)]);
+    for place in 2..4 {
+        let value = rng.below(256).into();
+        ops.push(Op::Direct(Command::Write { size: 1, address: line(place), value }));
+    }
+    ops.extend([read(0), read(4)]);
+    ops
 }
 
 fn global_writeback(rng: &mut Rng) -> Command {
@@ -682,11 +762,11 @@ fn refusals(rng: &mut Rng, group: u64, met: &mut Met) -> Option<Case> {
     }
 }
 
-/// One command of every kind, and some that get a higher number where a 1 or a
-/// 2 does not come first.
-fn every_command() -> [Command; 18] {
+/// One call of every kind, and some that get a higher number where a 1 or a 2 does not come
+/// first.
+fn every_call() -> Vec<Op> {
     let (base, count) = (EXTERNAL_BASE, 16);
-    [
+    let commands = [
         Command::Read { size: 4, address: 0 },
         Command::Write { size: 4, address: EXTERNAL_BASE, value: 7 },
         Command::L2WritebackAll,
@@ -705,14 +785,22 @@ fn every_command() -> [Command; 18] {
         Command::Mar { number: 7, bit: 7 },
         Command::Freeze { frozen: 7 },
         Command::L2BlockWriteback { base: 2, count: 70_000 },
-    ]
+    ];
+    let accesses = [
+        Unaligned::Read { size: 4, address: 1 },
+        Unaligned::Write { size: 8, address: EXTERNAL_BASE + 61, value: 7 },
+        Unaligned::Read { size: 2, address: 0 },
+        Unaligned::Write { size: 4, address: u32::MAX, value: 7 },
+        Unaligned::Write { size: 4, address: EXTERNAL_BASE, value: u64::MAX },
+    ];
+    commands.map(Op::Direct).into_iter().chain(accesses.map(Op::Unaligned)).collect()
 }
 
 /// Every kind of call, and some more.
 fn some_calls(rng: &mut Rng, lines: &Hot, fresh_too: bool) -> Vec<Op> {
-    let mut ops = every_command().map(Op::Direct).to_vec();
+    let mut ops = every_call();
     for _ in 0..4 {
-        ops.push(Op::Direct(command(rng, lines, &Mix::ALL)));
+        ops.push(some_single(rng, lines, &Mix::ALL));
     }
     for kind in [TraceKind::Valid, TraceKind::UnknownCode] {
         let made = gen::trace(rng, lines, &Mix::ALL, 3, kind);
@@ -730,9 +818,13 @@ fn some_calls(rng: &mut Rng, lines: &Hot, fresh_too: bool) -> Vec<Op> {
 
 /// Two or three calls of any kind.
 fn few_calls(rng: &mut Rng, lines: &Hot) -> Vec<Op> {
-    let direct =
-        if rng.chance(1, 2) { rng.pick(&every_command()) } else { command(rng, lines, &Mix::ALL) };
-    let mut ops = vec![Op::Direct(direct)];
+    let direct = if rng.chance(1, 2) {
+        let mut every = every_call();
+        every.swap_remove(rng.below(every.len() as u32) as usize)
+    } else {
+        some_single(rng, lines, &Mix::ALL)
+    };
+    let mut ops = vec![direct];
     if rng.chance(1, 2) {
         ops.push(Op::View { address: look_address(rng, lines), buffer: view_buffer(rng) });
     } else {
@@ -867,7 +959,7 @@ fn changed(rng: &mut Rng, turn: u64, met: &mut Met) -> Option<Case> {
         ops.push(Op::Record(record));
         ops.push(Op::Direct(Command::Read { size: 1, address: EXTERNAL_BASE }));
         for _ in 0..rng.below(4) {
-            ops.push(Op::Direct(command(rng, &lines, &Mix::ALL)));
+            ops.push(some_single(rng, &lines, &Mix::ALL));
         }
         ops.push(Op::View { address: look_address(rng, &lines), buffer: 64 });
     }
@@ -936,6 +1028,17 @@ fn edges(rng: &mut Rng, turn: u64, met: &mut Met) -> Option<Case> {
             let bound = if bits == 64 { 0 } else { 1u64 << bits };
             let value = rng.pick(&[0, bound, bound.wrapping_sub(1), bound + 1, u64::MAX, 255, 256]);
             ops.push(Op::Direct(Command::Write { size, address, value }));
+            let address = end.wrapping_sub(rng.below(17));
+            ops.push(unaligned_either(rng, size, address, value));
+        }
+    }
+    // Every way across an end, and a value that is just too wide.
+    for size in [4, 8] {
+        for end in ends {
+            for back in 0..=size {
+                let value = rng.pick(&[7, u64::from(u32::MAX), 1 << 32]);
+                ops.push(unaligned_either(rng, size, end.wrapping_sub(back), value));
+            }
         }
     }
     // All of 3 to 6 at once, and one less each time.
@@ -954,6 +1057,9 @@ fn edges(rng: &mut Rng, turn: u64, met: &mut Met) -> Option<Case> {
         (8, EXTERNAL_BASE, u64::MAX),
     ] {
         ops.push(Op::Direct(Command::Write { size, address, value }));
+        for address in [address, address + 1] {
+            ops.push(unaligned_either(rng, size, address, value));
+        }
     }
     let bases = [0, 1, 2, 3, 4, EXTERNAL_BASE, EXTERNAL_BASE + 2, 0xFFFF_FFFC, 0xFFFF_FFFF];
     for base in bases {
@@ -1021,7 +1127,7 @@ fn views(rng: &mut Rng, group: u64, met: &mut Met) -> Option<Case> {
     for _ in 0..120 {
         ops.push(Op::View { address: look_address(rng, &lines), buffer: view_buffer(rng) });
         if rng.chance(1, 8) {
-            ops.push(Op::Direct(command(rng, &lines, &Mix::ALL)));
+            ops.push(some_single(rng, &lines, &Mix::ALL));
         }
     }
     for buffer in [0, 1, 32, 62, 63, 64, 65, 66, 127, 128, 1_000] {

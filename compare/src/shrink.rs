@@ -133,6 +133,9 @@ impl Shrinker {
                 Op::Direct(command) => {
                     setup.call(command);
                 }
+                Op::Unaligned(access) => {
+                    setup.unaligned(access);
+                }
                 Op::Run { trace, answer_bytes } | Op::RunAndSingleCalls { trace, answer_bytes } => {
                     setup.run(trace, &mut vec![0; *answer_bytes]);
                 }

@@ -11,19 +11,19 @@
 use std::panic::{catch_unwind, AssertUnwindSafe};
 
 use oracle::gen::{
-    code, command, crowded, crowded_e, hot_for, ill_formed_record, l_for, look_address,
-    make_length_wrong, well_formed_record_in_mode, Hot, Mix, Rng, Setup, E_BOTH_RANGES, FAULTS,
+    code, crowded, crowded_e, hot_for, ill_formed_record, l_for, look_address, make_length_wrong,
+    single, well_formed_record_in_mode, Hot, Mix, Rng, Setup, Single, E_BOTH_RANGES, FAULTS,
     LEGAL_MODES, WRONG_LENGTHS,
 };
 use oracle::geometry::{external_offset, sram_size, L1d, EXTERNAL_BASE, L1D_BYTES, L2};
 use oracle::record::{L1dSet, L2Set, Line, Record};
-use oracle::Command;
+use oracle::{Command, Unaligned};
 
 use crate::boundary::{self, record_difference, record_of, CAnswer, CLine, Held, Lent};
 use crate::now;
 use crate::pair::Met;
 use crate::plant;
-use crate::report::{command_words, left, record_words};
+use crate::report::{command_words, left, record_words, unaligned_words};
 use crate::sections::in_bytes;
 use crate::shrink::{Counts, Size};
 
@@ -33,6 +33,7 @@ use crate::shrink::{Counts, Size};
 enum Step {
     Fresh,
     Direct { command: Command, other: u64 },
+    Unaligned { access: Unaligned, other: u64 },
     View { address: u32 },
 }
 
@@ -174,15 +175,24 @@ fn some_step(rng: &mut Rng, lines: &Hot, differ: &Differ) -> Step {
                 Differ::Data { .. } => Mix::ALL,
                 Differ::OneByte { .. } => Mix { write: 40, ..Mix::ALL },
             };
-            let command = command(rng, lines, &mix);
-            let other = match (command, differ) {
-                (Command::Write { size, value, .. }, Differ::Data { .. }) => {
-                    other_value(rng, size, value)
-                }
-                (Command::Write { value, .. }, Differ::OneByte { .. }) => value,
+            let drawn = single(rng, lines, &mix);
+            let other = match (drawn, differ) {
+                (
+                    Single::Command(Command::Write { size, value, .. })
+                    | Single::Unaligned(Unaligned::Write { size, value, .. }),
+                    Differ::Data { .. },
+                ) => other_value(rng, size, value),
+                (
+                    Single::Command(Command::Write { value, .. })
+                    | Single::Unaligned(Unaligned::Write { value, .. }),
+                    Differ::OneByte { .. },
+                ) => value,
                 _ => 0,
             };
-            Step::Direct { command, other }
+            match drawn {
+                Single::Command(command) => Step::Direct { command, other },
+                Single::Unaligned(access) => Step::Unaligned { access, other },
+            }
         }
     }
 }
@@ -248,6 +258,17 @@ impl Run {
                 plant::steered(&command, &mut answer, &mut self.record, lent);
                 answer
             }
+            Step::Unaligned { access, other } => {
+                let access = match *access {
+                    Unaligned::Write { size, address, .. } if second => {
+                        Unaligned::Write { size, address, value: *other }
+                    }
+                    access => access,
+                };
+                let mut answer = boundary::unaligned(&mut self.record, &access, lent);
+                plant::steered_unaligned(&access, &mut answer, &self.ext);
+                answer
+            }
             Step::View { address } => {
                 let number = boundary::view(&self.record, *address, &self.l2, &self.ext, &mut seen);
                 plant::steered_view(*address, number, &mut seen, &self.ext);
@@ -299,12 +320,17 @@ fn compare(case: &Case, met: &mut Met, reached: &mut usize) -> Result<(), Wrong>
                 kinds[usize::from(left.kind) % 4] += 1;
             }
         }
+        let parted = said.answer.value != other_said.answer.value;
+        if let (Step::Unaligned { access, .. }, 0) = (step, said.answer.number) {
+            met.two_runs.unaligned[usize::from(access.is_write())] += 1;
+            let one_byte = matches!(case.differ, Differ::OneByte { .. });
+            met.two_runs.unaligned_parted += u64::from(parted && one_byte);
+        }
         match case.differ {
             Differ::Data { .. } => met.two_runs.data += 1,
             Differ::OneByte { offset, .. } => {
                 met.two_runs.one_byte += 1;
-                let parted =
-                    said.answer.value != other_said.answer.value || said.seen != other_said.seen;
+                let parted = parted || said.seen != other_said.seen;
                 met.two_runs.parted += u64::from(parted);
                 same_answer_but(EXTERNAL_BASE + offset as u32, step, &said, &other_said)?;
                 same_state_but(offset, &one, &other, met)?;
@@ -358,7 +384,8 @@ fn differs(one: &[u8], other: &[u8], from: Option<u32>, x: u32) -> Option<usize>
 fn same_answer_but(x: u32, step: &Step, said: &Said, other: &Said) -> Result<(), Wrong> {
     let (ours, theirs) = (said.answer.value.to_le_bytes(), other.answer.value.to_le_bytes());
     let (read, rest) = match *step {
-        Step::Direct { command: Command::Read { size, address }, .. } => {
+        Step::Direct { command: Command::Read { size, address }, .. }
+        | Step::Unaligned { access: Unaligned::Read { size, address }, .. } => {
             let size = size.min(8) as usize;
             (differs(&ours[..size], &theirs[..size], Some(address), x), size)
         }
@@ -498,8 +525,10 @@ fn fewer_steps(found: &mut Found) {
 fn same_values(found: &mut Found) {
     for place in 0..found.case.steps.len() {
         found.change(|case| {
-            if let Some(Step::Direct { command: Command::Write { value, .. }, other }) =
-                case.steps.get_mut(place)
+            if let Some(
+                Step::Direct { command: Command::Write { value, .. }, other }
+                | Step::Unaligned { access: Unaligned::Write { value, .. }, other },
+            ) = case.steps.get_mut(place)
             {
                 *other = *value;
             }
@@ -558,6 +587,15 @@ fn words(found: &Found) -> String {
         text += &match step {
             Step::Fresh => format!("\n{place}: fresh start"),
             Step::View { address } => format!("\n{place}: view of {address:#x}"),
+            Step::Unaligned { access, other } => {
+                let words = unaligned_words(access);
+                let other = if access.is_write() {
+                    format!(", other value {other:#x}")
+                } else {
+                    String::new()
+                };
+                format!("\n{place}: {words}{other}")
+            }
             Step::Direct { command, other } => match command {
                 Command::Write { .. } => {
                     format!("\n{place}: {}, other value {other:#x}", command_words(command))
