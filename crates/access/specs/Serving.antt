@@ -20,7 +20,7 @@ use Rattle.model.specs.Homes.{memoryPart, putMemory, l2WayFor, fetchL2}
 use Rattle.model.specs.Access.{Access, access, cacheable, l1dBytes, evictL1d, fillL1d, putL1d, writeHome, homePart, useHit, readHit, readFilled, readEmptied, readThawed, readFrozen, readMiss, readAccess, writeHit, writeMiss, writeAccess}
 use Rattle.model.specs.Refusals.{sizeOk, multipleOf, placeOk, valueOk, accessDue, lowestDue, unless}
 use Rattle.model.specs.Calls.{Reply, reply, replied, commandDue, readDone, writeDone, accepted, step}
-use Rattle.model.specs.Reports.{Report, report, noReport, l1dLeft, fetchLeft, taken, bytesIn, memoryMoved, putMemoryMoved, homeMoved, writeHomeMoved, evictL1dMoved, fetchL2Moved, readEmptiedMoved, readThawedMoved, readFrozenMoved, readMissMoved, writeMissMoved, readMissReport, writeMissReport, readReport, writeReport}
+use Rattle.model.specs.Reports.{Report, report, noReport, l1dLeft, fetchLeft, taken, bytesIn, memoryMoved, putMemoryMoved, homeMoved, writeHomeMoved, evictL1dMoved, readEmptiedMoved, readThawedMoved, readFrozenMoved, readMissMoved, writeMissMoved, readMissReport, writeMissReport, readReport, writeReport}
 use Rattle.model.specs.Erased.{write-miss-read, write-miss-written, frozen-read, frozen-written, emptied-read, emptied-written, thawed-read, thawed-written}
 use Rattle.model.specs.declared.Left.the-variants.{NoWay}
 use Rattle.model.specs.declared.Line.{Line}
@@ -241,9 +241,14 @@ pub step-refused : (c : Command) (z : State) (n : ℕ) → n ≡ commandDue c z 
 unfolding step
 step-refused c z n e h = rw (← e, ne-eqb n 0 h) refl
 
+-- an access, whole: a read's reply, or a write's
+abbrev pub wholeAccess : Command → State → Reply
+wholeAccess c z =
+    answered c (readAccess (c .first) (c .second) z) (readReport (c .first) (c .second) z)
+    (writeAccess (c .second) (littleBytes (c .value) (c .first)) z) (writeReport (c .second) (littleBytes (c .value) (c .first)) z)
+
 pub step-accepted : (c : Command) (z : State) (n : ℕ) (x : Reply) → c .code < 2 → n ≡ commandDue c z → n ≡ 0 →
-    x ≡ answered c (readAccess (c .first) (c .second) z) (readReport (c .first) (c .second) z)
-    (writeAccess (c .second) (littleBytes (c .value) (c .first)) z) (writeReport (c .second) (littleBytes (c .value) (c .first)) z) →
+    x ≡ wholeAccess c z →
     (x ≡ step c z) × (x .number ≡ 0)
 unfolding step accepted readDone writeDone
 step-accepted c z n x h en e ex =
@@ -262,8 +267,7 @@ unfolding cacheable
 uncached-external r a h = bool (ltb a externalBase) (λ t. let k : cond (ltb a externalBase) true (marBit r a) ≡ true = rw t refl in false-true (sym h ∙ k)) (λ t. t)
 
 pub by-passing : (c : Command) (z : State) → cacheable (z .rec) (c .second) ≡ false →
-    passed c z ≡ answered c (readAccess (c .first) (c .second) z) (readReport (c .first) (c .second) z)
-    (writeAccess (c .second) (littleBytes (c .value) (c .first)) z) (writeReport (c .second) (littleBytes (c .value) (c .first)) z)
+    passed c z ≡ wholeAccess c z
 unfolding readAccess readReport writeAccess writeReport
 by-passing c z h = rw h refl
 
@@ -282,14 +286,12 @@ in-none z a w e h = rw (← e) (le-ltb w 2 h)
 
 pub by-hit : (c : Command) (z : State) (w : ℕ) → cacheable (z .rec) (c .second) ≡ true → w ≡ l1dWay z (c .second) → w < 2 →
     answered c (readHit (c .first) (c .second) z) noReport (writeHit (c .second) (littleBytes (c .value) (c .first)) z) noReport
-    ≡ answered c (readAccess (c .first) (c .second) z) (readReport (c .first) (c .second) z)
-    (writeAccess (c .second) (littleBytes (c .value) (c .first)) z) (writeReport (c .second) (littleBytes (c .value) (c .first)) z)
+    ≡ wholeAccess c z
 unfolding readAccess readReport writeAccess writeReport
 by-hit c z w h e l = rw (h, in-way z (c .second) w e l) refl
 
 pub by-miss : (c : Command) (z : State) (w : ℕ) → cacheable (z .rec) (c .second) ≡ true → w ≡ l1dWay z (c .second) → 2 ≤ w →
-    missed c z ≡ answered c (readAccess (c .first) (c .second) z) (readReport (c .first) (c .second) z)
-    (writeAccess (c .second) (littleBytes (c .value) (c .first)) z) (writeReport (c .second) (littleBytes (c .value) (c .first)) z)
+    missed c z ≡ wholeAccess c z
 unfolding readAccess readReport writeAccess writeReport
 by-miss c z w h e l = rw (h, in-none z (c .second) w e l) refl
 

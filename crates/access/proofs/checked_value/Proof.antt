@@ -1,3 +1,5 @@
+-- The value that is checked: a write's own, 0 for a read. Both ways out compute, the code's test being the
+-- definition's.
 use borrow.Author.Tests.{eq-eqb, ne-eqb}
 use mathlib.Core.Path.{refl}
 use Rattle.access.proofs.checked_value.Statement.{statement}
@@ -5,11 +7,9 @@ use Rattle.access.proofs.checked_value.Tie as tie
 use Rattle.access.proofs.checked_value.Reads as reads
 use Rattle.access.proofs.checked_value.Lts as lts
 
--- src/lib.rt:257:9
 returns : tie.Need-returns
 returns c = rw (eq-eqb ((c .before .before) .args .c .code) 1 ((c .if1) .taken)) refl
 
--- src/lib.rt:253:1
 returns-2 : tie.Need-returns-2
 returns-2 c = rw (ne-eqb ((c .before .before) .args .c .code) 1 ((c .if1) .left)) refl
 

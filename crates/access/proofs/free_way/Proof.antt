@@ -1,3 +1,5 @@
+-- A way of L1D is made free, or none is chosen. Why: where none is, the state stays; else the way is the victim that
+-- the definition names (contract of tags::l1d_victim), and it is evicted by `evict_l1d`, whose report is handed on.
 use Rattle.access.specs.Serving.{room-made}
 use Rattle.tags.specs.Words.{recordIn}
 use Rattle.model.specs.Records.{state}
@@ -17,34 +19,27 @@ use Rattle.access.proofs.free_way.Lts as lts
 use Rattle.l1d_writeback.proofs.evict_l1d.Reads as evict-l1d-reads
 use Rattle.tags.proofs.l1d_victim.Reads as l1d-victim-reads
 
--- src/lib.rt:146:9
 returns : tie.Need-returns
 returns c =
     let p-start = c .before .before .before .before .before in
     let a = p-start .args in let r = recordIn (a .tags .now) in let z = state r (a .l1d .now) (a .l2 .now) (a .ext .now) in
     (((omega arith, omega arith), λ q. false-true (sym q ∙ (c .if1) .taken)), cond-true (a .none) z (evictL1d (a .i) (l1dVictim (l1dSetAt r (a .i))) z) ((c .if1) .taken))
 
--- src/lib.rt:148:9
 l1d-victim-requires : tie.Need-l1d-victim-requires
 l1d-victim-requires c κs = search needs
 
--- src/lib.rt:149:5
 evict-l1d-requires : tie.Need-evict-l1d-requires
 evict-l1d-requires c κs = search needs
 
--- src/lib.rt:137:1
 same-length : tie.Need-same-length
 same-length c = search needs
 
--- src/lib.rt:137:1
 same-length-2 : tie.Need-same-length-2
 same-length-2 c = search needs
 
--- src/lib.rt:137:1
 same-length-3 : tie.Need-same-length-3
 same-length-3 c = search needs
 
--- src/lib.rt:137:1
 returns-2 : tie.Need-returns-2
 returns-2 c =
     let p-evict-l1d = c .before .before .before .before .before .before in

@@ -1,3 +1,5 @@
+-- An address is cacheable by its MAR bit, SRAM always. Why: one law of the definition for each of the three ways out
+-- (`cached-inside`, `cached-128`, `cached-129`), under the tests that the code made.
 use Rattle.access.specs.Serving.{cached-inside, cached-128, cached-129}
 use Rattle.tags.specs.Words.{recordIn}
 use mathlib.Core.Path.{_∙_}
@@ -10,31 +12,25 @@ use Rattle.geometry.proofs.is_external.Reads as is-external-reads
 use Rattle.tags.proofs.mar128_of.Reads as mar128-of-reads
 use Rattle.tags.proofs.mar129_of.Reads as mar129-of-reads
 
--- src/lib.rt:302:9
 mar128-of-requires : tie.Need-mar128-of-requires
 mar128-of-requires c κs = search needs
 
--- src/lib.rt:303:9
 mar129-of-requires : tie.Need-mar129-of-requires
 mar129-of-requires c κs = search needs
 
--- src/lib.rt:304:9
 is-external-requires : tie.Need-is-external-requires
 is-external-requires c κs = search needs
 
--- src/lib.rt:305:9
 returns : tie.Need-returns
 returns c =
     let p-start = c .before .before .before .before .before in
     cached-inside (recordIn (p-start .args .tags .now)) (p-start .args .a) ((c .before .is-external) .ensures ∙ (c .if1) .taken)
 
--- src/lib.rt:308:9
 returns-2 : tie.Need-returns-2
 returns-2 c =
     let p-mar128-of = c .before .before .before .before in let p-start = p-mar128-of .before .before in
     cached-128 (recordIn (p-start .args .tags .now)) (p-start .args .a) ((p-mar128-of .mar128-of) .result) ((c .before .before .is-external) .ensures ∙ (c .before .if1) .left) ((c .if2) .taken) ((p-mar128-of .mar128-of) .ensures)
 
--- src/lib.rt:298:1
 returns-3 : tie.Need-returns-3
 returns-3 c =
     let p-mar129-of = c .before .before .before in let p-start = p-mar129-of .before .before .before in

@@ -1,3 +1,4 @@
+-- The answer as C is given it, field by field: both enums by `left_for_c`, the rest as it stands.
 use borrow.Author.Needs.{needs}
 use Rattle.c_answers.proofs.answer_for_c.Statement.{statement}
 use Rattle.c_answers.proofs.answer_for_c.Tie as tie
@@ -5,15 +6,12 @@ use Rattle.c_answers.proofs.answer_for_c.Reads as reads
 use Rattle.c_answers.proofs.answer_for_c.Lts as lts
 use Rattle.c_answers.proofs.left_for_c.Reads as left-for-c-reads
 
--- src/lib.rt:59:9
 left-for-c-requires : tie.Need-left-for-c-requires
 left-for-c-requires c κs = search needs
 
--- src/lib.rt:60:9
 left-for-c-requires-2 : tie.Need-left-for-c-requires-2
 left-for-c-requires-2 c κs = search needs
 
--- src/lib.rt:54:1
 returns : tie.Need-returns
 returns c =
     let p-left-for-c = c .before in let x = (p-left-for-c .before) .args .x in

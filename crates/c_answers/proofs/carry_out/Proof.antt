@@ -1,3 +1,5 @@
+-- A command with its answer for C. Why: `tells` joins the contract of calls::carry_out to that of `answer_for_c`;
+-- the number is the same in both answers, so a refused command leaves the words as calls says.
 use Rattle.c_answers.specs.Told.{tells, refuses}
 use mathlib.Core.Path.{_∙_}
 use borrow.Author.Needs.{needs}
@@ -8,31 +10,24 @@ use Rattle.c_answers.proofs.carry_out.Lts as lts
 use Rattle.c_answers.proofs.answer_for_c.Reads as answer-for-c-reads
 use Rattle.calls.proofs.carry_out.Reads as carry-out-reads
 
--- src/lib.rt:88:9
 carry-out-requires : tie.Need-carry-out-requires
 carry-out-requires c κs = search needs
 
--- src/lib.rt:89:5
 answer-for-c-requires : tie.Need-answer-for-c-requires
 answer-for-c-requires c κs = search needs
 
--- src/lib.rt:73:1
 same-length : tie.Need-same-length
 same-length c = search needs
 
--- src/lib.rt:73:1
 same-length-2 : tie.Need-same-length-2
 same-length-2 c = search needs
 
--- src/lib.rt:73:1
 same-length-3 : tie.Need-same-length-3
 same-length-3 c = search needs
 
--- src/lib.rt:73:1
 same-length-4 : tie.Need-same-length-4
 same-length-4 c = search needs
 
--- src/lib.rt:73:1
 returns : tie.Need-returns
 returns c =
     let p-carry-out = c .before .before .before .before .before .before .before .before .before in

@@ -1,3 +1,4 @@
+-- A fresh start with its answer for C: `tells` joins the contract of calls::fresh to that of `answer_for_c`.
 use Rattle.c_answers.specs.Told.{tells}
 use borrow.Author.Needs.{needs}
 use Rattle.c_answers.proofs.fresh.Statement.{statement}
@@ -7,31 +8,24 @@ use Rattle.c_answers.proofs.fresh.Lts as lts
 use Rattle.c_answers.proofs.answer_for_c.Reads as answer-for-c-reads
 use Rattle.calls.proofs.fresh.Reads as fresh-reads
 
--- src/lib.rt:98:9
 fresh-requires : tie.Need-fresh-requires
 fresh-requires c κs = search needs
 
--- src/lib.rt:99:5
 answer-for-c-requires : tie.Need-answer-for-c-requires
 answer-for-c-requires c κs = search needs
 
--- src/lib.rt:93:1
 same-length : tie.Need-same-length
 same-length c = search needs
 
--- src/lib.rt:93:1
 same-length-2 : tie.Need-same-length-2
 same-length-2 c = search needs
 
--- src/lib.rt:93:1
 same-length-3 : tie.Need-same-length-3
 same-length-3 c = search needs
 
--- src/lib.rt:93:1
 same-length-4 : tie.Need-same-length-4
 same-length-4 c = search needs
 
--- src/lib.rt:93:1
 returns : tie.Need-returns
 returns c =
     let p-fresh = c .before .before .before .before .before .before .before .before .before in

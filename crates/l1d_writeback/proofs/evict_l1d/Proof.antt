@@ -1,3 +1,7 @@
+-- A line leaves L1D: written back if dirty, the way emptied, and told. Why: the test of `goes_home` is the
+-- definition's two tests in one. Where it holds, `put_home` is the writeback (`back-dirty`); else nothing is written
+-- (`back-none`). Then the empty line is put there (`evicted`), and what left is told by the line that was read first
+-- (`gone-..`).
 use Rattle.l1d_writeback.specs.Going.{back-none, back-dirty, evicted, gone-dirty, gone-clean, gone-none}
 use Rattle.tags.specs.Words.{recordIn}
 use Rattle.model.specs.Records.{state}
@@ -15,46 +19,36 @@ use Rattle.tags.proofs.l1d_line.Reads as l1d-line-reads
 use Rattle.tags.proofs.l1d_put.Reads as l1d-put-reads
 use Rattle.geometry.proofs.left_by.Reads as left-by-reads
 
--- src/lib.rt:67:9
 l1d-line-requires : tie.Need-l1d-line-requires
 l1d-line-requires c κs = search needs
 
--- src/lib.rt:68:8
 goes-home-requires : tie.Need-goes-home-requires
 goes-home-requires c κs = search needs
 
--- src/lib.rt:69:47
 data-at-requires : tie.Need-data-at-requires
 data-at-requires c κs = search needs
 
--- src/lib.rt:69:9
 put-home-requires : tie.Need-put-home-requires
 put-home-requires c κs = search needs
 
--- src/lib.rt:70:35
 empty-line-requires : tie.Need-empty-line-requires
 empty-line-requires c κs = search needs
 
--- src/lib.rt:70:9
 l1d-put-requires : tie.Need-l1d-put-requires
 l1d-put-requires c κs =
     let p-put-home = c .before .before .before .before .before .before .before .before in
     let p-start = p-put-home .before .before .before .before .before .before .before .before .before .before .before .before .before in
     (p-start .pre .0, (p-put-home .put-home) .kept .0 ∙ p-start .pre .1 .0)
 
--- src/lib.rt:71:9
 same-length : tie.Need-same-length
 same-length c = search needs
 
--- src/lib.rt:71:9
 same-length-2 : tie.Need-same-length-2
 same-length-2 c = search needs
 
--- src/lib.rt:71:9
 same-length-3 : tie.Need-same-length-3
 same-length-3 c = search needs
 
--- src/lib.rt:71:9
 returns : tie.Need-returns
 returns c =
     let p-empty-line = c .before .before .before in
@@ -70,19 +64,15 @@ returns c =
       gone-dirty z (a .i) (a .w) (d .result) (p .result) (x .result) _ (x .ensures) h (d .ensures .0) (p .ensures .1) refl,
     )
 
--- src/lib.rt:73:31
 empty-line-requires-2 : tie.Need-empty-line-requires-2
 empty-line-requires-2 c κs = search needs
 
--- src/lib.rt:73:5
 l1d-put-requires-2 : tie.Need-l1d-put-requires-2
 l1d-put-requires-2 c κs = search needs
 
--- src/lib.rt:61:1
 same-length-4 : tie.Need-same-length-4
 same-length-4 c = search needs
 
--- src/lib.rt:61:1
 returns-2 : tie.Need-returns-2
 returns-2 c =
     let p-l1d-put2 = c .before .before .before in let p-empty-line2 = p-l1d-put2 .before in
@@ -95,11 +85,9 @@ returns-2 c =
       gone-clean z (a .i) (a .w) (x .result) _ (x .ensures) h (c .if2 .taken) refl,
     )
 
--- src/lib.rt:101:1
 same-length-5 : tie.Need-same-length-5
 same-length-5 c = search needs
 
--- src/lib.rt:101:1
 returns-3 : tie.Need-returns-3
 returns-3 c =
     let p-l1d-put2 = c .before .before .before in let p-empty-line2 = p-l1d-put2 .before in

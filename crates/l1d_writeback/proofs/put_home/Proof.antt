@@ -1,3 +1,6 @@
+-- The 64 bytes of a line go to its home, and how many of them to external memory is told. Why: one law for each of
+-- the four homes: SRAM, external memory in mode 0, the L2 line that has it, and none, where L2 ought to have it and
+-- has not.
 use Rattle.l1d_writeback.specs.Going.{put-sram, put-external, put-nowhere, put-inside, told-sram, told-external, told-l2}
 use Rattle.tags.specs.Words.{recordIn}
 use Rattle.model.specs.Bytes.{part}
@@ -22,23 +25,18 @@ use Rattle.tags.proofs.l2_find.Reads as l2-find-reads
 use Rattle.tags.proofs.l2_line.Reads as l2-line-reads
 use Rattle.tags.proofs.l2_put.Reads as l2-put-reads
 
--- src/lib.rt:19:9
 is-external-requires : tie.Need-is-external-requires
 is-external-requires c κs = search needs
 
--- src/lib.rt:20:28
 place-of-requires : tie.Need-place-of-requires
 place-of-requires c κs = search needs
 
--- src/lib.rt:20:9
 move64-requires : tie.Need-move64-requires
 move64-requires c κs = search needs
 
--- src/lib.rt:21:9
 same-length : tie.Need-same-length
 same-length c = search needs
 
--- src/lib.rt:21:9
 returns : tie.Need-returns
 returns c =
     let p-place-of = c .before .before .before in let p-if1 = p-place-of .before .before in
@@ -50,19 +48,15 @@ returns c =
       (told-sram (state r (a .l1d .now) (a .l2 .now) (a .ext .now)) bs (a .a) o, omega arith),
     )
 
--- src/lib.rt:24:29
 external-place-requires : tie.Need-external-place-requires
 external-place-requires c κs = search needs
 
--- src/lib.rt:24:9
 move64-requires-2 : tie.Need-move64-requires-2
 move64-requires-2 c κs = search needs
 
--- src/lib.rt:25:9
 same-length-2 : tie.Need-same-length-2
 same-length-2 c = search needs
 
--- src/lib.rt:25:9
 returns-2 : tie.Need-returns-2
 returns-2 c =
     let p-external-place = c .before .before .before in let p-if2 = p-external-place .before .before in
@@ -79,23 +73,18 @@ returns-2 c =
       ),
     )
 
--- src/lib.rt:27:9
 set-of-requires : tie.Need-set-of-requires
 set-of-requires c κs = search needs
 
--- src/lib.rt:28:36
 line-of-requires : tie.Need-line-of-requires
 line-of-requires c κs = search needs
 
--- src/lib.rt:28:9
 l2-find-requires : tie.Need-l2-find-requires
 l2-find-requires c κs = search needs
 
--- src/lib.rt:30:9
 same-length-3 : tie.Need-same-length-3
 same-length-3 c = search needs
 
--- src/lib.rt:30:9
 returns-3 : tie.Need-returns-3
 returns-3 c =
     let p-set-of = c .before .before .before .before in let p-if2 = p-set-of .before in let p-if1 = p-if2 .before in
@@ -106,43 +95,33 @@ returns-3 c =
       (told-l2 (state r (a .l1d .now) (a .l2 .now) (a .ext .now)) bs (a .a) (a .sets) ((p-is-external .is-external) .ensures ∙ (p-if1 .if1) .left) (h .1 .1 .1) ((p-if2 .if2) .left), omega arith),
     )
 
--- src/lib.rt:32:24
 data-at-requires : tie.Need-data-at-requires
 data-at-requires c κs = search needs
 
--- src/lib.rt:32:56
 offset-of-requires : tie.Need-offset-of-requires
 offset-of-requires c κs = search needs
 
--- src/lib.rt:32:24
 add-move64 : tie.Need-add-move64
 add-move64 c = search needs
 
--- src/lib.rt:32:5
 move64-requires-3 : tie.Need-move64-requires-3
 move64-requires-3 c κs = search needs
 
--- src/lib.rt:33:9
 l2-line-requires : tie.Need-l2-line-requires
 l2-line-requires c κs = search needs
 
--- src/lib.rt:34:30
 line-at-requires : tie.Need-line-at-requires
 line-at-requires c κs = search needs
 
--- src/lib.rt:34:5
 l2-put-requires : tie.Need-l2-put-requires
 l2-put-requires c κs = search needs
 
--- src/lib.rt:14:1
 same-length-4 : tie.Need-same-length-4
 same-length-4 c = search needs
 
--- src/lib.rt:14:1
 same-length-5 : tie.Need-same-length-5
 same-length-5 c = search needs
 
--- src/lib.rt:14:1
 returns-4 : tie.Need-returns-4
 returns-4 c =
     let p-line-at = c .before .before .before in let p-l2-line = p-line-at .before .before in

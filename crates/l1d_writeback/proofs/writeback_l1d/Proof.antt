@@ -1,3 +1,5 @@
+-- A dirty line is written back and stays. Why: where `goes_home` does not hold the state is as it was (`back-none`),
+-- else the contract of `put_home` is the writeback (`back-dirty`).
 use Rattle.l1d_writeback.specs.Going.{back-none, back-dirty}
 use Rattle.tags.specs.Words.{recordIn}
 use Rattle.model.specs.Records.{state}
@@ -13,46 +15,36 @@ use Rattle.l1d_writeback.proofs.put_home.Reads as put-home-reads
 use Rattle.geometry.proofs.L1d.data_at.Reads as data-at-reads
 use Rattle.tags.proofs.l1d_line.Reads as l1d-line-reads
 
--- src/lib.rt:53:9
 l1d-line-requires : tie.Need-l1d-line-requires
 l1d-line-requires c κs = search needs
 
--- src/lib.rt:54:9
 goes-home-requires : tie.Need-goes-home-requires
 goes-home-requires c κs = search needs
 
--- src/lib.rt:55:9
 same-length : tie.Need-same-length
 same-length c = search needs
 
--- src/lib.rt:55:9
 returns : tie.Need-returns
 returns c =
     let p-start = c .before .before .before .before .before .before .before .before in
     let a = p-start .args in let z = state (recordIn (a .tags .now)) (a .l1d .now) (a .l2 .now) (a .ext .now) in
     back-none z (a .i) (a .w) ((c .before .before .l1d-line) .result) ((c .before .before .l1d-line) .ensures) (sym ((c .before .goes-home) .ensures) ∙ not-true ((c .before .goes-home) .result) ((c .if1) .taken))
 
--- src/lib.rt:57:43
 data-at-requires : tie.Need-data-at-requires
 data-at-requires c κs = search needs
 
--- src/lib.rt:57:5
 put-home-requires : tie.Need-put-home-requires
 put-home-requires c κs = search needs
 
--- src/lib.rt:47:1
 same-length-2 : tie.Need-same-length-2
 same-length-2 c = search needs
 
--- src/lib.rt:47:1
 same-length-3 : tie.Need-same-length-3
 same-length-3 c = search needs
 
--- src/lib.rt:47:1
 same-length-4 : tie.Need-same-length-4
 same-length-4 c = search needs
 
--- src/lib.rt:47:1
 returns-2 : tie.Need-returns-2
 returns-2 c =
     let p-put-home = c .before .before .before .before .before .before in

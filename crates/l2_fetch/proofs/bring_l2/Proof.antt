@@ -1,3 +1,6 @@
+-- A line comes into an L2 way: what is there leaves, 128 bytes are fetched, the way gets the line clean and is used.
+-- Why: each call's contract is one step of `bringL2`, in its order (`brought`); that the line there leaves changes
+-- no size (`same-evict-l2`), so that the place of the way's bytes stays.
 use Rattle.l2_fetch.specs.Fetching.{brought}
 use Rattle.tags.specs.Words.{recordIn}
 use Rattle.model.specs.Records.{state}
@@ -17,27 +20,21 @@ use Rattle.geometry.proofs.line_at.Reads as line-at-reads
 use Rattle.tags.proofs.l2_put.Reads as l2-put-reads
 use Rattle.tags.proofs.l2_use.Reads as l2-use-reads
 
--- src/lib.rt:42:5
 evict-l2-requires : tie.Need-evict-l2-requires
 evict-l2-requires c κs = search needs
 
--- src/lib.rt:43:25
 data-at-requires : tie.Need-data-at-requires
 data-at-requires c κs = search needs
 
--- src/lib.rt:43:61
 external-place-requires : tie.Need-external-place-requires
 external-place-requires c κs = search needs
 
--- src/lib.rt:43:5
 move128-requires : tie.Need-move128-requires
 move128-requires c κs = search needs
 
--- src/lib.rt:44:30
 line-at-requires : tie.Need-line-at-requires
 line-at-requires c κs = search needs
 
--- src/lib.rt:44:5
 l2-put-requires : tie.Need-l2-put-requires
 l2-put-requires c κs =
     let p-move128 = c .before .before .before .before in let p-external-place = p-move128 .before in
@@ -46,7 +43,6 @@ l2-put-requires c κs =
     let p-start = p-evict-l2 .before .before .before .before .before .before .before .before in
     let k = p-start .pre in (k .0, (p-evict-l2 .evict-l2) .kept .0 ∙ k .1 .0)
 
--- src/lib.rt:45:5
 l2-use-requires : tie.Need-l2-use-requires
 l2-use-requires c κs =
     let p-l2-put = c .before .before .before in
@@ -55,19 +51,15 @@ l2-use-requires c κs =
     let a = p-start .args in let k = p-start .pre in let r = recordIn (a .tags .now) in let z = state r (a .l1d .now) (a .l2 .now) (a .ext .now) in
     let g = (p-evict-l2 .evict-l2) in (k .0, (p-l2-put .l2-put) .kept .0 ∙ g .kept .0 ∙ k .1 .0)
 
--- src/lib.rt:36:1
 same-length : tie.Need-same-length
 same-length c = search needs
 
--- src/lib.rt:36:1
 same-length-2 : tie.Need-same-length-2
 same-length-2 c = search needs
 
--- src/lib.rt:36:1
 same-length-3 : tie.Need-same-length-3
 same-length-3 c = search needs
 
--- src/lib.rt:36:1
 returns : tie.Need-returns
 returns c =
     let p-l2-put = c .before .before .before .before .before .before in let p-line-at = p-l2-put .before in

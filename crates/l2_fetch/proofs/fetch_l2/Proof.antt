@@ -1,3 +1,6 @@
+-- L2 finds the line of an address or fetches it; the server, the way and the report are told. Why: four ways out, as
+-- the definition has four cases: SRAM, mode 0, found, not found; one law each for the state, the server and the
+-- report.
 use mathlib.Core.Bool.{true, false}
 use Rattle.model.specs.declared.Left.the-variants.{NoWay}
 use Rattle.l2_fetch.specs.Fetching.{told-away, told-found, told-brought, fetch-none, fetch-found, fetch-brought, serves-sram, serves-external, serves-found, serves-brought}
@@ -20,11 +23,9 @@ use Rattle.tags.proofs.l2_victim.Reads as l2-victim-reads
 use Rattle.geometry.proofs.external_place.Reads as external-place-reads
 use Rattle.memory.proofs.held.Reads as held-reads
 
--- src/lib.rt:55:9
 is-external-requires : tie.Need-is-external-requires
 is-external-requires c κs = search needs
 
--- src/lib.rt:56:9
 returns : tie.Need-returns
 returns c =
     let p-start = c .before .before .before .before .before .before in
@@ -32,7 +33,6 @@ returns c =
     let t = (c .before .is-external) .ensures ∙ (c .if1) .taken in let o = home-sram r (a .a) t in
     (serves-sram z (a .a) t, (fetch-none z (a .a) o, told-away z (a .a) (record { homed = false; set = 0; way = 0; server = 2; left = NoWay; read = 0; written = 0 }) o refl refl refl))
 
--- src/lib.rt:64:9
 returns-2 : tie.Need-returns-2
 returns-2 c =
     let p-start = c .before .before .before .before .before .before .before in
@@ -41,27 +41,21 @@ returns-2 c =
     let o = home-external r (a .a) (a .sets) t (k .1 .1 .1) ((c .if2) .taken) in
     (serves-external z (a .a) (a .sets) t (k .1 .1 .1) ((c .if2) .taken), (fetch-none z (a .a) o, told-away z (a .a) (record { homed = false; set = 0; way = 0; server = 4; left = NoWay; read = 0; written = 0 }) o refl refl refl))
 
--- src/lib.rt:71:9
 set-of-requires : tie.Need-set-of-requires
 set-of-requires c κs = search needs
 
--- src/lib.rt:72:9
 line-of-requires : tie.Need-line-of-requires
 line-of-requires c κs = search needs
 
--- src/lib.rt:73:9
 l2-find-requires : tie.Need-l2-find-requires
 l2-find-requires c κs = search needs
 
--- src/lib.rt:75:9
 l2-use-requires : tie.Need-l2-use-requires
 l2-use-requires c κs = search needs
 
--- src/lib.rt:76:9
 same-length : tie.Need-same-length
 same-length c = search needs
 
--- src/lib.rt:76:9
 returns-3 : tie.Need-returns-3
 returns-3 c =
     let p-if3 = c .before .before .before .before in let p-l2-find = p-if3 .before in
@@ -78,39 +72,30 @@ returns-3 c =
       ),
     )
 
--- src/lib.rt:83:9
 l2-victim-requires : tie.Need-l2-victim-requires
 l2-victim-requires c κs = search needs
 
--- src/lib.rt:84:5
 bring-l2-requires : tie.Need-bring-l2-requires
 bring-l2-requires c κs = search needs
 
--- src/lib.rt:124:31
 external-place-requires : tie.Need-external-place-requires
 external-place-requires c κs = search needs
 
--- src/lib.rt:124:60
 cast-held : tie.Need-cast-held
 cast-held c = search needs
 
--- src/lib.rt:124:9
 held-requires : tie.Need-held-requires
 held-requires c κs = search needs
 
--- src/lib.rt:49:1
 same-length-2 : tie.Need-same-length-2
 same-length-2 c = search needs
 
--- src/lib.rt:49:1
 same-length-3 : tie.Need-same-length-3
 same-length-3 c = search needs
 
--- src/lib.rt:49:1
 same-length-4 : tie.Need-same-length-4
 same-length-4 c = search needs
 
--- src/lib.rt:49:1
 returns-4 : tie.Need-returns-4
 returns-4 c =
     let p-external-place = c .before in

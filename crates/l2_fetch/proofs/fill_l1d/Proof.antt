@@ -1,3 +1,6 @@
+-- A way of L1D gets the line of an address, clean, from its home, and how many bytes came from external memory is
+-- told. Why: the three homes, L2, external memory and SRAM, have one law each for the state (`filled-..`) and for
+-- the count (`moved-..`).
 use Rattle.model.specs.Lines.{l1dLine}
 use Rattle.model.specs.Records.{state}
 use Rattle.model.specs.Memories.{externalBase}
@@ -24,47 +27,36 @@ use Rattle.geometry.proofs.place_of.Reads as place-of-reads
 use Rattle.tags.proofs.l1d_put.Reads as l1d-put-reads
 use Rattle.memory.proofs.held.Reads as held-reads
 
--- src/lib.rt:161:9
 line-of-requires : tie.Need-line-of-requires
 line-of-requires c κs = search needs
 
--- src/lib.rt:162:9
 data-at-requires : tie.Need-data-at-requires
 data-at-requires c κs = search needs
 
--- src/lib.rt:163:31
 line-at-requires : tie.Need-line-at-requires
 line-at-requires c κs = search needs
 
--- src/lib.rt:163:5
 l1d-put-requires : tie.Need-l1d-put-requires
 l1d-put-requires c κs = search needs
 
--- src/lib.rt:165:37
 data-at-requires-2 : tie.Need-data-at-requires-2
 data-at-requires-2 c κs = search needs
 
--- src/lib.rt:165:77
 offset-of-requires : tie.Need-offset-of-requires
 offset-of-requires c κs = search needs
 
--- src/lib.rt:165:37
 add-move64 : tie.Need-add-move64
 add-move64 c = search needs
 
--- src/lib.rt:165:9
 move64-requires : tie.Need-move64-requires
 move64-requires c κs = search needs
 
--- src/lib.rt:166:9
 same-length : tie.Need-same-length
 same-length c = search needs
 
--- src/lib.rt:166:9
 same-length-2 : tie.Need-same-length-2
 same-length-2 c = search needs
 
--- src/lib.rt:166:9
 returns : tie.Need-returns
 returns c =
     let p-offset-of = c .before .before .before in let p-data-at2 = p-offset-of .before in
@@ -78,35 +70,27 @@ returns c =
       (moved-homed (a .h) (a .a) (l1dLine (a .a)) 64 (state r (a .l1d .now) (a .l2 .now) (a .ext .now)) (k .1 .1) ((p-if1 .if1) .taken), omega arith),
     )
 
--- src/lib.rt:168:8
 is-external-requires : tie.Need-is-external-requires
 is-external-requires c κs = search needs
 
--- src/lib.rt:169:38
 external-place-requires : tie.Need-external-place-requires
 external-place-requires c κs = search needs
 
--- src/lib.rt:169:9
 move64-requires-2 : tie.Need-move64-requires-2
 move64-requires-2 c κs = search needs
 
--- src/lib.rt:175:40
 cast-held : tie.Need-cast-held
 cast-held c = search needs
 
--- src/lib.rt:175:9
 held-requires : tie.Need-held-requires
 held-requires c κs = search needs
 
--- src/lib.rt:170:9
 same-length-3 : tie.Need-same-length-3
 same-length-3 c = search needs
 
--- src/lib.rt:170:9
 same-length-4 : tie.Need-same-length-4
 same-length-4 c = search needs
 
--- src/lib.rt:170:9
 returns-2 : tie.Need-returns-2
 returns-2 c =
     let p-move642 = c .before .before .before in let p-external-place = p-move642 .before .before in
@@ -126,23 +110,18 @@ returns-2 c =
       ),
     )
 
--- src/lib.rt:172:33
 place-of-requires : tie.Need-place-of-requires
 place-of-requires c κs = search needs
 
--- src/lib.rt:172:5
 move64-requires-3 : tie.Need-move64-requires-3
 move64-requires-3 c κs = search needs
 
--- src/lib.rt:154:1
 same-length-5 : tie.Need-same-length-5
 same-length-5 c = search needs
 
--- src/lib.rt:154:1
 same-length-6 : tie.Need-same-length-6
 same-length-6 c = search needs
 
--- src/lib.rt:154:1
 returns-3 : tie.Need-returns-3
 returns-3 c =
     let p-place-of = c .before .before .before in let p-if2 = p-place-of .before .before in

@@ -1,3 +1,5 @@
+-- The bytes of a write miss go to the home, and how many of them to external memory is told. Why: as for `fill_l1d`,
+-- one law for each of the three homes (`wrote-..`, `moved-..`).
 use Rattle.model.specs.Records.{state}
 use native.Mathlib.Omega.{arith}
 use mathlib.Core.Bool.{not}
@@ -21,43 +23,33 @@ use Rattle.tags.proofs.l2_line.Reads as l2-line-reads
 use Rattle.tags.proofs.l2_put.Reads as l2-put-reads
 use Rattle.memory.proofs.held.Reads as held-reads
 
--- src/lib.rt:184:27
 data-at-requires : tie.Need-data-at-requires
 data-at-requires c κs = search needs
 
--- src/lib.rt:184:67
 offset-of-requires : tie.Need-offset-of-requires
 offset-of-requires c κs = search needs
 
--- src/lib.rt:184:27
 add-store : tie.Need-add-store
 add-store c = search needs
 
--- src/lib.rt:184:9
 store-requires : tie.Need-store-requires
 store-requires c κs = search needs
 
--- src/lib.rt:185:13
 l2-line-requires : tie.Need-l2-line-requires
 l2-line-requires c κs = search needs
 
--- src/lib.rt:186:42
 line-at-requires : tie.Need-line-at-requires
 line-at-requires c κs = search needs
 
--- src/lib.rt:186:9
 l2-put-requires : tie.Need-l2-put-requires
 l2-put-requires c κs = search needs
 
--- src/lib.rt:187:9
 same-length : tie.Need-same-length
 same-length c = search needs
 
--- src/lib.rt:187:9
 same-length-2 : tie.Need-same-length-2
 same-length-2 c = search needs
 
--- src/lib.rt:187:9
 returns : tie.Need-returns
 returns c =
     let p-line-at = c .before .before .before in let p-l2-line = p-line-at .before .before in
@@ -71,27 +63,21 @@ returns c =
       (λ d. moved-homed (a .h) (a .a) (a .a) (a .n) (state r d (a .l2 .now) (a .ext .now)) (k .1 .1) ((p-if1 .if1) .taken), omega arith),
     )
 
--- src/lib.rt:189:8
 is-external-requires : tie.Need-is-external-requires
 is-external-requires c κs = search needs
 
--- src/lib.rt:190:28
 external-place-requires : tie.Need-external-place-requires
 external-place-requires c κs = search needs
 
--- src/lib.rt:253:13
 held-requires : tie.Need-held-requires
 held-requires c κs = search needs
 
--- src/lib.rt:190:9
 store-requires-2 : tie.Need-store-requires-2
 store-requires-2 c κs = search needs
 
--- src/lib.rt:191:9
 same-length-3 : tie.Need-same-length-3
 same-length-3 c = search needs
 
--- src/lib.rt:191:9
 returns-2 : tie.Need-returns-2
 returns-2 c =
     let p-store2 = c .before .before in let p-held = p-store2 .before .before in
@@ -109,19 +95,15 @@ returns-2 c =
       ),
     )
 
--- src/lib.rt:193:23
 place-of-requires : tie.Need-place-of-requires
 place-of-requires c κs = search needs
 
--- src/lib.rt:193:5
 store-requires-3 : tie.Need-store-requires-3
 store-requires-3 c κs = search needs
 
--- src/lib.rt:176:1
 same-length-4 : tie.Need-same-length-4
 same-length-4 c = search needs
 
--- src/lib.rt:176:1
 returns-3 : tie.Need-returns-3
 returns-3 c =
     let p-place-of = c .before .before .before in let p-if2 = p-place-of .before .before in

@@ -1,3 +1,5 @@
+-- An L2 line leaves: written back with its halves, then the way emptied. The contract of `writeback_l2` is the first
+-- step and its report the whole report; the empty line put there is the second.
 use Rattle.l2_writeback.specs.Halves.{evicted}
 use Rattle.tags.specs.Words.{recordIn}
 use Rattle.model.specs.Records.{state}
@@ -10,31 +12,24 @@ use Rattle.l2_writeback.proofs.writeback_l2.Reads as writeback-l2-reads
 use Rattle.geometry.proofs.empty_line.Reads as empty-line-reads
 use Rattle.tags.proofs.l2_put.Reads as l2-put-reads
 
--- src/lib.rt:76:5
 writeback-l2-requires : tie.Need-writeback-l2-requires
 writeback-l2-requires c κs = search needs
 
--- src/lib.rt:77:30
 empty-line-requires : tie.Need-empty-line-requires
 empty-line-requires c κs = search needs
 
--- src/lib.rt:77:5
 l2-put-requires : tie.Need-l2-put-requires
 l2-put-requires c κs = search needs
 
--- src/lib.rt:70:1
 same-length : tie.Need-same-length
 same-length c = search needs
 
--- src/lib.rt:70:1
 same-length-2 : tie.Need-same-length-2
 same-length-2 c = search needs
 
--- src/lib.rt:70:1
 same-length-3 : tie.Need-same-length-3
 same-length-3 c = search needs
 
--- src/lib.rt:70:1
 returns : tie.Need-returns
 returns c =
     let p-empty-line = c .before .before .before in

@@ -1,3 +1,5 @@
+-- An L2 line goes out if it is valid and dirty, and is clean then; how many bytes went out is told. Why: one law for
+-- each of the three ways out (`out-none`, `out-clean`, `out-dirty`, with `told-..` for the count).
 use Rattle.l2_writeback.specs.Halves.{out-none, out-clean, out-dirty, told-none, told-clean, told-dirty}
 use Rattle.tags.specs.Words.{recordIn}
 use Rattle.model.specs.Records.{state}
@@ -15,15 +17,12 @@ use Rattle.geometry.proofs.line_at.Reads as line-at-reads
 use Rattle.tags.proofs.l2_line.Reads as l2-line-reads
 use Rattle.tags.proofs.l2_put.Reads as l2-put-reads
 
--- src/lib.rt:42:9
 l2-line-requires : tie.Need-l2-line-requires
 l2-line-requires c κs = search needs
 
--- src/lib.rt:44:9
 same-length : tie.Need-same-length
 same-length c = search needs
 
--- src/lib.rt:44:9
 returns : tie.Need-returns
 returns c =
     let p-start = c .before .before .before .before .before .before .before in
@@ -33,11 +32,9 @@ returns c =
       (λ d. told-none (state r d (a .l2 .now) (a .ext .now)) (a .t) (a .v) (x .result) (x .ensures) n, omega arith),
     )
 
--- src/lib.rt:47:9
 same-length-2 : tie.Need-same-length-2
 same-length-2 c = search needs
 
--- src/lib.rt:47:9
 returns-2 : tie.Need-returns-2
 returns-2 c =
     let p-l2-line = c .before .before .before .before in
@@ -49,35 +46,27 @@ returns-2 c =
       (λ d. told-clean (state r d (a .l2 .now) (a .ext .now)) (a .t) (a .v) (x .result) (x .ensures) k n, omega arith),
     )
 
--- src/lib.rt:49:26
 external-place-requires : tie.Need-external-place-requires
 external-place-requires c κs = search needs
 
--- src/lib.rt:49:63
 data-at-requires : tie.Need-data-at-requires
 data-at-requires c κs = search needs
 
--- src/lib.rt:49:5
 move128-requires : tie.Need-move128-requires
 move128-requires c κs = search needs
 
--- src/lib.rt:50:30
 line-at-requires : tie.Need-line-at-requires
 line-at-requires c κs = search needs
 
--- src/lib.rt:50:5
 l2-put-requires : tie.Need-l2-put-requires
 l2-put-requires c κs = search needs
 
--- src/lib.rt:36:1
 same-length-3 : tie.Need-same-length-3
 same-length-3 c = search needs
 
--- src/lib.rt:36:1
 same-length-4 : tie.Need-same-length-4
 same-length-4 c = search needs
 
--- src/lib.rt:36:1
 returns-3 : tie.Need-returns-3
 returns-3 c =
     let p-line-at = c .before .before .before in let p-move128 = p-line-at .before .before .before .before in

@@ -1,3 +1,6 @@
+-- A valid L2 line takes in its halves and goes out; an invalid one does nothing. Why: the contracts of `take_half`
+-- and `take_upper` are the two steps of `takeHalves` (`back-all`), which change no size (`same-take-half`); what it
+-- is behind them, clean or dirty, is what is told (`gone-all`).
 use Rattle.l2_writeback.specs.Halves.{back-none, back-all, gone-none, gone-all}
 use Rattle.tags.specs.Words.{recordIn}
 use Rattle.model.specs.Lines.{upperHalf}
@@ -17,15 +20,12 @@ use Rattle.tags.proofs.l2_line.Reads as l2-line-reads
 use Rattle.geometry.proofs.left_by.Reads as left-by-reads
 use Rattle.l2_writeback.proofs.take_upper.Reads as take-upper-reads
 
--- src/lib.rt:60:9
 l2-line-requires : tie.Need-l2-line-requires
 l2-line-requires c κs = search needs
 
--- src/lib.rt:62:9
 same-length : tie.Need-same-length
 same-length c = search needs
 
--- src/lib.rt:62:9
 returns : tie.Need-returns
 returns c =
     let p-start = c .before .before .before .before .before .before .before .before in
@@ -33,11 +33,9 @@ returns c =
     let x = (c .before .before .l2-line) in let n = not-true (x .result .valid) ((c .if1) .taken) in
     (back-none z (a .t) (a .v) (x .result) (x .ensures) n, gone-none z (a .t) (a .v) (x .result) _ (x .ensures) n refl)
 
--- src/lib.rt:64:5
 take-half-requires : tie.Need-take-half-requires
 take-half-requires c κs = search needs
 
--- src/lib.rt:65:5
 take-upper-requires : tie.Need-take-upper-requires
 take-upper-requires c κs =
     let p-take-half = c .before .before .before .before .before .before in
@@ -48,15 +46,12 @@ take-upper-requires c κs =
     let l₁ = lent-next (a .sram) (a .sets) (a .tags .now) (h .last .0) z₁ (takeHalf (a .t) (a .v) ((p-l2-line .l2-line) .result .address) z) (k .1) (h .kept .0) (h .ensures e) refl (same-take-half (a .t) (a .v) ((p-l2-line .l2-line) .result .address) z) in
     (k .0, l₁)
 
--- src/lib.rt:167:31
 l2-line-requires-2 : tie.Need-l2-line-requires-2
 l2-line-requires-2 c κs = search needs
 
--- src/lib.rt:167:9
 left-by-requires : tie.Need-left-by-requires
 left-by-requires c κs = search needs
 
--- src/lib.rt:66:5
 write-out-l2-requires : tie.Need-write-out-l2-requires
 write-out-l2-requires c κs =
     let p-left-by = c .before .before .before in let p-l2-line2 = p-left-by .before in
@@ -71,19 +66,15 @@ write-out-l2-requires c κs =
     let l₂ = lent-next (a .sram) (a .sets) (h .last .0) (g .last .0) z₂ (takeHalf (a .t) (a .v) (upperHalf ((p-l2-line .l2-line) .result .address)) z₁) l₁ (g .kept .0) (g .ensures e) refl (same-take-half (a .t) (a .v) (upperHalf ((p-l2-line .l2-line) .result .address)) z₁) in
     (k .0, l₂)
 
--- src/lib.rt:54:1
 same-length-2 : tie.Need-same-length-2
 same-length-2 c = search needs
 
--- src/lib.rt:54:1
 same-length-3 : tie.Need-same-length-3
 same-length-3 c = search needs
 
--- src/lib.rt:54:1
 same-length-4 : tie.Need-same-length-4
 same-length-4 c = search needs
 
--- src/lib.rt:54:1
 returns-2 : tie.Need-returns-2
 returns-2 c =
     let p-write-out-l2 = c .before .before .before .before in

@@ -1,3 +1,5 @@
+-- The way of an L1D set that holds a line, 2 where none does. Why: the code asks way by way, as `wayHolding` does;
+-- at each way out the tests made so far decide the definition's.
 use Rattle.model.specs.Ways.{l1dFind, wayHolding}
 use Rattle.model.specs.Lines.{holds}
 use Rattle.model.specs.declared.Line.{Line}
@@ -11,28 +13,22 @@ use Rattle.tags.proofs.l1d_find.Lts as lts
 use Rattle.tags.proofs.l1d_line.Reads as l1d-line-reads
 use Rattle.geometry.proofs.line_holds.Reads as line-holds-reads
 
--- src/lib.rt:82:19
 l1d-line-requires : tie.Need-l1d-line-requires
 l1d-line-requires c κs = search needs
 
--- src/lib.rt:82:8
 line-holds-requires : tie.Need-line-holds-requires
 line-holds-requires c κs = search needs
 
--- src/lib.rt:83:9
 returns : tie.Need-returns
 unfolding l1dFind wayHolding
 returns c = (rw ((ap (λ (x : Line). holds x (c .before .before .before .before .args .b)) (sym (c .before .before .l1d-line .ensures)) ∙ sym (c .before .line-holds .ensures) ∙ c .if1 .taken)) refl, omega arith)
 
--- src/lib.rt:85:19
 l1d-line-requires-2 : tie.Need-l1d-line-requires-2
 l1d-line-requires-2 c κs = search needs
 
--- src/lib.rt:85:8
 line-holds-requires-2 : tie.Need-line-holds-requires-2
 line-holds-requires-2 c κs = search needs
 
--- src/lib.rt:86:9
 returns-2 : tie.Need-returns-2
 unfolding l1dFind wayHolding
 returns-2 c =
@@ -40,7 +36,6 @@ returns-2 c =
     let p-l1d-line = p-line-holds .before in let p-start = p-l1d-line .before .before in
     (rw ((ap (λ (x : Line). holds x (p-start .args .b)) (sym (p-l1d-line .l1d-line .ensures)) ∙ sym (p-line-holds .line-holds .ensures) ∙ p-if1 .if1 .left), (ap (λ (x : Line). holds x (p-start .args .b)) (sym (c .before .before .l1d-line2 .ensures)) ∙ sym (c .before .line-holds2 .ensures) ∙ c .if2 .taken)) refl, omega arith)
 
--- src/lib.rt:78:1
 returns-3 : tie.Need-returns-3
 unfolding l1dFind wayHolding
 returns-3 c =

@@ -1,3 +1,5 @@
+-- The way of an L2 set that holds a line, 4 where none does. Why: the code asks way by way, as `wayHolding` does; at
+-- each way out the tests made so far decide the definition's.
 use Rattle.model.specs.Ways.{l2Find, wayHolding}
 use Rattle.model.specs.Lines.{holds}
 use Rattle.model.specs.declared.Line.{Line}
@@ -11,28 +13,22 @@ use Rattle.tags.proofs.l2_find.Lts as lts
 use Rattle.tags.proofs.l2_line.Reads as l2-line-reads
 use Rattle.geometry.proofs.line_holds.Reads as line-holds-reads
 
--- src/lib.rt:95:19
 l2-line-requires : tie.Need-l2-line-requires
 l2-line-requires c κs = search needs
 
--- src/lib.rt:95:8
 line-holds-requires : tie.Need-line-holds-requires
 line-holds-requires c κs = search needs
 
--- src/lib.rt:96:9
 returns : tie.Need-returns
 unfolding l2Find wayHolding
 returns c = (rw ((ap (λ (x : Line). holds x (c .before .before .before .before .args .b)) (sym (c .before .before .l2-line .ensures)) ∙ sym (c .before .line-holds .ensures) ∙ c .if1 .taken)) refl, omega arith)
 
--- src/lib.rt:98:19
 l2-line-requires-2 : tie.Need-l2-line-requires-2
 l2-line-requires-2 c κs = search needs
 
--- src/lib.rt:98:8
 line-holds-requires-2 : tie.Need-line-holds-requires-2
 line-holds-requires-2 c κs = search needs
 
--- src/lib.rt:99:9
 returns-2 : tie.Need-returns-2
 unfolding l2Find wayHolding
 returns-2 c =
@@ -40,15 +36,12 @@ returns-2 c =
     let p-l2-line = p-line-holds .before in let p-start = p-l2-line .before .before in
     (rw ((ap (λ (x : Line). holds x (p-start .args .b)) (sym (p-l2-line .l2-line .ensures)) ∙ sym (p-line-holds .line-holds .ensures) ∙ p-if1 .if1 .left), (ap (λ (x : Line). holds x (p-start .args .b)) (sym (c .before .before .l2-line2 .ensures)) ∙ sym (c .before .line-holds2 .ensures) ∙ c .if2 .taken)) refl, omega arith)
 
--- src/lib.rt:101:19
 l2-line-requires-3 : tie.Need-l2-line-requires-3
 l2-line-requires-3 c κs = search needs
 
--- src/lib.rt:101:8
 line-holds-requires-3 : tie.Need-line-holds-requires-3
 line-holds-requires-3 c κs = search needs
 
--- src/lib.rt:102:9
 returns-3 : tie.Need-returns-3
 unfolding l2Find wayHolding
 returns-3 c =
@@ -57,15 +50,12 @@ returns-3 c =
     let p-l2-line = p-line-holds .before in let p-start = p-l2-line .before .before in
     (rw ((ap (λ (x : Line). holds x (p-start .args .b)) (sym (p-l2-line .l2-line .ensures)) ∙ sym (p-line-holds .line-holds .ensures) ∙ p-if1 .if1 .left), (ap (λ (x : Line). holds x (p-start .args .b)) (sym (p-l2-line2 .l2-line2 .ensures)) ∙ sym (p-line-holds2 .line-holds2 .ensures) ∙ p-if2 .if2 .left), (ap (λ (x : Line). holds x (p-start .args .b)) (sym (c .before .before .l2-line3 .ensures)) ∙ sym (c .before .line-holds3 .ensures) ∙ c .if3 .taken)) refl, omega arith)
 
--- src/lib.rt:104:19
 l2-line-requires-4 : tie.Need-l2-line-requires-4
 l2-line-requires-4 c κs = search needs
 
--- src/lib.rt:104:8
 line-holds-requires-4 : tie.Need-line-holds-requires-4
 line-holds-requires-4 c κs = search needs
 
--- src/lib.rt:105:9
 returns-4 : tie.Need-returns-4
 unfolding l2Find wayHolding
 returns-4 c =
@@ -75,7 +65,6 @@ returns-4 c =
     let p-l2-line = p-line-holds .before in let p-start = p-l2-line .before .before in
     (rw ((ap (λ (x : Line). holds x (p-start .args .b)) (sym (p-l2-line .l2-line .ensures)) ∙ sym (p-line-holds .line-holds .ensures) ∙ p-if1 .if1 .left), (ap (λ (x : Line). holds x (p-start .args .b)) (sym (p-l2-line2 .l2-line2 .ensures)) ∙ sym (p-line-holds2 .line-holds2 .ensures) ∙ p-if2 .if2 .left), (ap (λ (x : Line). holds x (p-start .args .b)) (sym (p-l2-line3 .l2-line3 .ensures)) ∙ sym (p-line-holds3 .line-holds3 .ensures) ∙ p-if3 .if3 .left), (ap (λ (x : Line). holds x (p-start .args .b)) (sym (c .before .before .l2-line4 .ensures)) ∙ sym (c .before .line-holds4 .ensures) ∙ c .if4 .taken)) refl, omega arith)
 
--- src/lib.rt:91:1
 returns-5 : tie.Need-returns-5
 unfolding l2Find wayHolding
 returns-5 c =
