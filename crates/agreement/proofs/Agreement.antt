@@ -1,43 +1,49 @@
 -- Demand 3 is met (`demand3`). Shown first of one command: where the chip is good by flat memory's bytes (`Matches`),
 -- both give the same answer and match again.
--- Why: an accepted read, aligned or not, reads right bytes, so the same; a write changes flat memory as it changes what
--- is right; a mode change likewise; the other commands are not seen. After a global writeback no line is dirty, so that
--- every place of external memory and of SRAM is right: the lists are equal.
+-- Why: an accepted read, aligned or not, reads right bytes, so the same, and so does a transfer out; a write and a
+-- transfer in change flat memory as they change what is right; a mode change likewise; the other commands are not seen.
+-- After a global writeback no line is dirty, so that every place of external memory and of SRAM is right: the lists are
+-- equal.
 use Prim.Native.Nat.{ℕ, _+_, _-_, _≤_, _<_}
 use mathlib.Core.Bool.{true, false, _&&_}
 use mathlib.Core.Path.{_≡_, refl, sym, ap, _∙_, subst}
 use mathlib.Core.List.{List, [], _∷_, _++_}
 use native.Mathlib.Omega.{arith}
-use lib.ListN.{length, length-replicate}
+use lib.ListN.{length, getD, length-replicate}
 use lib.Seq.{ext-getD}
 use lib.Dec.{ltb, eqb}
 use borrow.Author.Tests.{eqb-true, ne-eqb, lt-leb}
 use Rattle.model.specs.Bytes.{part, little, littleBytes, zeroFrom}
 use Rattle.model.specs.Memories.{l1dLength, externalBase, legalL2, legalExternal, cacheSize, isMode, sramLength}
 use Rattle.model.specs.Records.{State, state, sramOf, l2LineAt, freshRecord, freshState}
-use Rattle.model.specs.Access.{Access, readAccess, writeAccess}
+use Rattle.model.specs.Access.{readAccess, writeAccess}
 use Rattle.model.specs.Unaligned.{readUp, writeUp, unalignedDue}
+use Rattle.model.specs.Transfers.{sentHome, transferredIn, transferredOut, transferDue}
 use Rattle.model.specs.Modes.{smaller, flushL2, newMode, changeMode}
 use Rattle.model.specs.Commands.{l2WritebackAll, l2WritebackInvalidateAll}
-use Rattle.model.specs.Flat.{Flat, flat, freshFlat, flatPart, flatPut, flatMode, FlatReply, flatReply, flatRead, flatWrite, flatChange, flatStep, flatReadUnaligned, flatWriteUnaligned, flatCalled, flatAfter}
+use Rattle.model.specs.Flat.{Flat, flat, freshFlat, flatPart, flatPut, flatMode, FlatReply, flatReply, flatRead, flatWrite, flatChange, flatStep, flatDue, flatReadUnaligned, flatWriteUnaligned, flatTransferIn, flatHandedBack, flatTransferOut, flatCalled, flatAfter}
 use Rattle.model.specs.Refusals.{accessDue, modeDue}
 use Rattle.model.specs.Trace.{command}
-use Rattle.model.specs.Calls.{Reply, refused, carriedOut, freshOk, freshCall, commandDue, readDone, writeDone, commandState, accepted, step, viewDone, unalignedDueIn, readUnalignedDone, writeUnalignedDone, readUnalignedStep, writeUnalignedStep, readUnalignedCall, writeUnalignedCall, Call, oneCommand, freshStart, look, readUnaligned, writeUnaligned, called, after, commands}
-use Rattle.model.specs.Demand.{listedCode, listedCall, listed, compared, global, Settled, AgreesAt, Agree, Demand3, CommandsDemand3, end, next}
-use Rattle.model.specs.Laws.{bool, false-true, both-true, cond-elim, cond-both, length-littleBytes, length-part, part-at}
+use Rattle.model.specs.Calls.{Reply, refused, carriedOut, freshOk, freshCall, commandDue, readDone, writeDone, commandState, accepted, step, call, viewDone, transferDueIn, handedBack, transferInStep, transferInCall, transferOutStep, transferOutCall, unalignedDueIn, readUnalignedDone, writeUnalignedDone, readUnalignedStep, writeUnalignedStep, readUnalignedCall, writeUnalignedCall, Call, oneCommand, freshStart, look, readUnaligned, writeUnaligned, transferIn, transferOut, called, after, commands}
+use Rattle.agreement.specs.Covered.{remembered, joined}
+use Rattle.agreement.specs.Demand.{listedCode, listedCall, listed, compared, global, Settled, AgreesAt, Agree, Demand3, CommandsDemand3, end, next}
+use Rattle.model.specs.Laws.{bool, false-true, both-true, cond-elim, cond-both, length-littleBytes, length-part, part-at, call-told}
 use Rattle.model.specs.declared.Command.{Command}
 use Rattle.agreement.proofs.Level.{Valid}
 use Rattle.agreement.proofs.Invariant.{Allowed, seenOnly, Layout, Inside}
 use Rattle.agreement.proofs.Memory.{memoryByte, memory-low, memory-high, lowStored, highStored, low-length, high-length, Fits, read-length, read-at, Written, written-same, wrote-memory}
-use Rattle.agreement.proofs.Good.{layoutOf, l1dLevel, l2Level, Good, Well, good-well}
+use Rattle.agreement.proofs.Good.{layoutOf, l1dLevel, l2Level, Good, good-well}
 use Rattle.agreement.proofs.Fetch.{AccessFits}
-use Rattle.agreement.proofs.ReadWrite.{ReadGood, Step}
+use Rattle.agreement.proofs.ReadWrite.{Step, Uncached}
 use Rattle.agreement.proofs.Sweeps.{AllOut, l2WritebackAll-good, l2WritebackInvalidateAll-good, flush-good}
-use Rattle.agreement.proofs.Changes.{zero-length, zero-below, zero-above, smaller-bound, fresh-good, newMode-good}
+use Rattle.agreement.proofs.Changes.{zero-length, zero-below, zero-above, smaller-bound, fresh-l1d-empty, fresh-l2-empty, fresh-good, newMode-good}
 use Rattle.agreement.proofs.Due.{access-tells, accepted-read, accepted-write, mode-tells}
 use Rattle.agreement.proofs.Steps.{codes, Quiet, quiet-step, quiet-2, quiet-3, quiet-4, quiet-5, quiet-7, quiet-11, quiet-12}
-use Rattle.agreement.proofs.Tested.{legalL2-tells, legalExternal-tells, call-step}
+use Rattle.agreement.proofs.Tested.{call-step}
 use Rattle.agreement.proofs.Unaligned.{due-fits, accepted-read-up, accepted-write-up, read-unaligned-step, write-unaligned-step}
+use Rattle.agreement.proofs.Transfers.{transfer-fits, sent-good, sent-uncached, transferred-in-good, transferred-out-good, transfer-in-step, transfer-out-step}
+use Rattle.agreement.proofs.Stays.{fresh-sizes, fresh-well}
+use Rattle.agreement.proofs.Uncached.{Reach, Reaches, joined-reaches}
 use Rattle.agreement.proofs.Flushes.{sweptL1d, change-swept}
 
 -- ---- chip and flat memory match: every byte that counts is flat memory's, and the sizes are the same
@@ -89,19 +95,18 @@ module _ (z : State) (f : Flat) (m : Matches z f) (n a : ℕ) where
   sram-below : length (f .sram) ≤ externalBase
   sram-below = let s = m .sram in let x = m .good .tidy .sizes .l2Most in omega arith
 
-  same-bytes : AccessFits (layoutOf (z .rec)) a n → (x : Access) → ReadGood z (Is f) a n x → x .bytes ≡ flatPart a n f
+  same-bytes : AccessFits (layoutOf (z .rec)) a n → (bs : List ℕ) → length bs ≡ n → ((j : ℕ) → j < n → getD bs j 0 ≡ flatByte f (a + j)) →
+      bs ≡ flatPart a n f
   unfolding flatPart
-  same-bytes k x r =
+  same-bytes k bs long right =
       let g = flat-fits k in
-      ext-getD 0 (x .bytes) (flatPart a n f) (r .long ∙ sym (read-length (f .sram) (f .ext) a n g))
-      (λ j h. let l = r .long in let k : j < n = omega arith in r .right j k ∙ sym (read-at (f .sram) (f .ext) a n g sram-below j k))
+      ext-getD 0 bs (flatPart a n f) (long ∙ sym (read-length (f .sram) (f .ext) a n g))
+      (λ j h. let l = long in let k : j < n = omega arith in right j k ∙ sym (read-at (f .sram) (f .ext) a n g sram-below j k))
 
-  put-matches : (v : ℕ) → AccessFits (layoutOf (z .rec)) a n → (z′ : State) → ((F′ : Allowed) → Written (Is f) F′ a (littleBytes v n) → Step z F′ z′) →
-      Matches z′ (flatPut a (littleBytes v n) f)
-  put-matches v k z′ done =
-      let bs = littleBytes v n in
+  put-matches : (bs : List ℕ) → length bs ≡ n → AccessFits (layoutOf (z .rec)) a n → (z′ : State) →
+      ((F′ : Allowed) → Written (Is f) F′ a bs → Step z F′ z′) → Matches z′ (flatPut a bs f)
+  put-matches bs long k z′ done =
       let f′ = flat (f .l2len) (lowStored (f .sram) a bs) (highStored (f .ext) a bs) in
-      let long = length-littleBytes v n in
       let g : Fits (f .sram) (f .ext) a (length bs) = rw long (flat-fits k) in
       let w = done (Is f′) (written-same (flatByte f) (flatByte f′) a bs (wrote-memory (f .sram) (f .ext) bs a g sram-below)) in
       let q = quiet-step z (Is f′) z′ w in
@@ -155,7 +160,7 @@ module _ (z : State) (f : Flat) (m : Matches z f) (a b v : ℕ) where
       let q = quiet-step z (Is f) (readAccess a b z .next) (record { good = r .good; kept = r .kept }) in
       rw t (record {
         number = λ _. refl;
-        value = λ _. ap little (same-bytes z f m a b (access-fits z f m a b 0 (eqb-true d 0 t)) (readAccess a b z) r);
+        value = λ _. ap little (same-bytes z f m a b (access-fits z f m a b 0 (eqb-true d 0 t)) (readAccess a b z .bytes) (r .long) (r .right));
         matches = matches-quiet z f m (readAccess a b z .next) q;
       }))
       (λ t. rw t (record { number = λ _. refl; value = λ _. refl; matches = m })))
@@ -166,7 +171,7 @@ module _ (z : State) (f : Flat) (m : Matches z f) (a b v : ℕ) where
       let d = accessDue (sramOf (z .rec)) (z .rec .extlen) a b v in
       let e = same-due v in
       rw e (bool (eqb d 0)
-      (λ t. let p = put-matches z f m a b v (access-fits z f m a b v (eqb-true d 0 t)) (writeAccess b (littleBytes v a) z .next)
+      (λ t. let p = put-matches z f m a b (littleBytes v a) (length-littleBytes v a) (access-fits z f m a b v (eqb-true d 0 t)) (writeAccess b (littleBytes v a) z .next)
       (λ F′ wr. accepted-write z (Is f) (m .good) a b F′ v wr (eqb-true d 0 t)) in
       rw t (record { number = λ _. refl; value = λ _. refl; matches = p }))
       (λ t. rw t (record { number = λ _. refl; value = λ _. refl; matches = m })))
@@ -271,10 +276,11 @@ global-settles c z f m =
     (λ k h. not-global k (rw (ne-eqb k 2 (omega arith), ne-eqb k 3 (omega arith)) refl))
     (c .code)
 
--- ---- a non-aligned access: the same answer, and both match again
+-- ---- a non-aligned access, and a transfer: the same answer, and both match again
 record SameAnswer (r : Reply) (g : FlatReply) : Type 0 where
   number : r .number ≡ g .number
   value : r .value ≡ g .value
+  bytes : r .bytes ≡ g .bytes
   matches : Matches (r .next) (g .next)
 
 module _ (z : State) (f : Flat) (m : Matches z f) (n a : ℕ) where
@@ -290,10 +296,11 @@ module _ (z : State) (f : Flat) (m : Matches z f) (n a : ℕ) where
       (λ t. let r = accepted-read-up z (Is f) (m .good) n a (eqb-true d 0 t) in
       record {
         number = refl;
-        value = ap little (same-bytes z f m n a (unaligned-fits z f m n a 0 (eqb-true d 0 t)) (readUp n a z) r);
+        value = ap little (same-bytes z f m n a (unaligned-fits z f m n a 0 (eqb-true d 0 t)) (readUp n a z .bytes) (r .long) (r .right));
+        bytes = refl;
         matches = matches-quiet z f m (readUp n a z .next) (quiet-step z (Is f) (readUp n a z .next) (record { good = r .good; kept = r .kept }));
       })
-      (λ _. record { number = refl; value = refl; matches = m }))
+      (λ _. record { number = refl; value = refl; bytes = refl; matches = m }))
 
   write-unaligned-answered : (v : ℕ) → SameAnswer (writeUnalignedCall n a v z) (flatWriteUnaligned n a v f)
   unfolding writeUnalignedStep writeUnalignedDone flatWriteUnaligned
@@ -304,86 +311,135 @@ module _ (z : State) (f : Flat) (m : Matches z f) (n a : ℕ) where
       (λ t. record {
         number = refl;
         value = refl;
-        matches = put-matches z f m n a v (unaligned-fits z f m n a v (eqb-true d 0 t)) (writeUp n a (littleBytes v n) z .next)
+        bytes = refl;
+        matches = put-matches z f m n a (littleBytes v n) (length-littleBytes v n) (unaligned-fits z f m n a v (eqb-true d 0 t)) (writeUp n a (littleBytes v n) z .next)
             (λ F′ wr. accepted-write-up z (Is f) F′ (m .good) n a v wr (eqb-true d 0 t));
       })
-      (λ _. record { number = refl; value = refl; matches = m }))
+      (λ _. record { number = refl; value = refl; bytes = refl; matches = m }))
+
+-- a transfer that reaches memory which no line has
+module _ (z : State) (f : Flat) (m : Matches z f) (a : ℕ) where
+  same-transfer-due : (n : ℕ) → transferDue (length (f .sram)) (length (f .ext)) n a ≡ transferDueIn z n a
+  same-transfer-due n = rw (m .sram, m .ext) refl
+
+  transfer-in-answered : (bs : List ℕ) → Reach (transferIn a bs) z → SameAnswer (transferInCall a bs z) (flatTransferIn a bs f)
+  unfolding transferInStep flatTransferIn
+  transfer-in-answered bs reach =
+      let n = length bs in let d = transferDueIn z n a in let e = same-transfer-due n in
+      let s = transfer-in-step a bs z (good-well z (Is f) (m .good)) in
+      let r : transferInStep a bs z .number ≡ 0 → externalBase ≤ a → Uncached z a n = rw s at reach in
+      rw (s, e) (cond-both SameAnswer (eqb d 0) (carriedOut (transferredIn a bs z)) (refused d z) (flatReply 0 0 (flatPut a bs f)) (flatReply d 0 f)
+      (λ t. let o = eqb-true d 0 t in let free = sent-uncached z (Is f) (m .good) n a o (rw t at r refl) in
+      record {
+        number = refl;
+        value = refl;
+        bytes = refl;
+        matches = put-matches z f m n a bs refl (transfer-fits z n a o) (transferredIn a bs z)
+            (λ F′ wr. transferred-in-good z (Is f) F′ (m .good) a bs wr o free);
+      })
+      (λ _. record { number = refl; value = refl; bytes = refl; matches = m }))
+
+  transfer-out-answered : (o : List ℕ) → Reach (transferOut a o) z → SameAnswer (transferOutCall a o z) (flatTransferOut a o f)
+  unfolding transferOutStep flatTransferOut
+  transfer-out-answered o reach =
+      let n = length o in let d = transferDueIn z n a in let e = same-transfer-due n in
+      let s = transfer-out-step a o z (good-well z (Is f) (m .good)) in
+      let r : transferOutStep a o z .number ≡ 0 → externalBase ≤ a → Uncached z a n = rw s at reach in
+      let x = sentHome a n z in
+      rw (s, e) (cond-both SameAnswer (eqb d 0) (handedBack 0 (transferredOut a n z) x) (handedBack d o z)
+      (flatHandedBack 0 (flatPart a n f) f) (flatHandedBack d o f)
+      (λ t. let y = eqb-true d 0 t in let free = sent-uncached z (Is f) (m .good) n a y (rw t at r refl) in
+      let g = transferred-out-good z (Is f) (m .good) n a y free in
+      record {
+        number = refl;
+        value = refl;
+        bytes = same-bytes z f m n a (transfer-fits z n a y) (transferredOut a n z) (g .long) (g .right);
+        matches = matches-quiet z f m x (quiet-step z (Is f) x (sent-good z (Is f) (m .good) a n));
+      })
+      (λ _. record { number = refl; value = refl; bytes = refl; matches = m }))
 
 -- ---- one call: a view is not compared and changes nothing, a fresh start is not listed
 answer-agrees : (c : Call) (z : State) (f : Flat) → global c ≡ false → SameAnswer (called c z) (flatCalled c f) → AgreesAt c z f
-answer-agrees c z f n r = record { number = λ _. r .number; value = λ _. r .value; settled = λ g. false-true (sym n ∙ g) }
+answer-agrees c z f n r = record { number = λ _. r .number; value = λ _. r .value; bytes = λ _. r .bytes; settled = λ g. false-true (sym n ∙ g) }
 
-call-agrees : (c : Call) (z : State) (f : Flat) → Matches z f → listedCall c ≡ true → AgreesAt c z f
-call-agrees freshStart z f m y = false-true y
-call-agrees (look a) z f m y = record { number = λ n. false-true n; value = λ n. false-true n; settled = λ n. false-true n }
-call-agrees (readUnaligned n a) z f m y = answer-agrees (readUnaligned n a) z f refl (read-unaligned-answered z f m n a)
-call-agrees (writeUnaligned n a v) z f m y = answer-agrees (writeUnaligned n a v) z f refl (write-unaligned-answered z f m n a v)
-call-agrees (oneCommand c) z f m y =
+-- a command hands back no bytes
+no-bytes : (c : Command) (z : State) (f : Flat) → call c z .bytes ≡ flatStep c f .bytes
+unfolding flatStep flatRead flatWrite flatChange
+no-bytes c z f =
+    let None : FlatReply → Type 0 = λ r. [] ≡ r .bytes in
+    ap (λ (r : Reply). r .bytes) (sym (call-told c z)) ∙
+    cond-elim None (eqb (c .code) 0) (flatRead (c .first) (c .second) f) _ (λ _. cond-elim None (eqb (flatDue (c .first) (c .second) 0 f) 0) _ _ (λ _. refl) (λ _. refl))
+    (λ _. cond-elim None (eqb (c .code) 1) (flatWrite (c .first) (c .second) (c .value) f) _
+    (λ _. cond-elim None (eqb (flatDue (c .first) (c .second) (c .value) f) 0) _ _ (λ _. refl) (λ _. refl))
+    (λ _. cond-elim None (eqb (c .code) 10) (flatChange (c .first) f) (flatReply 0 0 f)
+    (λ _. cond-elim None (eqb (modeDue (f .l2len) (c .first)) 0) _ _ (λ _. refl) (λ _. refl)) (λ _. refl)))
+
+call-agrees : (c : Call) (z : State) (f : Flat) → Matches z f → listedCall c ≡ true → Reach c z → AgreesAt c z f
+call-agrees freshStart z f m y _ = false-true y
+call-agrees (look a) z f m y _ = record { number = λ n. false-true n; value = λ n. false-true n; bytes = λ n. false-true n; settled = λ n. false-true n }
+call-agrees (readUnaligned n a) z f m y _ = answer-agrees (readUnaligned n a) z f refl (read-unaligned-answered z f m n a)
+call-agrees (writeUnaligned n a v) z f m y _ = answer-agrees (writeUnaligned n a v) z f refl (write-unaligned-answered z f m n a v)
+call-agrees (transferIn a bs) z f m y r = answer-agrees (transferIn a bs) z f refl (transfer-in-answered z f m a bs r)
+call-agrees (transferOut a o) z f m y r = answer-agrees (transferOut a o) z f refl (transfer-out-answered z f m a o r)
+call-agrees (oneCommand c) z f m y _ =
     let s = call-step c z (good-well z (Is f) (m .good)) in
     let r = step-answered c z f m y in
     record {
       number = λ k. rw s (r .number k);
       value = λ k. rw s (r .value k);
+      bytes = λ _. no-bytes c z f;
       settled = λ k _. rw s (global-settles c z f m k);
     }
 
-pub call-matches : (c : Call) (z : State) (f : Flat) → Matches z f → listedCall c ≡ true → Matches (called c z .next) (flatCalled c f .next)
+pub call-matches : (c : Call) (z : State) (f : Flat) → Matches z f → listedCall c ≡ true → Reach c z → Matches (called c z .next) (flatCalled c f .next)
 unfolding viewDone
-call-matches freshStart z f m y = false-true y
-call-matches (look a) z f m y = m
-call-matches (readUnaligned n a) z f m y = read-unaligned-answered z f m n a .matches
-call-matches (writeUnaligned n a v) z f m y = write-unaligned-answered z f m n a v .matches
-call-matches (oneCommand c) z f m y = let s = call-step c z (good-well z (Is f) (m .good)) in rw s (step-answered c z f m y .matches)
+call-matches freshStart z f m y _ = false-true y
+call-matches (look a) z f m y _ = m
+call-matches (readUnaligned n a) z f m y _ = read-unaligned-answered z f m n a .matches
+call-matches (writeUnaligned n a v) z f m y _ = write-unaligned-answered z f m n a v .matches
+call-matches (transferIn a bs) z f m y r = transfer-in-answered z f m a bs r .matches
+call-matches (transferOut a o) z f m y r = transfer-out-answered z f m a o r .matches
+call-matches (oneCommand c) z f m y _ = let s = call-step c z (good-well z (Is f) (m .good)) in rw s (step-answered c z f m y .matches)
 
--- ---- along a list
-pub agree : (cs : List Call) (z : State) (f : Flat) → Matches z f → listed cs ≡ true → Agree cs z f
+-- ---- along a list, each of whose transfers reaches memory that no line has
+pub agree : (cs : List Call) (z : State) (f : Flat) → Matches z f → listed cs ≡ true → Reaches cs z → Agree cs z f
 unfolding listed
-agree [] z f m y = end
-agree (c ∷ cs) z f m y =
+agree [] z f m y r = end
+agree (c ∷ cs) z f m y r =
     let p = both-true (listedCall c) (listed cs) y in
-    next (call-agrees c z f m (p .0)) (agree cs (called c z .next) (flatCalled c f .next) (call-matches c z f m (p .0)) (p .1))
+    next (call-agrees c z f m (p .0) (r .0))
+    (agree cs (called c z .next) (flatCalled c f .next) (call-matches c z f m (p .0) (r .0)) (p .1) (r .1))
 
-pub after-matches : (cs : List Call) (z : State) (f : Flat) → Matches z f → listed cs ≡ true → Matches (after cs z) (flatAfter cs f)
+-- a list of commands has no transfer
+pub commands-reach : (cs : List Command) (z : State) → Reaches (commands cs) z
+commands-reach [] z = tt
+commands-reach (c ∷ cs) z = (tt, commands-reach cs (call c z .next))
+
+pub after-matches : (cs : List Command) (z : State) (f : Flat) → Matches z f → listed (commands cs) ≡ true → Matches (after (commands cs) z) (flatAfter (commands cs) f)
 unfolding listed after flatAfter
 after-matches [] z f m y = m
 after-matches (c ∷ cs) z f m y =
-    let p = both-true (listedCall c) (listed cs) y in
-    after-matches cs (called c z .next) (flatCalled c f .next) (call-matches c z f m (p .0)) (p .1)
+    let p = both-true (listedCode (c .code)) (listed (commands cs)) y in
+    after-matches cs (call c z .next) (flatStep c f .next) (call-matches (oneCommand c) z f m (p .0) tt) (p .1)
 
 -- a list that ends with a global writeback leaves external memory and SRAM settled
-pub ends-settled : (cs : List Call) (c : Command) (z : State) (f : Flat) → Matches z f → listed (cs ++ (oneCommand c ∷ [])) ≡ true →
-    global (oneCommand c) ≡ true → Settled (after (cs ++ (oneCommand c ∷ [])) z) (flatAfter (cs ++ (oneCommand c ∷ [])) f)
+pub ends-settled : (cs : List Command) (c : Command) (z : State) (f : Flat) → Matches z f → listed (commands cs ++ (oneCommand c ∷ [])) ≡ true →
+    global (oneCommand c) ≡ true → Settled (after (commands cs ++ (oneCommand c ∷ [])) z) (flatAfter (commands cs ++ (oneCommand c ∷ [])) f)
 unfolding listed after flatAfter
 ends-settled [] c z f m y g =
     let s = call-step c z (good-well z (Is f) (m .good)) in
     subst (λ (r : Reply). Settled (r .next) (flatStep c f .next)) (sym s) (global-settles c z f m g)
 ends-settled (d ∷ cs) c z f m y g =
-    let p = both-true (listedCall d) (listed (cs ++ (oneCommand c ∷ []))) y in
-    ends-settled cs c (called d z .next) (flatCalled d f .next) (call-matches d z f m (p .0)) (p .1) g
+    let p = both-true (listedCode (d .code)) (listed (commands cs ++ (oneCommand c ∷ []))) y in
+    ends-settled cs c (call d z .next) (flatStep d f .next) (call-matches (oneCommand d) z f m (p .0) tt) (p .1) g
 
 -- ---- the fresh start
 pub fresh-matches : (l : ℕ) (e : List ℕ) → legalL2 l ≡ true → legalExternal (length e) ≡ true → Matches (freshState l e) (freshFlat l e)
 unfolding freshState freshRecord freshFlat cacheSize isMode
 fresh-matches l e hl he =
     let n = length-replicate {A = ℕ} l 0 in
-    let p = legalL2-tells l hl in
-    let x = legalExternal-tells (length e) he in
     record {
-      good = fresh-good (freshState l e) (Is (freshFlat l e)) refl refl refl refl
-          (record {
-            l1dLength = length-replicate {A = ℕ} 16384 0;
-            l2Length = n;
-            extLength = refl;
-            l2Least = p .0;
-            l2Most = p .1;
-            l2Whole = p .2;
-            extLeast = x .0;
-            extMost = x .1;
-            extWhole = x .2;
-            legalMode = refl;
-            cacheMost = omega arith;
-          })
-          (λ a _. refl);
+      good = fresh-good (freshState l e) (Is (freshFlat l e)) refl refl refl refl (fresh-sizes l e hl he) (λ a _. refl);
       l2len = refl;
       sram = omega arith;
       ext = refl;
@@ -404,14 +460,23 @@ fresh-accepted d m e =
     (λ _ h. absurd (omega arith))
 
 -- ---- demand 3
+fresh-reaches : (l : ℕ) (e : List ℕ) → legalL2 l ≡ true → legalExternal (length e) ≡ true → (cs : List Call) → joined [] cs (freshState l e) ≡ true →
+    Reaches cs (freshState l e)
+unfolding freshState freshRecord
+fresh-reaches l e hl he cs y =
+    joined-reaches cs (freshState l e) (fresh-well l e hl he) (fresh-l1d-empty (freshRecord l (length e)) refl)
+    (fresh-l2-empty (freshRecord l (length e)) refl) y
+
 pub demand3 : Demand3
-demand3 d m e h cs y =
-    let p = fresh-accepted d m e h in let s = p .2 in
-    rw s (agree cs (freshState (length m) e) (freshFlat (length m) e) (fresh-matches (length m) e (p .0) (p .1)) y)
+demand3 d m e h cs y j =
+    let p = fresh-accepted d m e h in let s = p .2 in let z = freshState (length m) e in
+    let r = fresh-reaches (length m) e (p .0) (p .1) cs (rw s at j) in
+    rw s (agree cs z (freshFlat (length m) e) (fresh-matches (length m) e (p .0) (p .1)) y r)
+
+joined-commands : (cs : List Command) (h : List Call) (z : State) → joined h (commands cs) z ≡ true
+unfolding joined
+joined-commands [] h z = refl
+joined-commands (c ∷ cs) h z = joined-commands cs (remembered (oneCommand c) z h) (call c z .next)
 
 pub commands-demand3 : CommandsDemand3
-commands-demand3 d m e h cs y = demand3 d m e h (commands cs) y
-
--- and the fresh state is well formed
-pub fresh-well : (l : ℕ) (e : List ℕ) → legalL2 l ≡ true → legalExternal (length e) ≡ true → Well (freshState l e)
-fresh-well l e hl he = good-well (freshState l e) (Is (freshFlat l e)) (fresh-matches l e hl he .good)
+commands-demand3 d m e h cs y = demand3 d m e h (commands cs) y (joined-commands cs [] (freshCall d m e .next))

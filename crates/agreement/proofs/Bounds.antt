@@ -23,7 +23,8 @@ use Rattle.model.specs.Access.{Access, cacheable, useHit, readHit, evictL1d, fi
 use Rattle.model.specs.Reports.{Report, noReport, readReport, writeReport}
 use Rattle.model.specs.Refusals.{lentDue}
 use Rattle.model.specs.Unaligned.{readUp, writeUp, readUpReport, writeUpReport}
-use Rattle.model.specs.Calls.{Reply, refused, step, call, freshOk, freshCall, viewDone, unalignedDueIn, readUnalignedDone, writeUnalignedDone, readUnalignedStep, writeUnalignedStep, readUnalignedCall, writeUnalignedCall, oneCommand, freshStart, look, readUnaligned, writeUnaligned}
+use Rattle.model.specs.Calls.{Reply, refused, step, call, freshOk, freshCall, viewDone, unalignedDueIn, readUnalignedDone, writeUnalignedDone, readUnalignedStep, writeUnalignedStep, readUnalignedCall, writeUnalignedCall, oneCommand, freshStart, look, readUnaligned, writeUnaligned, carriedOut, transferDueIn, handedBack, transferInStep, transferInCall, transferOutStep, transferOutCall, transferIn, transferOut}
+use Rattle.model.specs.Transfers.{sentHome, transferredIn, transferredOut}
 use Rattle.model.specs.Bytewise.{AtMost256}
 use Rattle.model.specs.Laws.{bool, false-true, cond-elim, cond-true, cond-false, mar-bit, length-littleBytes}
 use Rattle.model.specs.declared.Record.{Record}
@@ -392,7 +393,7 @@ small : {q : Report} → AtMost 256 q → (q .read ≤ 256) × (q .written ≤ 2
 small h = (h .read, h .written)
 
 pub at-most-256 : AtMost256
-unfolding call freshCall viewDone readUnalignedCall writeUnalignedCall readUnalignedStep writeUnalignedStep readUnalignedDone writeUnalignedDone
+unfolding call freshCall viewDone readUnalignedCall writeUnalignedCall readUnalignedStep writeUnalignedStep readUnalignedDone writeUnalignedDone transferInCall transferInStep transferOutCall transferOutStep
 at-most-256 (oneCommand c) z s = small (unless-lent z s (step c z) (λ _. let h = at-most-128 c z in let h₀ = h .0 in let h₁ = h .1 in record { read = omega arith; written = omega arith }))
 at-most-256 freshStart z s = small (cond-elim Small (freshOk (z .l1d) (z .l2) (z .ext)) _ _ (λ _. none) (λ _. none))
 at-most-256 (look b) z s = (omega arith, omega arith)
@@ -404,3 +405,11 @@ at-most-256 (writeUnaligned n a v) z s =
     let d = unalignedDueIn z n a v in
     small (unless-lent z s (writeUnalignedStep n a v z)
     (λ q. cond-elim Small (eqb d 0) (writeUnalignedDone n a v z) (refused d z) (λ t. write-bound z q n a v (eqb-true d 0 t)) (λ _. none)))
+at-most-256 (transferIn a bs) z s =
+    let d = transferDueIn z (length bs) a in
+    small (unless-lent z s (transferInStep a bs z)
+    (λ _. cond-elim Small (eqb d 0) (carriedOut (transferredIn a bs z)) (refused d z) (λ _. none) (λ _. none)))
+at-most-256 (transferOut a o) z s =
+    let n = length o in let d = transferDueIn z n a in
+    small (cond-elim Small (eqb (lentDue z) 0) (transferOutStep a o z) (handedBack (lentDue z) o z)
+    (λ _. cond-elim Small (eqb d 0) (handedBack 0 (transferredOut a n z) (sentHome a n z)) (handedBack d o z) (λ _. none) (λ _. none)) (λ _. none))

@@ -98,12 +98,18 @@ l2-fresh-order =
       apart34 = λ e. absurd (omega arith);
     }
 
--- ---- with fresh sets nothing is valid
+-- ---- with fresh sets every way is empty, and nothing is valid
+pub fresh-l1d-empty : (r : Record) → r .l1d ≡ replicate 128 freshL1dSet → (s w : ℕ) → l1dLineAt r s w ≡ emptyLine
+fresh-l1d-empty r e s w = rw e (fresh-line l1dStore freshL1dSet 128 l1d-fresh s w)
+
+pub fresh-l2-empty : (r : Record) → r .l2 ≡ replicate 512 freshL2Set → (t v : ℕ) → l2LineAt r t v ≡ emptyLine
+fresh-l2-empty r e t v = rw e (fresh-line l2Store freshL2Set 512 l2-fresh t v)
+
 pub fresh-l1d-none : (r : Record) → r .l1d ≡ replicate 128 freshL1dSet → (s w : ℕ) → l1dLineAt r s w .valid ≡ false
-fresh-l1d-none r e s w = rw e (ap (λ (l : Line). l .valid) (fresh-line l1dStore freshL1dSet 128 l1d-fresh s w))
+fresh-l1d-none r e s w = ap (λ (l : Line). l .valid) (fresh-l1d-empty r e s w)
 
 pub fresh-l2-none : (r : Record) → r .l2 ≡ replicate 512 freshL2Set → (t v : ℕ) → l2LineAt r t v .valid ≡ false
-fresh-l2-none r e t v = rw e (ap (λ (l : Line). l .valid) (fresh-line l2Store freshL2Set 512 l2-fresh t v))
+fresh-l2-none r e t v = ap (λ (l : Line). l .valid) (fresh-l2-empty r e t v)
 
 -- ---- of a fresh set no line is dirty
 clean₁ : dirtyLines (freshL1dSet .lines) ≡ 0

@@ -15,7 +15,7 @@ use borrow.Author.Tests.{lt-ltb, le-ltb, le-leb}
 use Rattle.model.specs.Records.{State}
 use Rattle.model.specs.Trace.{Decoded, decode, Whole, none, one}
 use Rattle.model.specs.Calls.{call, runCall, commandAt, after, commands}
-use Rattle.model.specs.Traces.{carriedFrom, carried, Piece, pieceCommands, allCommands}
+use Rattle.agreement.specs.Traces.{carriedFrom, carried, Piece, pieceCommands, allCommands}
 use Rattle.model.specs.declared.Command.{Command}
 use Rattle.agreement.proofs.Good.{Well}
 use Rattle.agreement.proofs.Reading.{decode-stable}

@@ -352,11 +352,12 @@ module _ (g : Layout) (x y : Level) (mem : ℕ → ℕ) (F : Allowed) (q : Invar
             (λ _ _ _ _ _ _. refl);
       }
 
--- ---- (10) the memory behind is written, at an address that neither level holds
-module _ (g : Layout) (x y : Level) (mem : ℕ → ℕ) (F : Allowed) (q : Invariant g x y mem F) (a : ℕ) (mem′ : ℕ → ℕ) (F′ : Allowed) (gr : Grows F F′) (free1 : Free 64 x a) (free2 : Free 128 y a)
-    (old : (b : ℕ) → b / 64 * 64 ≢ a / 64 * 64 → (c : ℕ) → F .right b c → F′ .right b c)
+-- ---- (10) the memory behind is written, at addresses (W) that neither level holds
+module _ (g : Layout) (x y : Level) (mem : ℕ → ℕ) (F : Allowed) (q : Invariant g x y mem F) (W : ℕ → Type 0) (mem′ : ℕ → ℕ) (F′ : Allowed) (gr : Grows F F′)
+    (free1 : (b : ℕ) → W b → Free 64 x b) (free2 : (b : ℕ) → W b → Free 128 y b)
+    (old : (b : ℕ) → (W b → ⊥) → (c : ℕ) → F .right b c → F′ .right b c)
     (step : (b : ℕ) → Inside g b → F .right b (mem b) → F′ .right b (mem′ b)) (stepHeld : (b : ℕ) → Inside g b → F .held b (mem b) → F′ .held b (mem′ b))
-    (same : (b : ℕ) → b / 64 * 64 ≢ a / 64 * 64 → mem′ b ≡ mem b) where
+    (same : (b : ℕ) → (W b → ⊥) → mem′ b ≡ mem b) where
   pub memory-written : Invariant g x y mem′ F′
   memory-written =
       record {
@@ -365,13 +366,14 @@ module _ (g : Layout) (x y : Level) (mem : ℕ → ℕ) (F : Allowed) (q : Invar
         inclusion = q .inclusion;
         l1dRight = λ s w k i h.
             let aligned = q .l1dSound .place s w k .aligned in
-            old (x .line s w .address + i) (λ j. free1 s w k (omega arith)) (x .byte s w i) (q .l1dRight s w k i h);
+            old (x .line s w .address + i) (λ j. free1 (x .line s w .address + i) j s w k (omega arith)) (x .byte s w i) (q .l1dRight s w k i h);
         l2Right = λ t v k i h m.
             let aligned = q .l2Sound .place t v k .aligned in
-            old (y .line t v .address + i) (λ j. free2 t v k (omega arith)) (y .byte t v i) (q .l2Right t v k i h m);
+            old (y .line t v .address + i) (λ j. free2 (y .line t v .address + i) j t v k (omega arith)) (y .byte t v i) (q .l2Right t v k i h m);
         memoryRight = λ b l m m′. step b l (q .memoryRight b l m m′);
         behind = behind-memory g y y mem mem′ F F′ (q .behind) gr (λ b l. stepHeld b l (q .behind .memoryHeld b l))
-            (λ t v k i h. let aligned = q .l2Sound .place t v k .aligned in same (y .line t v .address + i) (λ j. free2 t v k (omega arith)));
+            (λ t v k i h. let aligned = q .l2Sound .place t v k .aligned in
+            same (y .line t v .address + i) (λ j. free2 (y .line t v .address + i) j t v k (omega arith)));
       }
 
 -- ---- the same lines, the same bytes where they count: the invariant carries over

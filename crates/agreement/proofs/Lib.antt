@@ -2,6 +2,7 @@ pub mod Agreement
 pub mod Behind
 pub mod Bounds
 pub mod Changes
+pub mod Comers
 pub mod Cuts
 pub mod Drops
 pub mod Due
@@ -22,4 +23,6 @@ pub mod Tables
 pub mod Tested
 pub mod TraceAgreement
 pub mod Unaligned
+pub mod Uncached
+pub mod Transfers
 pub mod Writeback

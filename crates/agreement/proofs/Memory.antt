@@ -170,10 +170,6 @@ written-same f f′ a bs w =
       grows = record { held = λ _ _ _. refl; alike = λ _ _ _. refl };
     }
 
--- every line but the one that was written is as it was, in a memory
-pub wrote-old : (G G′ : ℕ → ℕ) (a : ℕ) (bs : List ℕ) → Wrote G G′ a bs → a % 64 + length bs ≤ 64 → (b : ℕ) → b / 64 * 64 ≢ a / 64 * 64 → G′ b ≡ G b
-wrote-old G G′ a bs k h b n = k .outside b (λ g. let z = n in omega arith)
-
 module _ (P P′ : ℕ → ℕ → Type 0) (a : ℕ) (bs : List ℕ) (k : Puts P P′ a bs) where
   -- bytes inside one 64-byte line: every other line is as it was
   pub written-old : a % 64 + length bs ≤ 64 → (b : ℕ) → b / 64 * 64 ≢ a / 64 * 64 → (c : ℕ) → P b c → P′ b c

@@ -19,9 +19,9 @@ use Rattle.model.specs.Memories.{externalBase}
 use Rattle.model.specs.Lines.{l1dSetOf, l1dData, l1dLine, l2Line, upperHalf, lineOf}
 use Rattle.model.specs.Records.{State, sramOf, mode0, l2SetOf, l2Data, l1dSetAt, l1dLineAt, l2LineAt, withL1dLine, withL2Line}
 use Rattle.model.specs.Ways.{l1dVictim, l1dWay, l2Way, inL1d, inL2, useL1d, useL2, emptyL1d, emptyL2}
-use Rattle.model.specs.Homes.{homeIsL2, memoryPart, putMemory, putL2, putHome, l2WayFor, takeHalf, takeHalves, writeOutL2, writebackL2, evictL2, fillL2, bringL2, fetchL2}
-use Rattle.model.specs.Access.{Access, access, cacheable, useHit, readHit, writebackL1d, evictL1d, fillL1d, readFilled, readEmptied, readThawed, readFrozen, readMiss, readAccess, putL1d, writeHit, writeHome, writeMiss, writeAccess}
-use Rattle.model.specs.Reports.{Stretch, stretch, Moved, still, reading, writing, andThen, taken, memoryMoved, putMemoryMoved, writeOutL2Moved, fillL2Moved, putHomeMoved, writebackL1dMoved, evictL1dMoved, writebackL2Moved, evictL2Moved, bringL2Moved, fetchL2Moved, homeMoved, fillL1dMoved, writeHomeMoved, readEmptiedMoved, readThawedMoved, readFrozenMoved, readMissMoved, readMoved, writeMissMoved, writeMoved, Report, report, noReport, bytesIn, readMissReport, writeMissReport, readReport, writeReport, storedAll, Stand, Accounts, ReadAccounts, WriteAccounts}
+use Rattle.model.specs.Homes.{homeIsL2, putMemory, putL2, putHome, l2WayFor, takeHalf, takeHalves, writeOutL2, writebackL2, evictL2, fillL2, bringL2, fetchL2}
+use Rattle.model.specs.Access.{Access, cacheable, useHit, readHit, writebackL1d, evictL1d, fillL1d, readFilled, readEmptied, readThawed, readFrozen, readMiss, readAccess, putL1d, writeHit, writeHome, writeMiss, writeAccess}
+use Rattle.model.specs.Reports.{Stretch, stretch, Moved, still, reading, writing, andThen, taken, memoryMoved, putMemoryMoved, writeOutL2Moved, fillL2Moved, putHomeMoved, writebackL1dMoved, evictL1dMoved, writebackL2Moved, evictL2Moved, bringL2Moved, fetchL2Moved, homeMoved, fillL1dMoved, writeHomeMoved, readEmptiedMoved, readThawedMoved, readFrozenMoved, readMissMoved, readMoved, writeMissMoved, writeMoved, Report, report, bytesIn, readMissReport, writeMissReport, readReport, writeReport, storedAll, Stand, Accounts, ReadAccounts, WriteAccounts}
 use Rattle.model.specs.Reports as Says
 use Rattle.model.specs.Refusals.{accessDue}
 use Rattle.model.specs.Calls.{Reply, refused, carriedOut, commandDue, readDone, writeDone, commandState, accepted, step, AtMost128}

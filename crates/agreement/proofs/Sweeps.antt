@@ -4,7 +4,7 @@
 -- Why: each is a loop of steps that keep the state good. L1D is emptied first, way by way, and nothing fills it again;
 -- so no line of L1D can make an L2 line dirty that has gone out. Slots are counted k = set * ways + way, so that
 -- "before k" is one linear test.
-use Prim.Native.Nat.{ℕ, zero, suc, _+_, _*_, _/_, _%_, _<_}
+use Prim.Native.Nat.{ℕ, zero, suc, _+_, _*_, _/_, _%_, _≤_, _<_}
 use mathlib.Core.Bool.{false}
 use mathlib.Core.Path.{_≡_, refl, sym, ap, _∙_}
 use native.Mathlib.Omega.{arith}
@@ -17,15 +17,15 @@ use Rattle.model.specs.Ways.{l1dWay, l2Way, inL1d, inL2}
 use Rattle.model.specs.Access.{evictL1d}
 use Rattle.model.specs.Homes.{writeOutL2, writebackL2, evictL2}
 use Rattle.model.specs.Modes.{flushL2}
-use Rattle.model.specs.Commands.{linesTouched, eachTouched, eachL2, atL2, atL1d, unlessMode0, evictAllL1d, l2WritebackAll, l2WritebackInvalidateAll, l2WritebackBlock, l2WritebackInvalidateBlock, l1dWritebackInvalidateBlock}
+use Rattle.model.specs.Commands.{blockEnd, linesTouched, eachTouched, eachL2, atL2, atL1d, unlessMode0, evictAllL1d, l2WritebackAll, l2WritebackInvalidateAll, l2WritebackBlock, l2WritebackInvalidateBlock, l1dWritebackInvalidateBlock}
 use Rattle.model.specs.Emptied.{evicted-all}
-use Rattle.model.specs.Laws.{bool, false-true, cond-elim, no-ways}
+use Rattle.model.specs.Laws.{bool, false-true, cond-elim, no-ways, touched-lines}
 use Rattle.model.specs.declared.Line.{Line}
 use Rattle.model.specs.declared.Record.{Record}
-use Rattle.agreement.proofs.Level.{Valid, Other, same-slot}
+use Rattle.agreement.proofs.Level.{Valid, Other, Free, same-slot}
 use Rattle.agreement.proofs.Invariant.{Allowed}
-use Rattle.agreement.proofs.Good.{l1dLevel, l2Level, Good, kept-refl, kept-trans, l1d-hit, l2-hit, l1d-bounds, l2-bounds}
-use Rattle.agreement.proofs.Evict.{evictL1d-good}
+use Rattle.agreement.proofs.Good.{l1dLevel, l2Level, Good, kept-refl, kept-trans, l1d-hit, l2-hit, l1d-miss, l1d-bounds, l2-bounds}
+use Rattle.agreement.proofs.Evict.{evictL1d-good, left-refl, left-free, HalfTaken, half-left}
 use Rattle.agreement.proofs.Writeback.{writeOutL2-good, Swept, writebackL2-good, evictL2-good}
 use Rattle.agreement.proofs.ReadWrite.{Step}
 use Rattle.agreement.proofs.Flushes.{sweptL1d}
@@ -221,6 +221,28 @@ module _ (z : State) (F : Allowed) (q : Good z F) where
   unfolding l1dWritebackInvalidateBlock
   l1dWritebackInvalidateBlock-good b c =
       touched-good z F q 64 (atL1d evictL1d) (λ a x g. atL1d-good x F g evictL1d (λ s w hs hw. evictL1d-step x F g s w hs hw) a) b c
+
+-- behind it L1D holds no line that the block touches: each is gone after its turn, and no turn brings one in
+pub l1d-block-gone : (z : State) (F : Allowed) → Good z F → (b c a : ℕ) → b < 0x100000000 → b ≤ a → a < blockEnd b c →
+    Free 64 (l1dLevel (l1dWritebackInvalidateBlock b c z)) a
+unfolding l1dWritebackInvalidateBlock eachTouched atL1d
+l1d-block-gone z F q b c a low from to =
+    let f : ℕ → State → State = λ k. atL1d evictL1d ((b / 64 + k) * 64) in
+    let gone : (l : ℕ) (x : State) → Good x F → HalfTaken x F l (atL1d evictL1d l x) =
+    λ l x g. cond-elim (HalfTaken x F l) (inL1d x l) (evictL1d (l1dSetOf l) (l1dWay x l) x) x
+    (λ y. half-left x F g l y (evictL1d (l1dSetOf l) (l1dWay x l) x) (evictL1d-good x F g (l1dSetOf l) (l1dWay x l) (omega arith) (l1d-hit x l y .way)))
+    (λ y. record { left = left-refl x F g; free = l1d-miss x F g l y }) in
+    let u = each-by (λ k x. Good x F × ((j : ℕ) → j < k → Free 64 (l1dLevel x) ((b / 64 + j) * 64))) f (linesTouched 64 b c) z
+    (q, λ j h. absurd (omega arith))
+    (λ k _ x p. let l = (b / 64 + k) * 64 in let o = gone l x (p .0) in (
+      o .left .good,
+      λ j h. bool (eqb j k)
+          (λ e. let e′ = eqb-true j k e in rw e′ (o .free))
+          (λ e. let e′ = eqb-false j k e in left-free x (f k x) F (o .left) 64 ((b / 64 + j) * 64) (p .1 j (omega arith))),
+    )) in
+    let t = touched-lines 64 b c (a / 64) (omega arith) low .1 (a, from, to, refl) in
+    let e = t .2 in
+    λ s w k i. u .1 (t .0) (t .1) s w k (i ∙ omega arith)
 
 pub l2-block : (z : State) (F : Allowed) → Good z F → (f : ℕ → ℕ → State → State) → Sweeps F f → (b c : ℕ) →
     Step z F (unlessMode0 (eachTouched 128 (atL2 f) b c) z)

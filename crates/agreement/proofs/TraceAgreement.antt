@@ -16,8 +16,8 @@ use Rattle.model.specs.Bytes.{part, stored, littleBytes}
 use Rattle.model.specs.Records.{State, freshState}
 use Rattle.model.specs.Flat.{Flat, freshFlat, flatStep, flatAfter}
 use Rattle.model.specs.Calls.{Reply, Run, ran, step, call, putAnswer, runFrom, runCall, commandAt, putReply, Call, oneCommand, after, commands}
-use Rattle.model.specs.Demand.{listedCode, listed, compared}
-use Rattle.model.specs.Traces.{TurnsSuffice, carriedFrom, carried, AnswersAre, Carries, RunIsCalls, AnswersAgree, Piece, pieceCommands, allCommands, RunAgrees, RunsAgree, TraceDemand3}
+use Rattle.agreement.specs.Demand.{listedCode, listed, compared}
+use Rattle.agreement.specs.Traces.{TurnsSuffice, carriedFrom, carried, AnswersAre, Carries, RunIsCalls, AnswersAgree, Piece, pieceCommands, allCommands, RunAgrees, RunsAgree, TraceDemand3}
 use Rattle.model.specs.Laws.{bool, both-true, length-part, length-stored, length-littleBytes, part-at}
 use Rattle.model.specs.declared.Command.{Command}
 use Rattle.agreement.proofs.Memory.{stored-at, stored-elsewhere}
@@ -25,8 +25,8 @@ use Rattle.agreement.proofs.Good.{Well, good-well}
 use Rattle.agreement.proofs.Reading.{decode-stable}
 use Rattle.agreement.proofs.Steps.{step-well}
 use Rattle.agreement.proofs.Tested.{well-due, call-step}
-use Rattle.agreement.proofs.Agreement.{Is, Matches, step-answered, agree, after-matches, ends-settled, fresh-matches, fresh-accepted}
-use Rattle.model.specs.Traces as T
+use Rattle.agreement.proofs.Agreement.{Is, Matches, step-answered, agree, commands-reach, after-matches, ends-settled, fresh-matches, fresh-accepted}
+use Rattle.agreement.specs.Traces as T
 
 -- ---- the turns suffice: a turn more changes nothing, as long as there are as many as bytes left
 module _ (t : List ℕ) where
@@ -187,10 +187,10 @@ run-agrees : (p : Piece) (z : State) (f : Flat) → Matches z f → listed (comm
 run-agrees p z f m y r =
     record {
       answers = answers-agree (runCall (p .trace) (p .answers) z .answers) (pieceCommands p) 0 z f m y (r .answers-are);
-      places = agree (commands (pieceCommands p)) z f m y;
+      places = agree (commands (pieceCommands p)) z f m y (commands-reach (pieceCommands p) z);
       ended = λ cs c i g.
           let j : commands (pieceCommands p) ≡ commands cs ++ (oneCommand c ∷ []) = ap commands i ∙ commands-append cs (c ∷ []) in
-          rw (r .next, j) (ends-settled (commands cs) c z f m (rw j at y) g);
+          rw (r .next, j) (ends-settled cs c z f m (rw j at y) g);
     }
 
 pub runs-agree : (ps : List Piece) (z : State) (f : Flat) → Matches z f → listed (commands (allCommands ps)) ≡ true →
@@ -201,7 +201,7 @@ runs-agree (p ∷ ps) z f m y =
     let l = listed-append (pieceCommands p) (allCommands ps) y in
     let r = run-calls (p .trace) (p .answers) z (good-well z (Is f) (m .good)) in
     let x = runCall (p .trace) (p .answers) z .next in
-    let m′ : Matches x (flatAfter (commands (pieceCommands p)) f) = rw (r .next) (after-matches (commands (pieceCommands p)) z f m (l .0)) in
+    let m′ : Matches x (flatAfter (commands (pieceCommands p)) f) = rw (r .next) (after-matches (pieceCommands p) z f m (l .0)) in
     T.next (run-agrees p z f m (l .0) r) (runs-agree ps x (flatAfter (commands (pieceCommands p)) f) m′ (l .1))
 
 pub trace-demand3 : TraceDemand3

@@ -2,17 +2,19 @@
 -- words and bytes stand for; so the list of calls from C is the list of calls of the definitions, and what crate
 -- agreement shows of that list carries over place by place.
 use Prim.Native.Nat.{ℕ}
+use mathlib.Core.Bool.{true}
 use mathlib.Core.Path.{_≡_, refl, sym, ap, _∙_, subst}
 use mathlib.Core.List.{List, [], _∷_}
 use lib.ListN.{length}
 use Rattle.model.specs.Flat.{Flat, freshFlat, flatCalled}
 use Rattle.model.specs.Refusals.{viewDue}
 use Rattle.model.specs.Records.{State}
-use Rattle.model.specs.Laws.{cond-elim, call-told, read-unaligned-told, write-unaligned-told}
-use Rattle.model.specs.Calls.{Reply, freshOk, freshCall, viewCall, viewDone, Call, oneCommand, freshStart, look, readUnaligned, writeUnaligned, called}
+use Rattle.model.specs.Laws.{cond-elim, call-told, read-unaligned-told, write-unaligned-told, transfer-in-told}
+use Rattle.model.specs.Calls.{Reply, freshOk, freshCall, viewCall, viewDone, Call, oneCommand, freshStart, look, readUnaligned, writeUnaligned, transferIn, transferOut, called}
 use Rattle.model.specs.declared.Command.{Command}
 use Rattle.tags.specs.Words.{recordIn}
-use Rattle.model.specs.Demand.{Settled, Agree, next}
+use Rattle.agreement.specs.Covered.{joined}
+use Rattle.agreement.specs.Demand.{Settled, Agree, next}
 use Rattle.agreement.proofs.Agreement.{demand3}
 use Rattle.c_answers.specs.Told.{Tells}
 use Rattle.c_answers.specs.declared.CAnswer.{CAnswer}
@@ -28,19 +30,20 @@ along (c ∷ cs) h (made x k p r) f (next a b) =
     (record {
       number = λ t. number-of p ∙ a .number t;
       value = λ t. ap (λ (y : Answered). y .value) (p .answer) ∙ a .value t;
+      bytes = λ t. ap (λ (y : Answered). y .bytes) (p .answer) ∙ a .bytes t;
       settled = λ g n. subst (λ (y : State). Settled y (flatCalled c f .next)) (sym (p .next)) (a .settled g (sym (number-of p) ∙ n));
     })
     (along cs k r (flatCalled c f .next) (subst (λ (y : State). Agree cs y (flatCalled c f .next)) (sym (p .next)) b))
 
 pub demand3-from-c : Demand3FromC
-demand3-from-c d m e x h q z cs l r =
+demand3-from-c d m e x h q z cs l j r =
     let accepted : freshCall d m e .number ≡ 0 = sym (number-of q) ∙ z in
     along cs h r (freshFlat (length m) e)
-    (subst (λ (y : State). Agree cs y (freshFlat (length m) e)) (sym (q .next)) (demand3 d m e accepted cs l))
+    (subst (λ (y : State). Agree cs y (freshFlat (length m) e)) (sym (q .next)) (demand3 d m e accepted cs l (subst (λ (y : State). joined [] cs y ≡ true) (q .next) j)))
 
--- ---- what the contracts of crate boundary say makes such a call: a command's, a non-aligned access's and the fresh
--- start's, which hand back no bytes, and the view's, whose number and bytes C is given and which leaves words and bytes
--- as they are
+-- ---- what the contracts of crate boundary say makes such a call: a command's, a non-aligned access's, a transfer in's
+-- and the fresh start's, which hand back no bytes; a transfer out's, in whose buffer they are; and the view's, whose
+-- number and bytes C is given and which leaves words and bytes as they are
 abbrev plainly : CAnswer → Answered
 plainly x = record { number = x .number; server = x .server; value = x .value; bytes = [] }
 
@@ -63,6 +66,20 @@ pub write-unaligned-from-c : (n a v : ℕ) (h k : Held) (x : CAnswer) → Tells 
     FromC (writeUnaligned n a v) h (plainly x) k
 write-unaligned-from-c n a v h k x t =
     from-c (called (writeUnaligned n a v) (stateOf h)) x k (sym (ap (λ (r : Reply). r .bytes) (write-unaligned-told n a v (stateOf h)))) t
+
+pub transfer-in-from-c : (a : ℕ) (bs : List ℕ) (h k : Held) (x : CAnswer) → Tells x (stateOf k) (called (transferIn a bs) (stateOf h)) →
+    FromC (transferIn a bs) h (plainly x) k
+transfer-in-from-c a bs h k x t =
+    from-c (called (transferIn a bs) (stateOf h)) x k (sym (ap (λ (r : Reply). r .bytes) (transfer-in-told a bs (stateOf h)))) t
+
+pub transfer-out-from-c : (a : ℕ) (o bs : List ℕ) (h k : Held) (x : CAnswer) → Tells x (stateOf k) (called (transferOut a o) (stateOf h)) →
+    bs ≡ called (transferOut a o) (stateOf h) .bytes →
+    FromC (transferOut a o) h (record { number = x .number; server = x .server; value = x .value; bytes = bs }) k
+transfer-out-from-c a o bs h k x t e =
+    record {
+      answer = λ i. record { number = t .0 i .number; server = t .0 i .server; value = t .0 i .value; bytes = e i };
+      next = t .1;
+    }
 
 pub fresh-from-c : (h k : Held) (x : CAnswer) → Tells x (stateOf k) (called freshStart (stateOf h)) → FromC freshStart h (plainly x) k
 unfolding freshCall

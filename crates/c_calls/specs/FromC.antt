@@ -9,7 +9,8 @@ use lib.ListN.{length}
 use Rattle.model.specs.Records.{State, state}
 use Rattle.model.specs.Flat.{Flat, freshFlat, flatCalled}
 use Rattle.model.specs.Calls.{Reply, freshCall, Call, called}
-use Rattle.model.specs.Demand.{listed, compared, global, Settled}
+use Rattle.agreement.specs.Covered.{joined}
+use Rattle.agreement.specs.Demand.{listed, compared, global, Settled}
 use Rattle.tags.specs.Words.{recordIn}
 
 -- what C holds between calls: the words of its record, and the three memories
@@ -22,8 +23,8 @@ pub record Held : Type 0 where
 abbrev pub stateOf : Held → State
 stateOf h = state (recordIn (h .words)) (h .l1d) (h .l2) (h .ext)
 
--- what C is answered: number, server and value; of a view the bytes. What an access reports (02, U2) is no part of
--- demand 3.
+-- what C is answered: number, server and value; of a view and of a transfer out the bytes. What an access reports
+-- (02, U2) is no part of demand 3.
 pub record Answered : Type 0 where
   pub number : ℕ
   pub server : ℕ
@@ -47,11 +48,12 @@ pub data Chain : List Call → Held → Type 0 where
   made : {c : Call} {cs : List Call} {h : Held} (x : Answered) (k : Held) → FromC c h x k → Chain cs k → Chain (c ∷ cs) h
 
 -- ---- what agrees at one place, flat memory being in state f before the call: the number and the value that C was
--- answered; after an accepted global writeback, C's external memory and SRAM are flat memory's and no line is dirty in
--- C's record
+-- answered, and the bytes that it was handed back; after an accepted global writeback, C's external memory and SRAM are
+-- flat memory's and no line is dirty in C's record
 pub record SameAt (c : Call) (x : Answered) (k : Held) (f : Flat) : Type 0 where
   pub number : compared c ≡ true → x .number ≡ flatCalled c f .number
   pub value : compared c ≡ true → x .value ≡ flatCalled c f .value
+  pub bytes : compared c ≡ true → x .bytes ≡ flatCalled c f .bytes
   pub settled : global c ≡ true → x .number ≡ 0 → Settled (stateOf k) (flatCalled c f .next)
 
 -- ---- along the whole list
@@ -65,4 +67,5 @@ pub data AgreeFromC : (cs : List Call) (h : Held) → Chain cs h → Flat → Ty
 abbrev pub Demand3FromC : Type 0
 Demand3FromC =
     (d m e : List ℕ) (x : Answered) (h : Held) → Gives (freshCall d m e) x h → x .number ≡ 0 →
-    (cs : List Call) → listed cs ≡ true → (r : Chain cs h) → AgreeFromC cs h r (freshFlat (length m) e)
+    (cs : List Call) → listed cs ≡ true → joined [] cs (stateOf h) ≡ true → (r : Chain cs h) →
+    AgreeFromC cs h r (freshFlat (length m) e)

@@ -1,9 +1,10 @@
 -- The stronger form of U13 holds (`stronger`). Shown of one call first: where the chip is good by what is seen
 -- (`Seen g h`) and flat memory has the same bytes wherever nothing was lost (`Follows`), that is so again behind it
 -- (`After`), with h cut down or grown as the statement says, and g changed only where the call changes the byte.
--- Why: a command that flat memory does not see keeps the state good by the same g and h; a write puts its bytes into g
--- and adds them to h; a mode change leaves the memories alone to be seen; after a drop the state is good by what is
--- seen now, which differs only where a dirty line was dropped. Each byte of a read is g's.
+-- Why: a command that flat memory does not see keeps the state good by the same g and h, and so does a transfer out; a
+-- write, or a transfer in, puts its bytes into g and adds them to h; a mode change leaves the memories alone to be
+-- seen; after a drop the state is good by what is seen now, which differs only where a dirty line was dropped. Each
+-- byte of a read is g's.
 use Prim.Native.Nat.{ℕ, _+_, _-_, _≤_, _<_}
 use mathlib.Core.Bool.{Bool, true, false, not, cond, _&&_, _||_, and-false}
 use mathlib.Core.Path.{_≡_, refl, sym, ap, _∙_, subst}
@@ -17,11 +18,12 @@ use Rattle.model.specs.Memories.{externalBase, legalL2, legalExternal, sramLeng
 use Rattle.model.specs.Records.{State, sramOf, freshRecord, freshState}
 use Rattle.model.specs.Access.{readAccess}
 use Rattle.model.specs.Unaligned.{readUp, unalignedDue}
+use Rattle.model.specs.Transfers.{sentHome, transferredIn, transferredOut, transferDue}
 use Rattle.model.specs.Modes.{smaller, flushL2, newMode, changeMode}
-use Rattle.model.specs.Flat.{Flat, FlatReply, flatReply, freshFlat, flatPart, flatPut, flatMode, flatRead, flatWrite, flatChange, flatStep, flatReadUnaligned, flatWriteUnaligned, flatCalled}
+use Rattle.model.specs.Flat.{Flat, FlatReply, flatReply, freshFlat, flatPart, flatPut, flatMode, flatRead, flatWrite, flatChange, flatStep, flatReadUnaligned, flatWriteUnaligned, flatTransferIn, flatHandedBack, flatTransferOut, flatCalled}
 use Rattle.model.specs.Refusals.{accessDue, modeDue}
 use Rattle.model.specs.Trace.{command}
-use Rattle.model.specs.Calls.{Reply, refused, commandDue, readDone, writeDone, commandState, accepted, step, call, viewDone, unalignedDueIn, readUnalignedDone, writeUnalignedDone, readUnalignedStep, writeUnalignedStep, readUnalignedCall, Call, oneCommand, freshStart, look, readUnaligned, writeUnaligned, called}
+use Rattle.model.specs.Calls.{Reply, refused, carriedOut, commandDue, readDone, writeDone, commandState, accepted, step, call, viewDone, unalignedDueIn, readUnalignedDone, writeUnalignedDone, readUnalignedStep, writeUnalignedStep, readUnalignedCall, transferDueIn, handedBack, transferInStep, transferOutStep, Call, oneCommand, freshStart, look, readUnaligned, writeUnaligned, transferIn, transferOut, called}
 use Rattle.dropped_lines.specs.Dropped.{listedCall, listed, byteAt, memoryAt, reads, writes, newByte, changesMode, dropCode, HoldsAt, oneOf}
 use Rattle.dropped_lines.specs.Reached.{within}
 use Rattle.dropped_lines.specs.Stronger.{dirtyInL1d, dirtyInL2, inDirtyLine, loses, showsAfter, lostAfter, changes, HoldsStronger, StrongerDroppedLines, end, next}
@@ -35,6 +37,7 @@ use Rattle.dropped_lines.proofs.ByteAt.{due-inside, unaligned-inside, b
 use Rattle.agreement.proofs.Fetch.{AccessFits}
 use Rattle.agreement.proofs.ReadWrite.{Step}
 use Rattle.agreement.proofs.Unaligned.{due-fits, accepted-read-up, accepted-write-up, read-unaligned-step, write-unaligned-step, read-unaligned-done}
+use Rattle.agreement.proofs.Transfers.{transfer-fits, sent-good, sent-uncached, transferred-in-good, transfer-in-step, transfer-out-step}
 use Rattle.agreement.proofs.Sweeps.{flush-good}
 use Rattle.agreement.proofs.Changes.{zero-length, zero-below, zero-above, smaller-bound, fresh-l1d-none, fresh-l2-none, fresh-good, newMode-good}
 use Rattle.agreement.proofs.Due.{access-tells, accepted-read, accepted-write, mode-tells}
@@ -161,18 +164,15 @@ module _ (z : State) (f : Flat) (h : ℕ → List ℕ) (lost : ℕ → Bool) (g 
         inMemory = λ _. memory-may c r h h (seen z′) q (grown-in c r h);
       }
 
--- ---- an accepted write of a bytes at b, aligned (`cw` is that command) or not
-module _ (z : State) (f : Flat) (h : ℕ → List ℕ) (lost : ℕ → Bool) (g : ℕ → ℕ) (m : Follows z f h lost g) (a b v : ℕ) (cw : Call) (r : Reply)
-    (wr : (x : ℕ) → writes cw r x ≡ within b a x) (new : (x : ℕ) → newByte cw x ≡ getD (littleBytes v a) (x - b) 0) where
-  abbrev bs : List ℕ
-  bs = littleBytes v a
-
+-- ---- an accepted call that writes the a bytes bs at b (`cw` is that call): a write, aligned or not, or a transfer in
+module _ (z : State) (f : Flat) (h : ℕ → List ℕ) (lost : ℕ → Bool) (g : ℕ → ℕ) (m : Follows z f h lost g) (a b : ℕ) (bs : List ℕ) (long : length bs ≡ a)
+    (cw : Call) (r : Reply) (wr : (x : ℕ) → writes cw r x ≡ within b a x) (new : (x : ℕ) → newByte cw x ≡ getD bs (x - b) 0) where
   writes-in : (x : ℕ) → b ≤ x → x < b + length bs → writes cw r x ≡ true
-  writes-in x l u = let n = length-littleBytes v a in let e = wr x in rw (e, le-leb b x l, lt-ltb x (b + a) (omega arith)) refl
+  writes-in x l u = let n = long in let e = wr x in rw (e, le-leb b x l, lt-ltb x (b + a) (omega arith)) refl
 
   writes-out : (x : ℕ) → (b ≤ x → b + length bs ≤ x) → writes cw r x ≡ false
   writes-out x o =
-      let n = length-littleBytes v a in let e = wr x in
+      let n = long in let e = wr x in
       bool (leb b x)
       (λ t. let u = o (leb-true b x t) in rw (e, t, le-ltb x (b + a) (omega arith)) refl)
       (λ t. rw (e, t) refl)
@@ -220,7 +220,7 @@ module _ (z : State) (f : Flat) (h : ℕ → List ℕ) (lost : ℕ → Bool) (g 
     where
       fits : Fits (f .sram) (f .ext) b (length bs)
       fits =
-          let n = length-littleBytes v a in let s = m .sizes .sram in let x = m .sizes .ext in
+          let n = long in let s = m .sizes .sram in let x = m .sizes .ext in
           record { low = λ y. let l = k .low y in omega arith; high = λ y. let l = k .high y in omega arith }
 
       sram-below : length (f .sram) ≤ externalBase
@@ -368,7 +368,7 @@ module _ (z : State) (f : Flat) (h : ℕ → List ℕ) (lost : ℕ → Bool) (g 
       (λ t. let t′ : eqb (accessDue (length (f .sram)) (length (f .ext)) a b v) 0 ≡ true = rw e t in
       let ok : step (command 1 a b v) z .number ≡ 0 = rw (step, t) refl in
       let k = access-tells (sramOf (z .rec)) (z .rec .extlen) a b v (eqb-true (access v) 0 t) in let mo = k .more in
-      rw (flatStep, t′) (write-after z f h lost g m a b v (oneCommand (command 1 a b v)) (step (command 1 a b v) z) (λ x. rw ok refl) (λ _. refl)
+      rw (flatStep, t′) (write-after z f h lost g m a b (littleBytes v a) (length-littleBytes v a) (oneCommand (command 1 a b v)) (step (command 1 a b v) z) (λ x. rw ok refl) (λ _. refl)
       (record { low = λ y. let l = k .low y in omega arith; high = λ y. let l = k .high y in omega arith })
       (λ F w. rw (step, t) (accepted-write z (Seen g h) (m .good) a b F v w (eqb-true (access v) 0 t)))))
       (λ t. let t′ : eqb (accessDue (length (f .sram)) (length (f .ext)) a b v) 0 ≡ false = rw e t in
@@ -465,10 +465,36 @@ module _ (z : State) (f : Flat) (h : ℕ → List ℕ) (lost : ℕ → Bool) (g 
       rw e (cond-both (λ (r : Reply) (y : FlatReply). After c z r f (y .next) h lost g) (eqb d 0) (writeUnalignedDone n b v z) (refused d z)
       (flatReply 0 0 (flatPut b (littleBytes v n) f)) (flatReply d 0 f)
       (λ t. let t′ = eqb-true d 0 t in
-      write-after z f h lost g m n b v c (writeUnalignedDone n b v z) (λ _. refl) (λ _. refl)
+      write-after z f h lost g m n b (littleBytes v n) (length-littleBytes v n) c (writeUnalignedDone n b v z) (λ _. refl) (λ _. refl)
       (due-fits (sramOf (z .rec)) (z .rec .extlen) n b v (layoutOf (z .rec)) refl refl (omega arith) t′)
       (λ F w. accepted-write-up z (Seen g h) F (m .good) n b v w t′))
       (λ t. quiet-after z f h lost g m c (refused d z) f refl (λ _. rw t refl) (quiet-refl z (Seen g h) (m .good))))
+
+-- ---- transfers, in ones below external memory: once the touched lines have gone home, no line has a byte of theirs
+module _ (z : State) (f : Flat) (h : ℕ → List ℕ) (lost : ℕ → Bool) (g : ℕ → ℕ) (m : Follows z f h lost g) (b : ℕ) where
+  transfer-in-after : (bs : List ℕ) → ltb b externalBase ≡ true → After (transferIn b bs) z (transferInStep b bs z) f (flatTransferIn b bs f .next) h lost g
+  unfolding transferInStep flatTransferIn writes
+  transfer-in-after bs low =
+      let n = length bs in let d = transferDueIn z n b in let c = transferIn b bs in let F = Seen g h in
+      let e : transferDue (length (f .sram)) (length (f .ext)) n b ≡ d = rw (m .sizes .sram, m .sizes .ext) refl in
+      rw e (cond-both (λ (r : Reply) (y : FlatReply). After c z r f (y .next) h lost g) (eqb d 0) (carriedOut (transferredIn b bs z)) (refused d z)
+      (flatReply 0 0 (flatPut b bs f)) (flatReply d 0 f)
+      (λ t. let o = eqb-true d 0 t in
+      let free = sent-uncached z F (m .good) n b o (λ y. let y′ = ltb-true b externalBase low in absurd (omega arith)) in
+      write-after z f h lost g m n b bs refl c (carriedOut (transferredIn b bs z)) (λ _. refl) (λ _. refl) (transfer-fits z n b o)
+      (λ F′ w. transferred-in-good z F F′ (m .good) b bs w o free))
+      (λ t. quiet-after z f h lost g m c (refused d z) f refl (λ _. rw t refl) (quiet-refl z F (m .good))))
+
+  transfer-out-after : (o : List ℕ) → After (transferOut b o) z (transferOutStep b o z) f (flatTransferOut b o f .next) h lost g
+  unfolding transferOutStep flatTransferOut writes
+  transfer-out-after o =
+      let n = length o in let d = transferDueIn z n b in let F = Seen g h in let x = sentHome b n z in
+      let d′ = transferDue (length (f .sram)) (length (f .ext)) n b in
+      quiet-after z f h lost g m (transferOut b o) (transferOutStep b o z) (flatTransferOut b o f .next)
+      (cond-elim (λ (y : FlatReply). y .next ≡ f) (eqb d′ 0) (flatHandedBack 0 (flatPart b n f) f) (flatHandedBack d′ o f) (λ _. refl) (λ _. refl))
+      (λ _. refl)
+      (cond-elim (λ (y : Reply). Quiet z F (y .next)) (eqb d 0) (handedBack 0 (transferredOut b n z) x) (handedBack d o z)
+      (λ _. quiet-step z F x (sent-good z F (m .good) b n)) (λ _. quiet-refl z F (m .good)))
 
 -- a view changes nothing, a fresh start is in no list
 pub call-after : (c : Call) (z : State) (f : Flat) (h : ℕ → List ℕ) (lost : ℕ → Bool) (g : ℕ → ℕ) → listedCall c ≡ true → Follows z f h lost g →
@@ -481,6 +507,10 @@ call-after (readUnaligned n b) z f h lost g y m =
     let s = read-unaligned-step n b z (good-well z (Seen g h) (m .good)) in rw s (read-unaligned-after z f h lost g m n b)
 call-after (writeUnaligned n b v) z f h lost g y m =
     let s = write-unaligned-step n b v z (good-well z (Seen g h) (m .good)) in rw s (write-unaligned-after z f h lost g m n b v)
+call-after (transferIn b bs) z f h lost g y m =
+    let s = transfer-in-step b bs z (good-well z (Seen g h) (m .good)) in rw s (transfer-in-after z f h lost g m b bs y)
+call-after (transferOut b o) z f h lost g y m =
+    let s = transfer-out-step b o z (good-well z (Seen g h) (m .good)) in rw s (transfer-out-after z f h lost g m b o)
 call-after (oneCommand c) z f h lost g y m =
     let s = call-step c z (good-well z (Seen g h) (m .good)) in rw s (step-after c z f h lost g m)
 
@@ -515,6 +545,8 @@ unfolding reads
 reads-inside freshStart z w a y = false-true y
 reads-inside (look b) z w a y = false-true y
 reads-inside (writeUnaligned n b v) z w a y = false-true y
+reads-inside (transferIn b bs) z w a y = false-true y
+reads-inside (transferOut b o) z w a y = false-true y
 reads-inside (readUnaligned n b) z w a y =
     let p = both-true (eqb (readUnalignedCall n b z .number) 0) (within b n a) y in
     let i = both-true (leb b a) (ltb a (b + n)) (p .1) in

@@ -8,7 +8,7 @@ use lib.ListN.{length}
 use Rattle.model.specs.Records.{State, freshState}
 use Rattle.model.specs.Flat.{Flat, freshFlat, flatStep, flatAfter}
 use Rattle.model.specs.Calls.{call, runCall, oneCommand, after, commands}
-use Rattle.model.specs.Traces.{Piece, pieceCommands}
+use Rattle.agreement.specs.Traces.{Piece, pieceCommands}
 use Rattle.model.specs.declared.Command.{Command}
 use Rattle.agreement.proofs.Good.{good-well}
 use Rattle.agreement.proofs.Agreement.{fresh-accepted}

@@ -1,16 +1,18 @@
 -- A writeback that reached an address leaves no dirty line with it (`sent-clean`): where a step of an accepted command
--- sent the line out to memory, as Reached tells it, neither cache has it dirty behind the command.
+-- sent the line out to memory, as Reached tells it, neither cache has it dirty behind the command. The same of a
+-- transfer (`in-sent-clean`, `out-sent-clean`).
 -- Why: the step itself leaves the line clean or gone, and takes its halves out of L1D (crate agreement: `Swept`,
 -- `L1dEvicted`); behind a global writeback no line is dirty at all. No later step of the same command makes it dirty
--- again: an L2 line becomes dirty through a half in
--- L1D, and L1D holds none of this one; a line that is fetched comes clean; and a write miss that put a line out
--- writes into another line.
+-- again: an L2 line becomes dirty through a half in L1D, and L1D holds none of this one; a line that is fetched comes
+-- clean; and a write miss that put a line out writes into another line. A transfer sends what L1D block
+-- writeback-invalidate does, and its bytes go past the caches.
 use Prim.Native.Nat.{ℕ, zero, suc, _+_, _-_, _/_, _%_, _≤_, _<_}
 use mathlib.Core.Bool.{Bool, true, false, not, cond, _&&_, _||_}
 use mathlib.Core.Path.{_≡_, refl, sym, ap, _∙_, subst}
 use mathlib.Core.Logic.{_≢_}
 use mathlib.Core.List.{List}
 use native.Mathlib.Omega.{arith}
+use lib.ListN.{length}
 use lib.Dec.{ltb, leb, eqb}
 use borrow.Author.Tests.{ltb-true, ltb-false, leb-true, le-ltb, eqb-true, eqb-false, ne-eqb}
 use Rattle.model.specs.Basics.{each}
@@ -23,8 +25,9 @@ use Rattle.model.specs.Homes.{homeIsL2, putL2, l2WayFor, takeHalves, writebackL
 use Rattle.model.specs.Access.{Access, cacheable, evictL1d, fillL1d, readFilled, readEmptied, readThawed, readFrozen, readMiss, readAccess, writeHome, writeMiss, writeAccess}
 use Rattle.model.specs.Commands.{linesTouched, eachTouched, atL1d, atL2, unlessMode0, l2WritebackAll, l2WritebackInvalidateAll, l2WritebackBlock, l2WritebackInvalidateBlock, l1dWritebackInvalidateBlock}
 use Rattle.model.specs.Refusals.{accessDue, blockDue}
+use Rattle.model.specs.Transfers.{sentHome, transferredIn, transferredOut}
 use Rattle.model.specs.Trace.{command}
-use Rattle.model.specs.Calls.{Reply, refused, carriedOut, commandDue, readDone, writeDone, commandState, accepted, step}
+use Rattle.model.specs.Calls.{Reply, refused, carriedOut, commandDue, readDone, writeDone, commandState, accepted, step, transferDueIn, handedBack, transferInStep, transferOutStep}
 use Rattle.model.specs.Laws.{bool, false-true, both-true, cond-elim, mode0-sets, cond-both}
 use Rattle.model.specs.declared.Line.{Line}
 use Rattle.model.specs.declared.Record.{Record}
@@ -33,15 +36,15 @@ use Rattle.agreement.proofs.Level.{Valid, NoDirty, Free, same-slot, kept-was}
 use Rattle.agreement.proofs.Invariant.{Allowed, grows-refl, Layout}
 use Rattle.agreement.proofs.Memory.{Written}
 use Rattle.agreement.proofs.Good.{layoutOf, l1dLevel, l2Level, Good, Tidy, Anything, Well, Kept, l1d-hit, l2-hit, l2-miss, l2-bounds, l1d-victim-bound, home-l2, withLists, l1d-replaced, l2-replaced, l1d-used-line, l2-used-line}
-use Rattle.agreement.proofs.Evict.{Clear, memory-free, evictL1d-good, left-free, evicted-free}
+use Rattle.agreement.proofs.Evict.{Clear, putMemory-state, memory-free, evictL1d-good, left-free, evicted-free}
 use Rattle.agreement.proofs.Writeback.{Swept, evictL2-good}
 use Rattle.agreement.proofs.Fetch.{AccessFits, cacheable-yes, fetchL2-good}
 use Rattle.agreement.proofs.ReadWrite.{Step}
 use Rattle.agreement.proofs.Sweeps.{Sweeps, AllOut, each-by, step-refl, step-trans, atL1d-good, atL2-good, evictL1d-step, swept-step, writebackL2-sweeps, evictL2-sweeps, l2-block, l2WritebackAll-good, l2WritebackInvalidateAll-good, l1dWritebackInvalidateBlock-good}
 use Rattle.agreement.proofs.Due.{accepted-fits, accepted-read, accepted-write}
 use Rattle.agreement.proofs.Steps.{codes}
-use Rattle.dropped_lines.specs.Reached.{within, outOfL2, l1dSends, l2Sends, fetchSends, thawedSends, missSends, readSends, writeSends, Going, goOn, oneSends, touchedSend, touchedL1dSend, overBlockSend, lineOfBlock, chosen, sends}
-use Rattle.dropped_lines.specs.Stronger.{inDirtyLine}
+use Rattle.dropped_lines.specs.Reached.{within, outOfL2, l1dSends, l2Sends, fetchSends, thawedSends, missSends, readSends, writeSends, Going, goOn, oneSends, touchedSend, touchedL1dSend, overBlockSend, lineOfBlock, chosen, sends, transferSends}
+use Rattle.dropped_lines.specs.Stronger.{dirtyInL1d, dirtyInL2, inDirtyLine}
 use Rattle.dropped_lines.proofs.Held.{no-dirty}
 
 pub either {ℓ} : {A : Type ℓ} (a b : Bool) → (a || b) ≡ true → (a ≡ true → A) → (b ≡ true → A) → A
@@ -402,6 +405,37 @@ module _ (z : State) (q : Well z) (a b n : ℕ) (f : AccessFits (layoutOf (z .re
       rw p (left-clean z Anything q a b y₁ (putL2 (l2SetOf (y₁ .rec) b) (l2WayFor z b) b bs y₁) l (w′ .good) (w′ .kept)
       (put-lines y₁ (h .good .tidy) (l2SetOf (y₁ .rec) b) (l2WayFor z b) b bs (l2-bounds y₁ Anything (h .good) (l2SetOf (y₁ .rec) b) (l2WayFor z b) k .0) (i .way) k))
 
+-- ---- L1D block writeback-invalidate; transfers
+module _ (z : State) (q : Well z) (a : ℕ) where
+  l1d-block-clean : (b c : ℕ) → touchedL1dSend a b c z ≡ true → inDirtyLine (l1dWritebackInvalidateBlock b c z) a ≡ false
+  l1d-block-clean b c y =
+      let z′ = l1dWritebackInvalidateBlock b c z in
+      let o = l1d-block-gone z Anything q a b c y in
+      let w = l1dWritebackInvalidateBlock-good z Anything q b c in
+      memory-clean z z′ Anything (w .good) (w .kept) a (sym (home-same z z′ a (w .kept)) ∙ o .1) (λ s w′ k _ e. o .0 s w′ k e)
+
+  home-clean : (b n : ℕ) → transferSends b n z a ≡ true → inDirtyLine (sentHome b n z) a ≡ false
+  unfolding transferSends sentHome
+  home-clean b n y =
+      let p = both-true (ltb b externalBase) (touchedL1dSend a b (n / 4) z) y in
+      rw (p .0) (l1d-block-clean b (n / 4) (p .1))
+
+  pub out-sent-clean : (b : ℕ) (o : List ℕ) → transferOutStep b o z .number ≡ 0 → transferSends b (length o) z a ≡ true →
+      inDirtyLine (transferOutStep b o z .next) a ≡ false
+  unfolding transferOutStep
+  out-sent-clean b o e y =
+      let n = length o in let d = transferDueIn z n b in
+      cond-elim (λ (r : Reply). r .number ≡ 0 → inDirtyLine (r .next) a ≡ false) (eqb d 0) (handedBack 0 (transferredOut b n z) (sentHome b n z)) (handedBack d o z)
+      (λ _ _. home-clean b n y) (λ t k. absurd (eqb-false d 0 t k)) e
+
+  pub in-sent-clean : (b : ℕ) (bs : List ℕ) → transferInStep b bs z .number ≡ 0 → transferSends b (length bs) z a ≡ true →
+      inDirtyLine (transferInStep b bs z .next) a ≡ false
+  unfolding transferInStep transferredIn inDirtyLine dirtyInL1d dirtyInL2 inL1d inL2 l1dWay l2Way
+  in-sent-clean b bs e y =
+      let n = length bs in let d = transferDueIn z n b in let x = sentHome b n z in
+      cond-elim (λ (r : Reply). r .number ≡ 0 → inDirtyLine (r .next) a ≡ false) (eqb d 0) (carriedOut (transferredIn b bs z)) (refused d z)
+      (λ _ _. rw (putMemory-state b bs x) (home-clean b n y)) (λ t k. absurd (eqb-false d 0 t k)) e
+
 -- ---- a command by its code
 module _ (z : State) (q : Well z) (a m b v : ℕ) where
   abbrev Clean : ℕ → Type 0
@@ -484,12 +518,7 @@ module _ (z : State) (q : Well z) (a m b v : ℕ) where
 
   clean-7 : Clean 7
   unfolding step commandDue accepted commandState sends
-  clean-7 =
-      let z′ = l1dWritebackInvalidateBlock m b z in
-      block-clean z′ (touchedL1dSend a m b z)
-      (λ y. let o = l1d-block-gone z Anything q a m b y in
-      let w = l1dWritebackInvalidateBlock-good z Anything q m b in
-      memory-clean z z′ Anything (w .good) (w .kept) a (sym (home-same z z′ a (w .kept)) ∙ o .1) (λ s w′ k _ e. o .0 s w′ k e))
+  clean-7 = block-clean (l1dWritebackInvalidateBlock m b z) (touchedL1dSend a m b z) (l1d-block-clean z q a m b)
 
   clean-other : (k : ℕ) → sends (command k m b v) z a ≡ false → Clean k
   clean-other k e _ y = false-true (sym e ∙ y)

@@ -22,7 +22,7 @@ use Rattle.model.specs.Modes.{newMode, changeMode}
 use Rattle.model.specs.Flat.{Flat, freshFlat, flatStep, flatCalled}
 use Rattle.model.specs.Refusals.{modeDue}
 use Rattle.model.specs.Trace.{command}
-use Rattle.model.specs.Calls.{Reply, refused, carriedOut, commandDue, commandState, accepted, step, call, Call, oneCommand, freshStart, look, readUnaligned, writeUnaligned, called}
+use Rattle.model.specs.Calls.{Reply, refused, carriedOut, commandDue, commandState, accepted, step, call, transferInStep, transferOutStep, Call, oneCommand, freshStart, look, readUnaligned, writeUnaligned, transferIn, transferOut, called}
 use Rattle.model.specs.Bytewise.{byteRead, byteWrite, callsTo}
 use Rattle.model.specs.Laws.{bool, false-true, both-true, cond-elim}
 use Rattle.model.specs.declared.Command.{Command}
@@ -34,14 +34,15 @@ use Rattle.agreement.proofs.Steps.{dropped-6, dropped-8, dropped-9}
 use Rattle.agreement.proofs.Changes.{fresh-l1d-none, fresh-l2-none}
 use Rattle.agreement.proofs.Tested.{call-step}
 use Rattle.agreement.proofs.Unaligned.{Either, read-unaligned-either, write-unaligned-either}
+use Rattle.agreement.proofs.Transfers.{transfer-in-step, transfer-out-step}
 use Rattle.agreement.proofs.Agreement.{fresh-accepted}
-use Rattle.dropped_lines.specs.Reached.{sends}
-use Rattle.dropped_lines.specs.Dropped.{listedCall, listed, byteAt, memoryAt, does, writes, newByte, changesMode, reached, dropCode, dropsLine, dropTouches, History, atFirst, heldAfter, historyOne, historyBytes, historyAfter, HoldsAt, oneOf, lastOrHeld, mayChange, Holds, DroppedLines, end, next}
+use Rattle.dropped_lines.specs.Reached.{sends, transferSends}
+use Rattle.dropped_lines.specs.Dropped.{listedCall, listed, byteAt, memoryAt, writes, newByte, changesMode, sendsOut, reached, dropCode, dropsLine, dropTouches, History, atFirst, heldAfter, historyOne, historyBytes, historyAfter, HoldsAt, oneOf, lastOrHeld, mayChange, Holds, DroppedLines, end, next}
 use Rattle.dropped_lines.specs.Stronger.{dirtyInL1d, dirtyInL2, inDirtyLine, loses, showsAfter, lostAfter, changes}
 use Rattle.dropped_lines.proofs.Held.{In, Seen, neither, DirtyAt, l1d-dirty, l2-dirty, l1d-clean, l2-clean, none-dirty, still-dirty}
 use Rattle.dropped_lines.proofs.ByteAt.{byte-right}
 use Rattle.dropped_lines.proofs.Dropping.{Follows, After, grown, inside-same, call-after, reads-inside, holds-at, fresh-follows}
-use Rattle.dropped_lines.proofs.Sent.{either, sent-clean}
+use Rattle.dropped_lines.proofs.Sent.{either, in-sent-clean, out-sent-clean, sent-clean}
 use Rattle.dropped_lines.proofs.Touching.{loses-touched}
 
 -- ---- the stronger form's values and losses are within the request's
@@ -62,12 +63,23 @@ mode-0 k m b v z e =
 number-step : (c : Command) (z : State) → Well z → eqb (call c z .number) 0 ≡ true → step c z .number ≡ 0
 number-step c z q t = sym (ap (λ (r : Reply). r .number) (call-step c z q)) ∙ eqb-true (call c z .number) 0 t
 
+sent-tells : (r : Reply) (s : Bool) → ((eqb (r .number) 0 && s) || false) ≡ true → (r .number ≡ 0) × (s ≡ true)
+sent-tells r s y =
+    either (eqb (r .number) 0 && s) false y
+    (λ t. let p = both-true (eqb (r .number) 0) s t in (eqb-true (r .number) 0 (p .0), p .1)) (λ t. false-true t)
+
 reached-clean : (c : Call) (z : State) → Well z → (a : ℕ) → reached c z (called c z) a ≡ true → inDirtyLine (called c z .next) a ≡ false
 unfolding reached changesMode
 reached-clean freshStart z q a y = false-true y
 reached-clean (look b) z q a y = false-true y
 reached-clean (readUnaligned n b) z q a y = false-true y
 reached-clean (writeUnaligned n b v) z q a y = false-true y
+reached-clean (transferIn b bs) z q a y =
+    let s = transfer-in-step b bs z q in let p = sent-tells (transferInStep b bs z) (transferSends b (length bs) z a) (rw s at y) in
+    rw s (in-sent-clean z q a b bs (p .0) (p .1))
+reached-clean (transferOut b o) z q a y =
+    let s = transfer-out-step b o z q in let p = sent-tells (transferOutStep b o z) (transferSends b (length o) z a) (rw s at y) in
+    rw s (out-sent-clean z q a b o (p .0) (p .1))
 reached-clean (oneCommand c) z q a y =
     let s = call-step c z q in let n = eqb (call c z .number) 0 in
     let e : inDirtyLine (step c z .next) a ≡ false =
@@ -88,7 +100,7 @@ cons-in x b bs ds k p = bool (eqb x b) (λ t. rw t refl) (λ t. rw t (k (rw t at
 
 not-reached : (c : Call) (z : State) (r : Reply) (a : ℕ) → reached c z r a ≡ false → changesMode c r ≡ false
 unfolding reached
-not-reached c z r a t = neither (does (λ k. sends k z a) c r) (changesMode c r) t .1
+not-reached c z r a t = neither (sendsOut c z r a) (changesMode c r) t .1
 
 held-covers : (c : Call) (z : State) → Well z → (f f′ : Flat) (h : ℕ → List ℕ) (lost : ℕ → Bool) (g : ℕ → ℕ) → After c z (called c z) f f′ h lost g →
     (y : History) → Covers z h lost y → (a x : ℕ) → Inside (layoutOf (called c z .next .rec)) a → In x (showsAfter c (called c z) h a) →
@@ -157,6 +169,8 @@ loses-dropped freshStart z q a y = refl
 loses-dropped (look b) z q a y = refl
 loses-dropped (readUnaligned n b) z q a y = refl
 loses-dropped (writeUnaligned n b v) z q a y = refl
+loses-dropped (transferIn b bs) z q a y = refl
+loses-dropped (transferOut b o) z q a y = refl
 loses-dropped (oneCommand c) z q a y =
     let s = call-step c z q in let z′ = call c z .next in
     bool (dropCode (c .code))
@@ -280,6 +294,8 @@ unfolding loses
 stands-after (oneCommand k) z f y l p = stands-one (oneCommand k) z f y l p
 stands-after freshStart z f y l p = stands-one freshStart z f y l p
 stands-after (look b) z f y l p = stands-one (look b) z f y l p
+stands-after (transferIn b bs) z f y l p = stands-one (transferIn b bs) z f y l p
+stands-after (transferOut b o) z f y l p = stands-one (transferOut b o) z f y l p
 stands-after (readUnaligned n b) z f y l p =
     let c = readUnaligned n b in let r = called c z in
     let a = call-after c z f (p .h) (p .lost) (p .g) l (p .follows) in

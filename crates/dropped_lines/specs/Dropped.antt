@@ -9,6 +9,7 @@ use lib.ListN.{length, getD}
 use lib.Dec.{ltb, leb, eqb}
 use Rattle.model.specs.Basics.{anyOf}
 use Rattle.model.specs.Bytes.{little, littleBytes}
+use Rattle.model.specs.Memories.{externalBase}
 use Rattle.model.specs.Lines.{l1dKind, l2LineLength}
 use Rattle.model.specs.Records.{State}
 use Rattle.model.specs.Ways.{inL1d, inL2}
@@ -16,20 +17,22 @@ use Rattle.model.specs.Homes.{memoryPart}
 use Rattle.model.specs.Commands.{linesTouched}
 use Rattle.model.specs.Flat.{Flat, freshFlat, flatStep, flatCalled}
 use Rattle.model.specs.Trace.{command}
-use Rattle.model.specs.Calls.{Reply, call, freshCall, Call, oneCommand, freshStart, look, readUnaligned, writeUnaligned, called}
+use Rattle.model.specs.Calls.{Reply, call, freshCall, Call, oneCommand, freshStart, look, readUnaligned, writeUnaligned, transferIn, transferOut, called}
 use Rattle.model.specs.Bytewise.{byteRead, byteWrite, callsTo}
 use Rattle.model.specs.declared.Command.{Command}
-use Rattle.dropped_lines.specs.Reached.{within, sends}
+use Rattle.dropped_lines.specs.Reached.{within, sends, transferSends}
 
 -- ---- "For lists that also hold the three invalidating commands, external transfers left out": commands of every code
--- with any numbers, refused ones too, views, and non-aligned accesses (02, U6). A fresh start begins a list and is no
--- call of it.
+-- with any numbers, views, non-aligned accesses (02, U6), and transfers, in and out, below external memory (02, U1);
+-- refused ones too. A fresh start begins a list and is no call of it.
 abbrev pub listedCall : Call → Bool
 listedCall (oneCommand k) = true
 listedCall freshStart = false
 listedCall (look b) = true
 listedCall (readUnaligned n b) = true
 listedCall (writeUnaligned n b v) = true
+listedCall (transferIn b bs) = ltb b externalBase
+listedCall (transferOut b o) = ltb b externalBase
 
 unfoldable pub listed : List Call → Bool
 listed [] = true
@@ -61,22 +64,28 @@ does p freshStart r = false
 does p (look b) r = false
 does p (readUnaligned n b) r = false
 does p (writeUnaligned n b v) r = false
+does p (transferIn b bs) r = false
+does p (transferOut b o) r = false
 
--- "each byte of a CPU data read": of one that was accepted, aligned or not
+-- "each byte of a CPU data read": of one that was accepted, aligned or not. A transfer out is none.
 unfoldable pub reads : Call → Reply → ℕ → Bool
 reads (oneCommand k) r a = eqb (r .number) 0 && (eqb (k .code) 0 && within (k .second) (k .first) a)
 reads freshStart r a = false
 reads (look b) r a = false
 reads (readUnaligned n b) r a = eqb (r .number) 0 && within b n a
 reads (writeUnaligned n b v) r a = false
+reads (transferIn b bs) r a = false
+reads (transferOut b o) r a = false
 
--- "the last one written (a SRAM transfer in writes too)": the call writes a, and which byte. Transfers are no calls yet.
+-- "the last one written (a SRAM transfer in writes too)": the call writes a, and which byte
 unfoldable pub writes : Call → Reply → ℕ → Bool
 writes (oneCommand k) r a = eqb (r .number) 0 && (eqb (k .code) 1 && within (k .second) (k .first) a)
 writes freshStart r a = false
 writes (look b) r a = false
 writes (readUnaligned n b) r a = false
 writes (writeUnaligned n b v) r a = eqb (r .number) 0 && within b n a
+writes (transferIn b bs) r a = eqb (r .number) 0 && within b (length bs) a
+writes (transferOut b o) r a = false
 
 abbrev pub newByte : Call → ℕ → ℕ
 newByte (oneCommand k) a = getD (littleBytes (k .value) (k .first)) (a - k .second) 0
@@ -84,6 +93,8 @@ newByte freshStart a = 0
 newByte (look b) a = 0
 newByte (readUnaligned n b) a = 0
 newByte (writeUnaligned n b v) a = getD (littleBytes v n) (a - b) 0
+newByte (transferIn b bs) a = getD bs (a - b) 0
+newByte (transferOut b o) a = 0
 
 unfoldable pub changesMode : Call → Reply → Bool
 changesMode c r = does (λ k. eqb (k .code) 10) c r
@@ -91,8 +102,17 @@ changesMode c r = does (λ k. eqb (k .code) 10) c r
 -- "a writeback last reached its external memory (for SRAM, its SRAM byte), .. a fresh start or mode change counting as
 -- one": one of the call's steps sent the line with a out there, the call being made in state z. (Of a non-aligned
 -- access it is asked byte by byte: `historyAfter`.)
+abbrev pub sendsOut : Call → State → Reply → ℕ → Bool
+sendsOut (oneCommand k) z r a = eqb (r .number) 0 && sends k z a
+sendsOut freshStart z r a = false
+sendsOut (look b) z r a = false
+sendsOut (readUnaligned n b) z r a = false
+sendsOut (writeUnaligned n b v) z r a = false
+sendsOut (transferIn b bs) z r a = eqb (r .number) 0 && transferSends b (length bs) z a
+sendsOut (transferOut b o) z r a = eqb (r .number) 0 && transferSends b (length o) z a
+
 unfoldable pub reached : Call → State → Reply → ℕ → Bool
-reached c z r a = does (λ k. sends k z a) c r || changesMode c r
+reached c z r a = sendsOut c z r a || changesMode c r
 
 -- "the three invalidating commands"
 abbrev pub dropCode : ℕ → Bool
@@ -104,6 +124,8 @@ isDrop freshStart = false
 isDrop (look b) = false
 isDrop (readUnaligned n b) = false
 isDrop (writeUnaligned n b v) = false
+isDrop (transferIn b bs) = false
+isDrop (transferOut b o) = false
 
 -- "line that was dropped": one of these commands found a valid line with a, in L1D or in L2, dirty or clean, and left
 -- none there (one that is refused leaves every line)
@@ -138,6 +160,7 @@ atFirst z = record { last = λ _. []; held = λ a. memoryAt z a ∷ []; dropped 
 unfoldable pub lastAfter : Call → Reply → (ℕ → List ℕ) → ℕ → List ℕ
 lastAfter c r last a = cond (writes c r a) (newByte c a ∷ []) (last a)
 
+-- (a transfer in first sends lines home and then writes: of a byte that it does both to, what it wrote is in memory)
 unfoldable pub heldAfter : Call → State → Reply → (ℕ → List ℕ) → ℕ → List ℕ
 heldAfter c z r held a =
     cond (reached c z r a) (memoryAt (r .next) a ∷ []) (cond (writes c r a) (newByte c a ∷ held a) (held a))
@@ -161,6 +184,8 @@ abbrev pub historyAfter : Call → State → Reply → History → History
 historyAfter (oneCommand k) z r y = historyOne (oneCommand k) z r y
 historyAfter freshStart z r y = historyOne freshStart z r y
 historyAfter (look b) z r y = historyOne (look b) z r y
+historyAfter (transferIn b bs) z r y = historyOne (transferIn b bs) z r y
+historyAfter (transferOut b o) z r y = historyOne (transferOut b o) z r y
 historyAfter (readUnaligned n b) z r y = cond (eqb (r .number) 0) (historyBytes (byteRead b) n z y) y
 historyAfter (writeUnaligned n b v) z r y = cond (eqb (r .number) 0) (historyBytes (byteWrite n b v) n z y) y
 

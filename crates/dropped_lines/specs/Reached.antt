@@ -1,11 +1,12 @@
 -- 02, U13: "a writeback .. reached its external memory (for SRAM, its SRAM byte)", told from the chip's own steps: a
 -- call is made of the steps of Access, Homes and Commands (crate model), and two of them send the bytes of a line out
 -- to memory. Here is for each call whether one of its steps sends address a out, in the order in which they are done;
--- `sent-clean` (proofs/Sent) shows that no dirty line has a afterwards.
+-- `sent-clean`, `in-sent-clean` and `out-sent-clean` (proofs/Sent) show that no dirty line has a afterwards.
 use Prim.Native.Nat.{ℕ, _+_, _*_, _/_, _%_}
 use mathlib.Core.Bool.{Bool, false, not, cond, _&&_, _||_}
 use lib.Dec.{ltb, leb, eqb}
 use Rattle.model.specs.Basics.{each}
+use Rattle.model.specs.Memories.{externalBase}
 use Rattle.model.specs.Lines.{l1dKind, l1dSetOf, l2LineLength, l2Ways}
 use Rattle.model.specs.Records.{State, mode0, l2SetsOf, l2SetOf, l1dSetAt, l1dLineAt, l2LineAt}
 use Rattle.model.specs.Ways.{l1dVictim, l1dWay, l2Way, inL1d, inL2}
@@ -118,3 +119,8 @@ sends k z a =
     (cond (eqb (k .code) 4) (overBlockSend writebackL2 a (k .first) (k .second) z)
     (cond (eqb (k .code) 5) (overBlockSend evictL2 a (k .first) (k .second) z)
     (cond (eqb (k .code) 7) (touchedL1dSend a (k .first) (k .second) z) false))))))
+
+-- ---- 02, U1: does an accepted transfer of n bytes at b, in or out. "For SRAM, L1D lines the transfer touches first go
+-- home if dirty": those that command 7 sends of n ÷ 4 words (`sentHome`). "For external memory no cache is looked at"
+unfoldable pub transferSends : ℕ → ℕ → State → ℕ → Bool
+transferSends b n z a = ltb b externalBase && touchedL1dSend a b (n / 4) z

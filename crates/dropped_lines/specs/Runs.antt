@@ -8,7 +8,7 @@ use lib.ListN.{length}
 use Rattle.model.specs.Records.{State}
 use Rattle.model.specs.Flat.{Flat, freshFlat, flatAfter}
 use Rattle.model.specs.Calls.{freshCall, runCall, Call, called, commands}
-use Rattle.model.specs.Traces.{RunIsCalls, Piece, pieceCommands}
+use Rattle.agreement.specs.Traces.{RunIsCalls, Piece, pieceCommands}
 use Rattle.dropped_lines.specs.Dropped.{History, atFirst, historyAfter, Holds}
 
 unfoldable pub historyAlong : List Call → State → History → History

@@ -2,11 +2,10 @@
 -- memory's number and value, and the bytes that lie behind L1D. Rows of one table, and one theorem, `worked`, which
 -- holds by computing: a definition that is not the paper's fails at a value here. Each of the mistakes that paper 01
 -- names has a row (the second is the rule since 02, U10), and so have the servers, writebacks, mode and MAR changes,
--- drops, the freeze and non-aligned accesses; the view, and checks 1 and 2, have a list of their own, and so has what
--- an access reports.
--- In the rows a call is carried out behind checks 1 and 2, and L1D and L2 are cut behind the last byte that the row
--- comes to: to go through all lent bytes and lines at each call is most of the time that a check takes, and what a row
--- does not come to it does not change. A record that is well formed stays so (`Stays`).
+-- drops, the freeze, non-aligned accesses and transfers; the view, and checks 1 and 2, have a list of their own, and so
+-- has what an access reports. In the rows a call is carried out behind checks 1 and 2, and L1D and L2 are cut behind
+-- the last byte that the row comes to: to go through all lent bytes and lines at each call is most of the time that a
+-- check takes, and what a row does not come to it does not change. A record that is well formed stays so (`Stays`).
 use Prim.Native.Nat.{ℕ}
 use mathlib.Core.Bool.{Bool, true, false}
 use mathlib.Core.List.{List, [], _∷_, map, _++_}
@@ -17,32 +16,32 @@ use Rattle.model.specs.Records.{State, state, withExternal, withCounts, 
 use Rattle.model.specs.Homes.{memoryPart}
 use Rattle.model.specs.Reports.{noReport, leftKind, leftAddress}
 use Rattle.model.specs.Trace.{command}
-use Rattle.model.specs.Calls.{Reply, Call, oneCommand, freshStart, look, readUnaligned, writeUnaligned, called, step, readUnalignedStep, writeUnalignedStep}
+use Rattle.model.specs.Calls.{Reply, Call, oneCommand, freshStart, look, readUnaligned, writeUnaligned, transferIn, transferOut, called, step, readUnalignedStep, writeUnalignedStep, transferInStep, transferOutStep}
 use Rattle.model.specs.Flat.{Flat, FlatReply, flat, freshFlat, flatCalled}
 use Rattle.model.specs.Opened.{opened}
 use Rattle.model.specs.declared.Order2.{Order2}
 
 -- ---- a place of a list: the call, and what is answered: number, server, value; flat memory's number and value; the
--- bytes shown, as one number
+-- bytes handed back, as one number, and flat memory's
 pub record Place : Type 0 where
   pub call : Call
   pub answer : List ℕ
 
 -- the same number and the same value from both
 abbrev same : Call → ℕ → ℕ → ℕ → Place
-same c n s v = record { call = c; answer = n ∷ s ∷ v ∷ n ∷ v ∷ 0 ∷ [] }
+same c n s v = record { call = c; answer = n ∷ s ∷ v ∷ n ∷ v ∷ 0 ∷ 0 ∷ [] }
 
 -- what was dropped unwritten: the chip's value, then flat memory's
 abbrev apart : Call → ℕ → ℕ → ℕ → Place
-apart c s v w = record { call = c; answer = 0 ∷ s ∷ v ∷ 0 ∷ w ∷ 0 ∷ [] }
+apart c s v w = record { call = c; answer = 0 ∷ s ∷ v ∷ 0 ∷ w ∷ 0 ∷ 0 ∷ [] }
 
 -- a command that flat memory does not see
 abbrev unseen : Call → ℕ → Place
-unseen c n = record { call = c; answer = n ∷ 0 ∷ 0 ∷ 0 ∷ 0 ∷ 0 ∷ [] }
+unseen c n = record { call = c; answer = n ∷ 0 ∷ 0 ∷ 0 ∷ 0 ∷ 0 ∷ 0 ∷ [] }
 
 -- the view of the line at an address: its number, and what it shows; the bytes that lie there, whatever the view does
 abbrev shows : ℕ → ℕ → ℕ → Place
-shows a n b = record { call = look a; answer = n ∷ 0 ∷ 0 ∷ 0 ∷ 0 ∷ b ∷ [] }
+shows a n b = record { call = look a; answer = n ∷ 0 ∷ 0 ∷ 0 ∷ 0 ∷ b ∷ 0 ∷ [] }
 
 abbrev lies : ℕ → ℕ → Place
 lies a b = shows a 0 b
@@ -87,7 +86,8 @@ answered r = r .number ∷ r .server ∷ r .value ∷ little (r .bytes) ∷ []
 
 unfoldable pub both : Reply → FlatReply → (State → Flat → List (List ℕ)) → List (List ℕ)
 both r g rest =
-    (r .number ∷ r .server ∷ r .value ∷ g .number ∷ g .value ∷ little (r .bytes) ∷ []) ∷ rest (r .next) (g .next)
+    (r .number ∷ r .server ∷ r .value ∷ g .number ∷ g .value ∷ little (r .bytes) ∷ little (g .bytes) ∷ [])
+    ∷ rest (r .next) (g .next)
 
 -- a call as it is
 unfoldable pub checked : List Place → State → Flat → List (List ℕ)
@@ -101,6 +101,8 @@ stepped freshStart z = called freshStart z
 stepped (look a) z = record { number = 0; server = 0; value = 0; bytes = memoryPart a 64 z; report = noReport; next = z }
 stepped (readUnaligned n a) z = readUnalignedStep n a z
 stepped (writeUnaligned n a v) z = writeUnalignedStep n a v z
+stepped (transferIn a bs) z = transferInStep a bs z
+stepped (transferOut a o) z = transferOutStep a o z
 
 unfoldable pub along : List Place → State → Flat → List (List ℕ)
 along [] z f = []
@@ -233,6 +235,43 @@ unaligned =
     ∷ stores 4 62 0x44332211 0 1 ∷ reads 62 1 0x11 ∷ reads 64 1 0x33 ∷ loads 2 62 3 0 0 ∷ loads 1 0x7FFFFFFF 3 0 0
     ∷ loads 4 0x7FFD 5 0 0 ∷ loads 4 0x8000007D 5 0 0 ∷ stores 4 0xFFFFFFFE 0x100000000 5 0
     ∷ stores 4 62 0x100000000 6 0 ∷ loads 4 62 0 1 0x44332211 ∷ [])
+
+-- 02, U1: n bytes, the first of them b, go in at a, answered with k; n bytes go out, of value v, flat memory's being f.
+-- "For SRAM, L1D lines the transfer touches first go home if dirty and become invalid.", in both directions, clean
+-- lines too; the bytes beside the transfer's go home with their line, and a line that is not touched stays.
+abbrev goIn : ℕ → ℕ → ℕ → ℕ → Place
+goIn a n b k = same (transferIn a (b ∷ replicate n 0)) k 0 0
+
+abbrev goOut : ℕ → ℕ → ℕ → ℕ → Place
+goOut a n v f = record { call = transferOut a (replicate n 0); answer = 0 ∷ 0 ∷ 0 ∷ 0 ∷ 0 ∷ v ∷ f ∷ [] }
+
+-- refused: the buffer, full of 1s, comes back as it was
+abbrev noneOut : ℕ → ℕ → ℕ → Place
+noneOut a n k =
+    record {
+      call = transferOut a (replicate n 1);
+      answer = k ∷ 0 ∷ 0 ∷ k ∷ 0 ∷ little (replicate n 1) ∷ little (replicate n 1) ∷ [];
+    }
+
+pub moved : Row
+moved =
+    row 192 192 0
+    (reads 0 2 0 ∷ writes 0 5 1 ∷ reads 64 2 0 ∷ reads 128 2 0 ∷ writes 132 4 1 ∷ goOut 0 68 5 5 ∷ reads 0 2 5 ∷ reads 64 2 0
+    ∷ reads 128 1 0 ∷ writes 8 9 1 ∷ goIn 0 3 7 0 ∷ lies 0 0x90000000000000007 ∷ reads 8 2 9 ∷ reads 0 1 7
+    ∷ goOut 128 8 0x400000000 0x400000000 ∷ reads 128 2 0
+    ∷ noneOut 2 0 4 ∷ noneOut 0 0 13 ∷ noneOut 0x9000 6 13 ∷ noneOut 0x7FFC 8 14 ∷ noneOut 0x8000007C 8 14
+    ∷ goIn 2 3 1 4 ∷ goIn 0x9000 5 1 13 ∷ goIn 0x7FFC 7 1 14 ∷ goIn 0x80000080 3 1 14 ∷ reads 0 1 7 ∷ [])
+
+-- "For external memory no cache is looked at: the CPU goes on seeing its held line, the EDMA sees what stands in
+-- memory.": a dirty line, one that a transfer in goes behind, and what goes out; behind the writeback-invalidates of
+-- L2 and L1D both see the same
+pub behindLines : Row
+behindLines =
+    row 128 128 0
+    (mar128 1 0 ∷ reads 0x80000000 4 1 ∷ writes 0x80000000 7 1 ∷ goOut 0x80000000 4 1 7 ∷ reads 0x80000000 1 7
+    ∷ goIn 0x80000000 3 9 0 ∷ apart (oneCommand (command 0 1 0x80000000 0)) 1 7 9 ∷ lies 0x80000000 9
+    ∷ mode 1 0 ∷ writes 0x80000040 3 4 ∷ goOut 0x80000040 4 2 3 ∷ block 5 0x80000000 ∷ goOut 0x80000040 4 3 3
+    ∷ goIn 0x80000040 3 8 0 ∷ reads 0x80000040 4 8 ∷ [])
 
 -- ---- 02, U2: what is reported, call by call, beside number, server and value: the kind and the address of what left
 -- L1D and L2, and the bytes of external memory read and written. The chip alone: most of the time of 32 KiB of external
@@ -415,17 +454,25 @@ unaligned-holds : given unaligned ≡ stated (unaligned .places)
 unfolding opened both stepped along cut started given stated unaligned
 unaligned-holds = refl
 
+moved-holds : given moved ≡ stated (moved .places)
+unfolding opened both stepped along cut started given stated moved
+moved-holds = refl
+
+behindLines-holds : given behindLines ≡ stated (behindLines .places)
+unfolding opened both stepped along cut started given stated behindLines
+behindLines-holds = refl
+
 pub table : List Row
 table =
     sram ∷ external ∷ modeZero ∷ sramReached ∷ replaced ∷ modes ∷ drops ∷ throughL2 ∷ frozen ∷ frozenL2 ∷ lastSet
-    ∷ unaligned ∷ []
+    ∷ unaligned ∷ moved ∷ behindLines ∷ []
 
 pub worked : map given table ≡ map (λ (r : Row). stated (r .places)) table
 unfolding table
 worked i =
     sram-holds i ∷ external-holds i ∷ modeZero-holds i ∷ sramReached-holds i ∷ replaced-holds i ∷ modes-holds i
     ∷ drops-holds i ∷ throughL2-holds i ∷ frozen-holds i ∷ frozenL2-holds i ∷ lastSet-holds i
-    ∷ unaligned-holds i ∷ []
+    ∷ unaligned-holds i ∷ moved-holds i ∷ behindLines-holds i ∷ []
 
 -- ---- "Invalidation changes no order.": two lines of one L1D set are read, then one of them, or both, are made invalid
 unfoldable pub orderOf : Order2 → List ℕ

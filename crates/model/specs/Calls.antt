@@ -16,6 +16,7 @@ use Rattle.model.specs.Modes.{changeMode, changeMar, changeFreeze}
 use Rattle.model.specs.Commands.{l2WritebackAll, l2WritebackInvalidateAll, l2WritebackBlock, l2WritebackInvalidateBlock, l2InvalidateBlock, l1dWritebackInvalidateBlock, l1dInvalidateBlock, l1dInvalidateAll}
 use Rattle.model.specs.Refusals.{lentDue, viewDue, accessDue, blockDue, modeDue, marDue, freezeDue, unless}
 use Rattle.model.specs.Unaligned.{readUp, writeUp, readUpReport, writeUpReport, unalignedDue}
+use Rattle.model.specs.Transfers.{sentHome, transferredIn, transferredOut, transferDue}
 use Rattle.model.specs.Trace.{Decoded, decode}
 use Rattle.model.specs.declared.Command.{Command}
 use Rattle.model.specs.declared.Record.{Record}
@@ -30,8 +31,8 @@ pub record Reply : Type 0 where
   pub report : Report
   pub next : State
 
--- a reply that hands back no bytes: that of every call but the view; and one that reports nothing: that of every call
--- but an accepted read or write
+-- a reply that hands back no bytes: that of every call but the view and a transfer out; and one that reports nothing:
+-- that of every call but an accepted read or write
 abbrev pub replied : ℕ → ℕ → ℕ → Report → State → Reply
 replied n k v q z = record { number = n; server = k; value = v; bytes = []; report = q; next = z }
 
@@ -129,6 +130,31 @@ readUnalignedCall n a z = cond (eqb (lentDue z) 0) (readUnalignedStep n a z) (re
 unfoldable pub writeUnalignedCall : ℕ → ℕ → ℕ → State → Reply
 writeUnalignedCall n a v z = cond (eqb (lentDue z) 0) (writeUnalignedStep n a v z) (refused (lentDue z) z)
 
+-- ---- 02, U1: a transfer in of the bytes bs at a, and one out into the buffer o: accepted; behind checks 1 and 2; the
+-- call. No server, no value, nothing reported; one out hands back the buffer, which a refused one leaves as it was.
+abbrev pub transferDueIn : State → ℕ → ℕ → ℕ
+transferDueIn z n a = transferDue (sramOf (z .rec)) (z .rec .extlen) n a
+
+unfoldable pub transferInStep : ℕ → List ℕ → State → Reply
+transferInStep a bs z =
+    cond (eqb (transferDueIn z (length bs) a) 0) (carriedOut (transferredIn a bs z))
+    (refused (transferDueIn z (length bs) a) z)
+
+unfoldable pub transferInCall : ℕ → List ℕ → State → Reply
+transferInCall a bs z = cond (eqb (lentDue z) 0) (transferInStep a bs z) (refused (lentDue z) z)
+
+abbrev pub handedBack : ℕ → List ℕ → State → Reply
+handedBack n bs z = record { number = n; server = 0; value = 0; bytes = bs; report = noReport; next = z }
+
+unfoldable pub transferOutStep : ℕ → List ℕ → State → Reply
+transferOutStep a o z =
+    cond (eqb (transferDueIn z (length o) a) 0)
+    (handedBack 0 (transferredOut a (length o) z) (sentHome a (length o) z))
+    (handedBack (transferDueIn z (length o) a) o z)
+
+unfoldable pub transferOutCall : ℕ → List ℕ → State → Reply
+transferOutCall a o z = cond (eqb (lentDue z) 0) (transferOutStep a o z) (handedBack (lentDue z) o z)
+
 -- ---- the fresh start: "A fresh start can meet only 1, and then returns the record of L = 32,768, E = 128."
 unfoldable pub freshOk : List ℕ → List ℕ → List ℕ → Bool
 freshOk d m e = eqb (length d) l1dLength && (legalL2 (length m) && legalExternal (length e))
@@ -187,24 +213,19 @@ viewCall r m e a = cond (eqb (viewDue r m e a) 0) (memoryPart a 64 (state r [] m
 
 -- "a second call with the same arguments returns the number, 0 when accepted.": both together; nothing is changed
 unfoldable pub viewDone : ℕ → State → Reply
-viewDone a z =
-    record {
-      number = viewDue (z .rec) (z .l2) (z .ext) a;
-      server = 0;
-      value = 0;
-      bytes = viewCall (z .rec) (z .l2) (z .ext) a;
-      report = noReport;
-      next = z;
-    }
+viewDone a z = handedBack (viewDue (z .rec) (z .l2) (z .ext) a) (viewCall (z .rec) (z .l2) (z .ext) a) z
 
 -- ---- the calls, of every kind: a command, the fresh start, the technician's view of the line at an address, the
--- non-aligned accesses (size, address; size, address, value). Lists of calls hold these.
+-- non-aligned accesses (size, address; size, address, value), the transfers (address, the bytes of the lent buffer).
+-- Lists of calls hold these.
 pub data Call : Type 0 where
   oneCommand : Command → Call
   freshStart : Call
   look : ℕ → Call
   readUnaligned : ℕ → ℕ → Call
   writeUnaligned : ℕ → ℕ → ℕ → Call
+  transferIn : ℕ → List ℕ → Call
+  transferOut : ℕ → List ℕ → Call
 
 -- what a call gives on a state
 abbrev pub called : Call → State → Reply
@@ -213,6 +234,8 @@ called freshStart z = freshCall (z .l1d) (z .l2) (z .ext)
 called (look a) z = viewDone a z
 called (readUnaligned n a) z = readUnalignedCall n a z
 called (writeUnaligned n a v) z = writeUnalignedCall n a v z
+called (transferIn a bs) z = transferInCall a bs z
+called (transferOut a o) z = transferOutCall a o z
 
 -- the state after calls, one after another
 unfoldable pub after : List Call → State → State

@@ -9,7 +9,8 @@ use Rattle.model.specs.Memories.{externalBase, sramLength}
 use Rattle.model.specs.Modes.{smaller}
 use Rattle.model.specs.Refusals.{accessDue, modeDue}
 use Rattle.model.specs.Unaligned.{unalignedDue}
-use Rattle.model.specs.Calls.{Call, oneCommand, freshStart, look, readUnaligned, writeUnaligned}
+use Rattle.model.specs.Transfers.{transferDue}
+use Rattle.model.specs.Calls.{Call, oneCommand, freshStart, look, readUnaligned, writeUnaligned, transferIn, transferOut}
 use Rattle.model.specs.declared.Command.{Command}
 
 -- "State: L, E, S, S bytes of SRAM, E of external memory." (E is the length of external memory, S that of SRAM.)
@@ -39,14 +40,15 @@ flatPut a bs f =
 unfoldable pub flatMode : ℕ → Flat → Flat
 flatMode m f = flat (f .l2len) (zeroFrom (smaller (length (f .sram)) (sramLength (f .l2len) m)) (f .sram) (sramLength (f .l2len) m)) (f .ext)
 
--- what flat memory answers, and its state after it
+-- what flat memory answers, the bytes that it hands back (02, U1: of a transfer out), and its state after it
 pub record FlatReply : Type 0 where
   pub number : ℕ
   pub value : ℕ
+  pub bytes : List ℕ
   pub next : Flat
 
 abbrev pub flatReply : ℕ → ℕ → Flat → FlatReply
-flatReply n v f = record { number = n; value = v; next = f }
+flatReply n v f = record { number = n; value = v; bytes = []; next = f }
 
 -- "A read or write gets the lowest number due among checks 3 to 6, by this S."
 abbrev pub flatDue : ℕ → ℕ → ℕ → Flat → ℕ
@@ -85,6 +87,23 @@ flatWriteUnaligned n a v f =
     cond (eqb (flatUnalignedDue n a v f) 0) (flatReply 0 0 (flatPut a (littleBytes v n) f))
     (flatReply (flatUnalignedDue n a v f) 0 f)
 
+-- 02, U1: "flat memory .. moves the same bytes", refused by this S; "an out transfer's buffer is compared too"
+abbrev pub flatTransferDue : ℕ → ℕ → Flat → ℕ
+flatTransferDue n a f = transferDue (length (f .sram)) (length (f .ext)) n a
+
+unfoldable pub flatTransferIn : ℕ → List ℕ → Flat → FlatReply
+flatTransferIn a bs f =
+    cond (eqb (flatTransferDue (length bs) a f) 0) (flatReply 0 0 (flatPut a bs f))
+    (flatReply (flatTransferDue (length bs) a f) 0 f)
+
+abbrev pub flatHandedBack : ℕ → List ℕ → Flat → FlatReply
+flatHandedBack n bs f = record { number = n; value = 0; bytes = bs; next = f }
+
+unfoldable pub flatTransferOut : ℕ → List ℕ → Flat → FlatReply
+flatTransferOut a o f =
+    cond (eqb (flatTransferDue (length o) a f) 0) (flatHandedBack 0 (flatPart a (length o) f) f)
+    (flatHandedBack (flatTransferDue (length o) a f) o f)
+
 -- a call of any kind; the state after calls, one after another
 abbrev pub flatCalled : Call → Flat → FlatReply
 flatCalled (oneCommand c) f = flatStep c f
@@ -92,6 +111,8 @@ flatCalled freshStart f = flatReply 0 0 f
 flatCalled (look a) f = flatReply 0 0 f
 flatCalled (readUnaligned n a) f = flatReadUnaligned n a f
 flatCalled (writeUnaligned n a v) f = flatWriteUnaligned n a v f
+flatCalled (transferIn a bs) f = flatTransferIn a bs f
+flatCalled (transferOut a o) f = flatTransferOut a o f
 
 unfoldable pub flatAfter : List Call → Flat → Flat
 flatAfter [] f = f

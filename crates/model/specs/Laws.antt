@@ -21,8 +21,9 @@ use Rattle.model.specs.Ways.{lowestInvalid, l1dVictim, l2Victim}
 use Rattle.model.specs.Modes.{smaller}
 use Rattle.model.specs.Refusals.{lowestDue, unless, placeOk, lentDue}
 use Rattle.model.specs.Unaligned.{bytesPlaced}
+use Rattle.model.specs.Transfers.{transferredIn}
 use Rattle.model.specs.Commands.{blockEnd, linesTouched, eachL2, unlessMode0}
-use Rattle.model.specs.Calls.{Reply, replied, reply, refused, carriedOut, commandDue, readDone, writeDone, commandState, accepted, step, call, unalignedDueIn, readUnalignedDone, writeUnalignedDone, readUnalignedStep, writeUnalignedStep, readUnalignedCall, writeUnalignedCall}
+use Rattle.model.specs.Calls.{Reply, replied, reply, refused, carriedOut, commandDue, readDone, writeDone, commandState, accepted, step, call, unalignedDueIn, readUnalignedDone, writeUnalignedDone, readUnalignedStep, writeUnalignedStep, readUnalignedCall, writeUnalignedCall, transferDueIn, transferInStep, transferInCall}
 use Rattle.model.specs.declared.Command.{Command}
 use Rattle.model.specs.declared.L1dSet.{L1dSet}
 use Rattle.model.specs.declared.L2Set.{L2Set}
@@ -342,6 +343,12 @@ module _ (n b c l : ℕ) (some : 0 < n) (low : b < 0x100000000) where
         (block-end b c low),
   )
 
+-- 02, U1: the block of a transfer has the transfer's bytes and no others, so that it touches the lines that these do
+pub transfer-block : (a n : ℕ) → n % 4 ≡ 0 → a + n ≤ 0x100000000 → blockEnd a (n / 4) ≡ a + n
+unfolding blockEnd smaller
+transfer-block a n w h =
+    let e : a + n / 4 * 4 ≡ a + n = omega arith in rw (e, le-leb (a + n) 0x100000000 h) refl
+
 -- ---- 02, U6: the bytes of a non-aligned access are placed one by one where they are placed together
 one-more : (s e k a : ℕ) → s + suc (suc k) ≤ externalBase →
     (placeOk s e (suc k) a && placeOk s e 1 (a + suc k)) ≡ placeOk s e (suc (suc k)) a
@@ -427,3 +434,11 @@ write-unaligned-told n a v z =
     let P : Reply → Type 0 = λ r. told r ≡ r in let d = unalignedDueIn z n a v in
     cond-elim P (eqb (lentDue z) 0) (writeUnalignedStep n a v z) (refused (lentDue z) z)
     (λ _. cond-elim P (eqb d 0) (writeUnalignedDone n a v z) (refused d z) (λ _. refl) (λ _. refl)) (λ _. refl)
+
+-- nor does a transfer in
+pub transfer-in-told : (a : ℕ) (bs : List ℕ) (z : State) → told (transferInCall a bs z) ≡ transferInCall a bs z
+unfolding transferInCall transferInStep
+transfer-in-told a bs z =
+    let P : Reply → Type 0 = λ r. told r ≡ r in let d = transferDueIn z (length bs) a in
+    cond-elim P (eqb (lentDue z) 0) (transferInStep a bs z) (refused (lentDue z) z)
+    (λ _. cond-elim P (eqb d 0) (carriedOut (transferredIn a bs z)) (refused d z) (λ _. refl) (λ _. refl)) (λ _. refl)

@@ -12,12 +12,11 @@ pub mod Commands
 pub mod Flat
 pub mod Refusals
 pub mod Unaligned
+pub mod Transfers
 pub mod Trace
 pub mod Calls
 pub mod Bytewise
-pub mod Demand
 pub mod Stays
-pub mod Traces
 pub mod Laws
 pub mod Opened
 pub mod Emptied

@@ -31,14 +31,16 @@ use Rattle.model.specs.Refusals.{lentL1d, lentL2, lentExternal, sizeOk, 
 use Rattle.model.specs.Refusals.{lentDue, viewLentDue, accessDue, blockDue, modeDue, marDue, freezeDue, viewDue}
 use Rattle.model.specs.Unaligned.{unalignedSize, readUp, writeUp, bytesPlaced, readUpReport, writeUpReport}
 use Rattle.model.specs.Unaligned.{unalignedDue}
+use Rattle.model.specs.Transfers.{sentHome, transferredIn, transferredOut, transferLength, transferDue}
 use Rattle.model.specs.Trace.{moreGroups, groups, numberBelow, oneNumber, secondNumber, twoNumbers, valueNumber}
 use Rattle.model.specs.Trace.{threeNumbers, decodeAfter, decode}
 use Rattle.model.specs.Calls.{commandDue, readDone, writeDone, commandState, accepted, step, call, freshOk}
 use Rattle.model.specs.Calls.{readUnalignedDone, writeUnalignedDone, readUnalignedStep, writeUnalignedStep}
 use Rattle.model.specs.Calls.{readUnalignedCall, writeUnalignedCall}
+use Rattle.model.specs.Calls.{transferInStep, transferInCall, transferOutStep, transferOutCall}
 use Rattle.model.specs.Calls.{freshCall, putAnswer, runFrom, runCall, viewCall, viewDone, after}
 use Rattle.model.specs.Flat.{freshFlat, flatPart, flatPut, flatMode, flatRead, flatWrite, flatChange, flatStep}
-use Rattle.model.specs.Flat.{flatAfter, flatReadUnaligned, flatWriteUnaligned}
+use Rattle.model.specs.Flat.{flatAfter, flatReadUnaligned, flatWriteUnaligned, flatTransferIn, flatTransferOut}
 
 unfoldable pub opened : Unit {0}
 unfolding
@@ -66,10 +68,12 @@ unfolding
     lentL1d lentL2 lentExternal sizeOk placeOk valueOk inRange holdsRange lentDue viewLentDue accessDue blockDue
     modeDue marDue freezeDue viewDue
     unalignedSize readUp writeUp bytesPlaced readUpReport writeUpReport unalignedDue
+    sentHome transferredIn transferredOut transferLength transferDue
     moreGroups groups numberBelow oneNumber secondNumber twoNumbers valueNumber threeNumbers decodeAfter decode
     commandDue readDone writeDone commandState accepted step call freshOk freshCall putAnswer runFrom runCall
     viewCall viewDone after
     readUnalignedDone writeUnalignedDone readUnalignedStep writeUnalignedStep readUnalignedCall writeUnalignedCall
+    transferInStep transferInCall transferOutStep transferOutCall
     freshFlat flatPart flatPut flatMode flatRead flatWrite flatChange flatStep flatAfter flatReadUnaligned
-    flatWriteUnaligned
+    flatWriteUnaligned flatTransferIn flatTransferOut
 opened = tt

@@ -14,14 +14,16 @@ use Rattle.model.specs.Memories.{l1dLength}
 use Rattle.model.specs.Records.{State, sramOf, withRecord, freshRecord, freshState}
 use Rattle.model.specs.Refusals.{lentL1d, lentL2, lentExternal, lentDue, viewLentDue, viewDue}
 use Rattle.model.specs.Unaligned.{readUp}
+use Rattle.model.specs.Transfers.{sentHome, transferredIn, transferredOut}
 use Rattle.model.specs.Trace.{command}
-use Rattle.model.specs.Calls.{Reply, refused, carriedOut, step, call, freshOk, freshCall, viewDone, unalignedDueIn, readUnalignedDone, writeUnalignedDone, readUnalignedStep, writeUnalignedStep, readUnalignedCall, writeUnalignedCall, Call, oneCommand, freshStart, look, readUnaligned, writeUnaligned, called}
+use Rattle.model.specs.Calls.{Reply, refused, carriedOut, step, call, freshOk, freshCall, viewDone, unalignedDueIn, readUnalignedDone, writeUnalignedDone, readUnalignedStep, writeUnalignedStep, readUnalignedCall, writeUnalignedCall, transferDueIn, handedBack, transferInStep, transferInCall, transferOutStep, transferOutCall, Call, oneCommand, freshStart, look, readUnaligned, writeUnaligned, transferIn, transferOut, called}
 use Rattle.model.specs.Laws.{length-littleBytes, cond-both}
-use Rattle.two_runs.specs.TwoRuns.{SameButStored, FitAlike, SameButWritten, sameCommand, sameStart, sameLook, sameRead, sameWrite, ListsSameButWritten, Shared, SharedAlong, SameBehaviour}
+use Rattle.two_runs.specs.TwoRuns.{SameButStored, FitAlike, SameButWritten, sameCommand, sameStart, sameLook, sameRead, sameWrite, sameIn, sameOut, ListsSameButWritten, Shared, SharedAlong, SameBehaviour}
 use Rattle.two_runs.specs.TwoRuns as Says
 use Rattle.two_runs.proofs.Areas.{Pairing, Twins, Area}
 use Rattle.two_runs.proofs.Pair.{Layout, layoutOf, Pair, pair-stored, one-record}
 use Rattle.two_runs.proofs.Calling.{no-answer, Replies, start-pair, step-both}
+use Rattle.two_runs.proofs.Transfers.{sent-both, out-both, in-both}
 use Rattle.two_runs.proofs.Unaligned.{unaligned-alike, due-fit, read-up-both, write-up-both}
 
 -- ---- what goes by the record and the lengths alone
@@ -114,6 +116,49 @@ module _ (P : Pairing) (z z′ : State) (s : SameButStored z z′) (start : lent
       (λ _. refusal d))
       (λ _. refusal (lentDue z)))
 
+-- ---- a transfer of n bytes at a: likewise, the buffers having one length
+module _ (P : Pairing) (z z′ : State) (s : SameButStored z z′) (start : lentDue z ≡ 0 → Pair P (layoutOf (z .rec)) z z′)
+    (C : Reply → Reply → Type 0) (n a : ℕ) where
+  same-transfer-due : transferDueIn z n a ≡ transferDueIn z′ n a
+  same-transfer-due = let e = s .rec in rw e refl
+
+  pub transfer-in-both : {bs bs′ : List ℕ} → Twins P a n bs bs′ → ((k : ℕ) → C (refused k z) (refused k z′)) →
+      ((x x′ : Reply) → Replies P 1 n a x x′ → C x x′) → C (transferInCall a bs z) (transferInCall a bs′ z′)
+  unfolding transferInCall transferInStep
+  transfer-in-both {bs} {bs′} t refusal reply =
+      let d = transferDueIn z n a in let e = lent-due z z′ s in let l = lentDue z in
+      rw (← e, t .long, t .long′, ← same-transfer-due)
+      (cond-both C (eqb l 0) (cond (eqb d 0) (carriedOut (transferredIn a bs z)) (refused d z)) (refused l z)
+      (cond (eqb d 0) (carriedOut (transferredIn a bs′ z′)) (refused d z′)) (refused l z′)
+      (λ u. let q = start (eqb-true l 0 u) in
+      cond-both C (eqb d 0) (carriedOut (transferredIn a bs z)) (refused d z) (carriedOut (transferredIn a bs′ z′)) (refused d z′)
+      (λ w. reply (carriedOut (transferredIn a bs z)) (carriedOut (transferredIn a bs′ z′))
+      (record {
+        number = refl;
+        server = refl;
+        report = refl;
+        answer = no-answer P 1 n a;
+        bytes = refl;
+        next = (layoutOf (z .rec), in-both a n z z′ q (eqb-true d 0 w) t);
+      }))
+      (λ _. refusal d))
+      (λ _. refusal l))
+
+  pub transfer-out-both : (o o′ : List ℕ) → length o ≡ n → length o′ ≡ n → ((k : ℕ) → C (handedBack k o z) (handedBack k o′ z′)) →
+      ((bs bs′ : List ℕ) (y y′ : State) → Twins P a n bs bs′ → Pair P (layoutOf (z .rec)) y y′ → C (handedBack 0 bs y) (handedBack 0 bs′ y′)) →
+      C (transferOutCall a o z) (transferOutCall a o′ z′)
+  unfolding transferOutCall transferOutStep
+  transfer-out-both o o′ h h′ refusal reply =
+      let d = transferDueIn z n a in let e = lent-due z z′ s in let l = lentDue z in
+      let x = handedBack 0 (transferredOut a n z) (sentHome a n z) in let x′ = handedBack 0 (transferredOut a n z′) (sentHome a n z′) in
+      rw (← e, h, h′, ← same-transfer-due)
+      (cond-both C (eqb l 0) (cond (eqb d 0) x (handedBack d o z)) (handedBack l o z) (cond (eqb d 0) x′ (handedBack d o′ z′)) (handedBack l o′ z′)
+      (λ u. let q = start (eqb-true l 0 u) in
+      cond-both C (eqb d 0) x (handedBack d o z) x′ (handedBack d o′ z′)
+      (λ w. reply (transferredOut a n z) (transferredOut a n z′) (sentHome a n z) (sentHome a n z′) (out-both a n z z′ q (eqb-true d 0 w)) (sent-both a n z z′ q))
+      (λ _. refusal d))
+      (λ _. refusal l))
+
 -- ---- a fresh start: likewise
 module _ (z z′ : State) (s : SameButStored z z′) where
   fresh-ok : freshOk (z .l1d) (z .l2) (z .ext) ≡ freshOk (z′ .l1d) (z′ .l2) (z′ .ext)
@@ -178,6 +223,16 @@ write-unaligned-same : (z z′ : State) → SameButStored z z′ → (n a v v′
 write-unaligned-same z z′ s n a v v′ f =
     write-unaligned-both Any z z′ s (any-pair z z′ s) Same (refused-same z z′ s) n a v v′ f (any-twins n a v v′) (λ x x′ r. replied-same r)
 
+transfer-in-same : (z z′ : State) → SameButStored z z′ → (a : ℕ) (bs bs′ : List ℕ) → length bs ≡ length bs′ → Same (transferInCall a bs z) (transferInCall a bs′ z′)
+transfer-in-same z z′ s a bs bs′ e =
+    transfer-in-both Any z z′ s (any-pair z z′ s) Same (length bs) a (record { long = refl; long′ = sym e; byte = λ _ _. refl }) (refused-same z z′ s)
+    (λ x x′ r. replied-same r)
+
+transfer-out-same : (z z′ : State) → SameButStored z z′ → (a : ℕ) (o o′ : List ℕ) → length o ≡ length o′ → Same (transferOutCall a o z) (transferOutCall a o′ z′)
+transfer-out-same z z′ s a o o′ e =
+    transfer-out-both Any z z′ s (any-pair z z′ s) Same (length o) a o o′ refl (sym e) (λ k. record { number = refl; server = refl; report = refl; next = s })
+    (λ bs bs′ y y′ _ p. record { number = refl; server = refl; report = refl; next = pair-stored p })
+
 fresh-same : (z z′ : State) → SameButStored z z′ → Same (called freshStart z) (called freshStart z′)
 fresh-same z z′ s =
     fresh-both z z′ s Same (record { number = refl; server = refl; report = refl; next = fresh-stored z z′ s })
@@ -193,6 +248,8 @@ called-same freshStart freshStart sameStart z z′ s = fresh-same z z′ s
 called-same (look a) (look a′) (sameLook {a = y}) z z′ s = look-same z z′ s y
 called-same (readUnaligned n a) (readUnaligned n′ a′) (sameRead {n = m} {a = y}) z z′ s = read-unaligned-same z z′ s m y
 called-same (writeUnaligned n a v) (writeUnaligned n′ a′ v′) (sameWrite {n = m} {a = y} {v = u} {v′ = u′} f) z z′ s = write-unaligned-same z z′ s m y u u′ f
+called-same (transferIn a bs) (transferIn a′ bs′) (sameIn {a = y} {bs = cs} {bs′ = cs′} e) z z′ s = transfer-in-same z z′ s y cs cs′ e
+called-same (transferOut a o) (transferOut a′ o′) (sameOut {a = y} {o = u} {o′ = u′} e) z z′ s = transfer-out-same z z′ s y u u′ e
 
 pub same-behaviour : SameBehaviour
 same-behaviour z z′ s cs cs′ h = along h z z′ s

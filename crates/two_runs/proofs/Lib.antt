@@ -6,6 +6,7 @@ pub mod Serving
 pub mod Reporting
 pub mod Sweeping
 pub mod Calling
+pub mod Transfers
 pub mod Unaligned
 pub mod Behaviour
 pub mod Along

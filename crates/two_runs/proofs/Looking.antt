@@ -51,7 +51,7 @@ look-tells r m e a u =
     }
 
 -- ---- the bytes at a, equal where they do not stand for x
-twins-but : (x a n : ℕ) (bs bs′ : List ℕ) → Twins (Byte x) a n bs bs′ → SameBytesBut (LineFor a x) bs bs′
+pub twins-but : (x a n : ℕ) (bs bs′ : List ℕ) → Twins (Byte x) a n bs bs′ → SameBytesBut (LineFor a x) bs bs′
 twins-but x a n bs bs′ t =
     let l = t .long in let l′ = t .long′ in
     record {

@@ -1,6 +1,6 @@
 -- The second sentence (`one-byte-stays`): one call after another keeps `Along`, and answers the same in every byte that
 -- does not stand for address x. Why: `call-both` with the relation of bytes that are equal but for address x; a fresh
--- start leaves no line and SRAM zero; a view shows a stretch of SRAM or of external memory.
+-- start leaves no line and SRAM zero; a view shows a stretch of SRAM or of external memory, and so does a transfer out.
 use Prim.Native.Nat.{ℕ, zero, suc, _+_, _*_, _/_, _<_}
 use mathlib.Core.Bool.{true, false}
 use mathlib.Core.Path.{_≡_, refl, sym, ap, _∙_}
@@ -12,19 +12,19 @@ use borrow.Author.Tests.{ltb-true, ltb-false}
 use Rattle.model.specs.Bytes.{little, littleBytes}
 use Rattle.model.specs.Records.{State, withRecord, l1dLineAt, l2LineAt, freshL1dSet, freshL2Set, freshRecord, freshState}
 use Rattle.model.specs.Trace.{command}
-use Rattle.model.specs.Calls.{Reply, call, freshOk, freshCall, viewDone, readUnalignedCall, writeUnalignedCall, Call, oneCommand, freshStart, look, readUnaligned, writeUnaligned, called}
+use Rattle.model.specs.Calls.{Reply, call, freshOk, freshCall, viewDone, readUnalignedCall, writeUnalignedCall, transferInCall, transferOutCall, Call, oneCommand, freshStart, look, readUnaligned, writeUnaligned, transferIn, transferOut, called}
 use Rattle.model.specs.Laws.{bool, false-true, length-littleBytes}
 use Rattle.model.specs.declared.Line.{Line}
 use Rattle.agreement.proofs.Tables.{l1dStore, l2Store, fresh-line}
 use Rattle.agreement.proofs.Changes.{l1d-fresh, l2-fresh}
-use Rattle.two_runs.specs.TwoRuns.{SameBytesBut, ValueFor, SameAnswerBut, SameBut, SameButAlong, OneByteStays}
+use Rattle.two_runs.specs.TwoRuns.{SameBytesBut, ValueFor, Bytes, LentBytes, AllLentBytes, SameAnswerBut, SameBut, SameButAlong, OneByteStays}
 use Rattle.two_runs.specs.TwoRuns as Says
 use Rattle.agreement.proofs.Unaligned.{written-byte}
 use Rattle.two_runs.proofs.Areas.{Twins}
 use Rattle.two_runs.proofs.Calling.{Answer, Replies}
-use Rattle.two_runs.proofs.Behaviour.{view-due, call-both, read-unaligned-both, write-unaligned-both, fresh-both, fresh-stored}
+use Rattle.two_runs.proofs.Behaviour.{view-due, call-both, read-unaligned-both, write-unaligned-both, transfer-in-both, transfer-out-both, fresh-both, fresh-stored}
 use Rattle.two_runs.proofs.Along.{Byte, zero-byte, equal-byte, Along, along-start, along-says, along-pair, pair-along}
-use Rattle.two_runs.proofs.Looking.{look-bytes}
+use Rattle.two_runs.proofs.Looking.{twins-but, look-bytes}
 
 -- what two calls have in common, and what the next two need
 record Stays (x : ℕ) (c : Call) (y y′ : Reply) : Type 0 where
@@ -116,6 +116,25 @@ write-unaligned-stays x z z′ h n a v =
     write-unaligned-both (Byte x) z z′ (h .stored) (along-pair x z z′ h) (Stays x (writeUnaligned n a v)) (λ k. same-reply refl refl refl refl refl h) n a
     v v (λ _. refl) (same-twins x n a v) (replied-stays x (writeUnaligned n a v) z z′ h 1 n a (λ _ p. let e = p .0 in absurd (omega arith)))
 
+-- ---- one transfer
+transfer-in-stays : (x : ℕ) (z z′ : State) → Along x z z′ → (a : ℕ) (bs : List ℕ) → Bytes bs → Stays x (transferIn a bs) (transferInCall a bs z) (transferInCall a bs z′)
+transfer-in-stays x z z′ h a bs b =
+    transfer-in-both (Byte x) z z′ (h .stored) (along-pair x z z′ h) (Stays x (transferIn a bs)) (length bs) a
+    (record { long = refl; long′ = refl; byte = λ i _. equal-byte refl (b i) }) (λ k. same-reply refl refl refl refl refl h)
+    (replied-stays x (transferIn a bs) z z′ h 1 (length bs) a (λ _ p. let e = p .0 in absurd (omega arith)))
+
+transfer-out-stays : (x : ℕ) (z z′ : State) → Along x z z′ → (a : ℕ) (o : List ℕ) → Stays x (transferOut a o) (transferOutCall a o z) (transferOutCall a o z′)
+transfer-out-stays x z z′ h a o =
+    transfer-out-both (Byte x) z z′ (h .stored) (along-pair x z z′ h) (Stays x (transferOut a o)) (length o) a o o refl refl
+    (λ k. same-reply refl refl refl refl refl h)
+    (λ bs bs′ y y′ t p. record {
+      number = refl;
+      server = refl;
+      report = refl;
+      answer = record { value = equal-bytes refl; handedBack = twins-but x a (length o) bs bs′ t };
+      along = pair-along (h .external) p;
+    })
+
 -- ---- a fresh start: nothing is held, SRAM is zero, or L2 is as it was lent
 zeros : (n i : ℕ) → _≡_ {A = ℕ} (getD (replicate n 0) i 0) 0
 zeros zero i = refl
@@ -178,12 +197,14 @@ module _ (x : ℕ) (z z′ : State) (h : Along x z z′) where
       }
 
 -- ---- one call, and the whole list
-called-stays : (x : ℕ) (c : Call) (z z′ : State) → Along x z z′ → Stays x c (called c z) (called c z′)
-called-stays x (oneCommand c) z z′ h = command-stays x z z′ h (c .code) (c .first) (c .second) (c .value)
-called-stays x freshStart z z′ h = fresh-stays x z z′ h
-called-stays x (look a) z z′ h = look-stays x z z′ h a
-called-stays x (readUnaligned n a) z z′ h = read-unaligned-stays x z z′ h n a
-called-stays x (writeUnaligned n a v) z z′ h = write-unaligned-stays x z z′ h n a v
+called-stays : (x : ℕ) (c : Call) → LentBytes c → (z z′ : State) → Along x z z′ → Stays x c (called c z) (called c z′)
+called-stays x (oneCommand c) _ z z′ h = command-stays x z z′ h (c .code) (c .first) (c .second) (c .value)
+called-stays x freshStart _ z z′ h = fresh-stays x z z′ h
+called-stays x (look a) _ z z′ h = look-stays x z z′ h a
+called-stays x (readUnaligned n a) _ z z′ h = read-unaligned-stays x z z′ h n a
+called-stays x (writeUnaligned n a v) _ z z′ h = write-unaligned-stays x z z′ h n a v
+called-stays x (transferIn a bs) b z z′ h = transfer-in-stays x z z′ h a bs b
+called-stays x (transferOut a o) _ z z′ h = transfer-out-stays x z z′ h a o
 
 says : (x : ℕ) (c : Call) (y y′ : Reply) → Stays x c y y′ → SameBut x c y y′
 says x c y y′ r =
@@ -194,10 +215,10 @@ says x c y y′ r =
     }
 
 pub one-byte-stays : OneByteStays
-one-byte-stays x z z′ o cs = go cs z z′ (along-start x z z′ o)
+one-byte-stays x z z′ o cs b = go cs b z z′ (along-start x z z′ o)
   where
-    go : (cs : List Call) (z z′ : State) → Along x z z′ → SameButAlong x cs z z′
-    go [] z z′ h = Says.SameButAlong.end
-    go (c ∷ cs) z z′ h =
-        let r = called-stays x c z z′ h in
-        Says.SameButAlong.next (says x c (called c z) (called c z′) r) (go cs (called c z .next) (called c z′ .next) (r .along))
+    go : (cs : List Call) → AllLentBytes cs → (z z′ : State) → Along x z z′ → SameButAlong x cs z z′
+    go [] _ z z′ h = Says.SameButAlong.end
+    go (c ∷ cs) b z z′ h =
+        let r = called-stays x c (b .0) z z′ h in
+        Says.SameButAlong.next (says x c (called c z) (called c z′) r) (go cs (b .1) (called c z .next) (called c z′ .next) (r .along))

@@ -6,7 +6,8 @@
 --
 -- "For every list of single calls, trace runs and U7's writer left out": the lists hold calls of the one type `Call`,
 -- which has neither: commands of any code with any numbers, refused ones too, fresh starts, views, non-aligned
--- accesses. The start states need not be well formed, and need not come from a fresh start: a list may begin with one.
+-- accesses, transfers anywhere. The start states need not be well formed, and need not come from a fresh start: a list
+-- may begin with one.
 use Prim.Native.Nat.{ℕ, _+_, _≤_, _<_}
 use mathlib.Core.Bool.{true}
 use mathlib.Core.Path.{_≡_}
@@ -18,7 +19,7 @@ use Rattle.model.specs.Lines.{l1dKind, l2LineLength, l1dData}
 use Rattle.model.specs.Records.{State, sramOf, l1dLineAt, l2LineAt, l2Data}
 use Rattle.model.specs.Refusals.{sizeOk, valueOk}
 use Rattle.model.specs.Trace.{command}
-use Rattle.model.specs.Calls.{Reply, Call, oneCommand, freshStart, look, readUnaligned, writeUnaligned, called}
+use Rattle.model.specs.Calls.{Reply, Call, oneCommand, freshStart, look, readUnaligned, writeUnaligned, transferIn, transferOut, called}
 
 -- ==== the first sentence
 -- ---- "two runs that differ only in stored .. data": any two states with one record and memories of equal lengths
@@ -30,7 +31,7 @@ pub record SameButStored (z z′ : State) : Type 0 where
 
 -- ---- ".. or written data, with each written value fitting its size in both": the same calls but for the values of
 -- commands. Less is asked than the sentence says: a write's two values fit its size both or neither, and where the
--- size itself is refused nothing is asked. No other command looks at its value.
+-- size itself is refused nothing is asked. No other command looks at its value. A transfer's buffers have one length.
 abbrev pub FitAlike : ℕ → ℕ → ℕ → Type 0
 FitAlike n v v′ = sizeOk n ≡ true → valueOk n v ≡ valueOk n v′
 
@@ -40,6 +41,8 @@ pub data SameButWritten : Call → Call → Type 0 where
   sameLook : {a : ℕ} → SameButWritten (look a) (look a)
   sameRead : {n a : ℕ} → SameButWritten (readUnaligned n a) (readUnaligned n a)
   sameWrite : {n a v v′ : ℕ} → FitAlike n v v′ → SameButWritten (writeUnaligned n a v) (writeUnaligned n a v′)
+  sameIn : {a : ℕ} {bs bs′ : List ℕ} → length bs ≡ length bs′ → SameButWritten (transferIn a bs) (transferIn a bs′)
+  sameOut : {a : ℕ} {o o′ : List ℕ} → length o ≡ length o′ → SameButWritten (transferOut a o) (transferOut a o′)
 
 -- call by call along two lists, which so have the same length
 pub data ListsSameButWritten : List Call → List Call → Type 0 where
@@ -89,14 +92,19 @@ ValueFor freshStart x k = ⊥
 ValueFor (look a) x k = ⊥
 ValueFor (readUnaligned n a) x k = (k < n) × (a + k ≡ x)
 ValueFor (writeUnaligned n a v) x k = ⊥
+ValueFor (transferIn a bs) x k = ⊥
+ValueFor (transferOut a o) x k = ⊥
 
--- .. and of the bytes that are handed back, those of a view for the addresses of the line that it shows
+-- .. and of the bytes that are handed back, those of a view for the addresses of the line that it shows, those of a
+-- transfer out for the addresses that it reads
 abbrev pub HandedBackFor : Call → ℕ → ℕ → Type 0
 HandedBackFor (oneCommand c) x k = ⊥
 HandedBackFor freshStart x k = ⊥
 HandedBackFor (look a) x k = LineFor a x k
 HandedBackFor (readUnaligned n a) x k = ⊥
 HandedBackFor (writeUnaligned n a v) x k = ⊥
+HandedBackFor (transferIn a bs) x k = ⊥
+HandedBackFor (transferOut a o) x k = LineFor a x k
 
 -- ---- "Where they differ only in one byte of external memory at the start": in the byte at address x. What is lent is
 -- bytes, numbers below 256; a model's list could hold others, which would carry into the next byte of a value.
@@ -133,8 +141,22 @@ pub record SameStateBut (x : ℕ) (z z′ : State) : Type 0 where
       (k : ℕ) → k < l2LineLength → (LineFor (l2LineAt (z .rec) t v .address) x k → ⊥) →
       getD (z .l2) (l2Data (z .rec) t v + k) 0 ≡ getD (z′ .l2) (l2Data (z .rec) t v + k) 0
 
--- ---- at one place of the list, and at every place: the same calls in both, so that "each in transfer's buffer" will
--- be "the same in both" where there are transfers. The first sentence holds of these runs too, and is said with it.
+-- ---- "each in transfer's buffer being the same in both": the same calls in both; and like all that is lent it holds
+-- bytes
+abbrev pub LentBytes : Call → Type 0
+LentBytes (oneCommand c) = Unit {0}
+LentBytes freshStart = Unit {0}
+LentBytes (look a) = Unit {0}
+LentBytes (readUnaligned n a) = Unit {0}
+LentBytes (writeUnaligned n a v) = Unit {0}
+LentBytes (transferIn a bs) = Bytes bs
+LentBytes (transferOut a o) = Unit {0}
+
+abbrev pub AllLentBytes : List Call → Type 0
+AllLentBytes [] = Unit {0}
+AllLentBytes (c ∷ cs) = LentBytes c × AllLentBytes cs
+
+-- ---- at one place of the list, and at every place. The first sentence holds of these runs too, and is said with it.
 pub record SameBut (x : ℕ) (c : Call) (y y′ : Reply) : Type 0 where
   pub shared : Shared y y′
   pub answer : SameAnswerBut x c y y′
@@ -147,4 +169,4 @@ pub data SameButAlong (x : ℕ) : List Call → State → State → Type 0 where
 
 -- ---- from any two such states, well formed or not, along every list
 abbrev pub OneByteStays : Type 0
-OneByteStays = (x : ℕ) (z z′ : State) → SameButOneByte x z z′ → (cs : List Call) → SameButAlong x cs z z′
+OneByteStays = (x : ℕ) (z z′ : State) → SameButOneByte x z z′ → (cs : List Call) → AllLentBytes cs → SameButAlong x cs z z′

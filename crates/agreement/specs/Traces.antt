@@ -9,12 +9,12 @@ use mathlib.Core.Path.{_≡_}
 use mathlib.Core.List.{List, [], _∷_, _++_}
 use lib.ListN.{length}
 use lib.Dec.{ltb, leb}
 use Rattle.model.specs.Bytes.{part, littleBytes}
 use Rattle.model.specs.Records.{State}
 use Rattle.model.specs.Flat.{Flat, freshFlat, flatStep, flatAfter}
 use Rattle.model.specs.Calls.{call, runFrom, runCall, freshCall, commandAt, oneCommand, after, commands}
-use Rattle.model.specs.Demand.{compared, listed, global, Settled, Agree}
+use Rattle.agreement.specs.Demand.{compared, listed, global, Settled, Agree}
 use Rattle.model.specs.declared.Command.{Command}
 
 -- ---- as many turns as there are bytes left are enough, and more change nothing
 abbrev pub TurnsSuffice : Type 0
