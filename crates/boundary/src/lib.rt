@@ -6,7 +6,7 @@ ghost use mathlib.Core.Logic.{_≢_};
 ghost use mathlib.Core.Path.{_≡_};
 ghost use Rattle.model.specs.Refusals.{lentDue, viewDue};
 ghost use Rattle.model.specs.Trace.{command};
-ghost use Rattle.model.specs.Calls.{oneCommand, freshStart, readUnaligned, writeUnaligned, called, ran, runCall};
+ghost use Rattle.model.specs.Calls.{oneCommand, freshStart, readUnaligned, writeUnaligned, transferIn, transferOut, called, ran, runCall};
 ghost use Rattle.traces.specs.ShortRuns.{shortRunOf, shortRunNumber};
 ghost use Rattle.traces.specs.Writing.{writeCommand};
 ghost use Rattle.traces.specs.Load.{loadTrace};
@@ -89,6 +89,41 @@ pub extern "C" fn c64x_write_unaligned(
     ensures refused { λ x. ⌜ (x .number ≢ 0 → now (words .exit) ≡ now (words .entry)) ⌝ }
 {
     c_answers::write_unaligned(words, size, address, value, l1d, l2, ext)
+}
+
+// Camera transfers (02, U1): all of a buffer, into memory or out of it.
+#[no_mangle]
+pub extern "C" fn c64x_transfer_in(
+    words: &mut [u32; WORDS],
+    address: u32,
+    buffer: &[u8],
+    l1d: &mut [u8],
+    l2: &mut [u8],
+    ext: &mut [u8],
+) -> CAnswer
+    ensures { λ x. ⌜ Tells x (stateIn (now (words .exit)) (now (l1d .exit)) (now (l2 .exit)) (now (ext .exit)))
+        (called (transferIn address (now (buffer .entry))) (stateIn (now (words .entry)) (now (l1d .entry)) (now (l2 .entry)) (now (ext .entry)))) ⌝ }
+    ensures refused { λ x. ⌜ (x .number ≢ 0 → now (words .exit) ≡ now (words .entry)) ⌝ }
+{
+    c_answers::transfer_in(words, address, buffer, l1d, l2, ext)
+}
+
+#[no_mangle]
+pub extern "C" fn c64x_transfer_out(
+    words: &mut [u32; WORDS],
+    address: u32,
+    buffer: &mut [u8],
+    l1d: &mut [u8],
+    l2: &mut [u8],
+    ext: &mut [u8],
+) -> CAnswer
+    ensures { λ x. ⌜ Tells x (stateIn (now (words .exit)) (now (l1d .exit)) (now (l2 .exit)) (now (ext .exit)))
+        (called (transferOut address (now (buffer .entry))) (stateIn (now (words .entry)) (now (l1d .entry)) (now (l2 .entry)) (now (ext .entry)))) ⌝ }
+    ensures handed { λ _. ⌜ now (buffer .exit)
+        ≡ called (transferOut address (now (buffer .entry))) (stateIn (now (words .entry)) (now (l1d .entry)) (now (l2 .entry)) (now (ext .entry))) .bytes ⌝ }
+    ensures refused { λ x. ⌜ (x .number ≢ 0 → now (words .exit) ≡ now (words .entry)) ⌝ }
+{
+    c_answers::transfer_out(words, address, buffer, l1d, l2, ext)
 }
 
 #[no_mangle]

@@ -1,13 +1,20 @@
-// The exported calls of paper 01 in Rattle. The record goes in and comes back by value, with its sets in arrays of
-// set structs; each call puts it into words, makes the call on the words, and takes it out again. None requires
-// anything. The contracts equate the answer, the record and every lent byte with paper 01's definitions
-// (model/specs/Calls).
+// The exported calls of paper 01 in Rattle, with the non-aligned accesses and the transfers of 02. The record goes in
+// and comes back by value, with its sets in arrays of set structs; each call puts it into words, makes the call on the
+// words, and takes it out again. None requires anything. The contracts equate the answer, the record and every lent
+// byte with the definitions (model/specs/Calls).
+ghost use mathlib.Core.List.{List};
 ghost use mathlib.Core.Path.{_≡_};
+ghost use Prim.Native.Nat.{ℕ};
+ghost use lib.ListN.{length};
 ghost use Rattle.model.specs.Records.{state};
 ghost use Rattle.model.specs.Refusals.{viewDue};
 ghost use Rattle.model.specs.Trace.{command};
-ghost use Rattle.model.specs.Calls.{oneCommand, readUnaligned, writeUnaligned, called, freshCall, runCall, viewCall};
+ghost use Rattle.model.specs.Calls.{oneCommand, readUnaligned, writeUnaligned, transferIn, transferOut, called, freshCall, runCall, viewCall};
+ghost use Rattle.access.specs.Serving.{answerOf};
+ghost use Rattle.calls.specs.Handed.{withBytes};
+ghost use Rattle.tags.specs.Words.{recordWords, stateIn};
 ghost use Rattle.by_value.specs.Called.{calledAs, ranAs};
+use access::Answer;
 use model::Left;
 use model::Record;
 use tags::WORDS;
@@ -34,6 +41,26 @@ pub struct RunResult {
     pub stop: u8,
 }
 
+// The answer of a call on words, with the record that the words stand for then.
+fn answered(x: Answer, tags: &[u32]) -> Called
+    requires { ⌜ length (now tags) ≡ recordWords ⌝ }
+    ensures { λ r. ⌜ ((d m e : List ℕ) → calledAs r d m e ≡ answerOf x (stateIn (now (tags .entry)) d m e)) ⌝ }
+{
+    let after = packing::unpack(tags);
+    let k = x.l1d_left;
+    let l = x.l2_left;
+    Called {
+        number: x.number,
+        server: x.server,
+        value: x.value,
+        l1d_left: k,
+        l2_left: l,
+        external_read: x.read,
+        external_written: x.written,
+        record: after,
+    }
+}
+
 // Any command.
 pub fn one_command(
     r: Record,
@@ -51,19 +78,7 @@ pub fn one_command(
     let mut tags = [0u32; WORDS];
     packing::pack(r, &mut tags);
     let x = calls::carry_out(&mut tags, code, first, second, value, l1d, l2, ext);
-    let after = packing::unpack(&tags);
-    let k = x.l1d_left;
-    let l = x.l2_left;
-    Called {
-        number: x.number,
-        server: x.server,
-        value: x.value,
-        l1d_left: k,
-        l2_left: l,
-        external_read: x.read,
-        external_written: x.written,
-        record: after,
-    }
+    answered(x, &tags)
 }
 
 // A non-aligned read, and a write (02, U6).
@@ -81,19 +96,7 @@ pub fn read_unaligned(
     let mut tags = [0u32; WORDS];
     packing::pack(r, &mut tags);
     let x = calls::read_unaligned(&mut tags, size, address, l1d, l2, ext);
-    let after = packing::unpack(&tags);
-    let k = x.l1d_left;
-    let l = x.l2_left;
-    Called {
-        number: x.number,
-        server: x.server,
-        value: x.value,
-        l1d_left: k,
-        l2_left: l,
-        external_read: x.read,
-        external_written: x.written,
-        record: after,
-    }
+    answered(x, &tags)
 }
 
 pub fn write_unaligned(
@@ -111,19 +114,42 @@ pub fn write_unaligned(
     let mut tags = [0u32; WORDS];
     packing::pack(r, &mut tags);
     let x = calls::write_unaligned(&mut tags, size, address, value, l1d, l2, ext);
-    let after = packing::unpack(&tags);
-    let k = x.l1d_left;
-    let l = x.l2_left;
-    Called {
-        number: x.number,
-        server: x.server,
-        value: x.value,
-        l1d_left: k,
-        l2_left: l,
-        external_read: x.read,
-        external_written: x.written,
-        record: after,
-    }
+    answered(x, &tags)
+}
+
+// A transfer in, and one out (02, U1): the latter hands its bytes back in the buffer.
+pub fn transfer_in(
+    r: Record,
+    address: u32,
+    buffer: &[u8],
+    l1d: &mut [u8],
+    l2: &mut [u8],
+    ext: &mut [u8],
+) -> Called
+    ensures { λ x. ⌜ calledAs x (now (l1d .exit)) (now (l2 .exit)) (now (ext .exit))
+        ≡ called (transferIn address (now (buffer .entry))) (state r (now (l1d .entry)) (now (l2 .entry)) (now (ext .entry))) ⌝ }
+{
+    let mut tags = [0u32; WORDS];
+    packing::pack(r, &mut tags);
+    let x = calls::transfer_in(&mut tags, address, buffer, l1d, l2, ext);
+    answered(x, &tags)
+}
+
+pub fn transfer_out(
+    r: Record,
+    address: u32,
+    buffer: &mut [u8],
+    l1d: &mut [u8],
+    l2: &mut [u8],
+    ext: &mut [u8],
+) -> Called
+    ensures { λ x. ⌜ withBytes (calledAs x (now (l1d .exit)) (now (l2 .exit)) (now (ext .exit))) (now (buffer .exit))
+        ≡ called (transferOut address (now (buffer .entry))) (state r (now (l1d .entry)) (now (l2 .entry)) (now (ext .entry))) ⌝ }
+{
+    let mut tags = [0u32; WORDS];
+    packing::pack(r, &mut tags);
+    let x = calls::transfer_out(&mut tags, address, buffer, l1d, l2, ext);
+    answered(x, &tags)
 }
 
 // A fresh start: L and E are the lengths that are lent.
@@ -133,19 +159,7 @@ pub fn fresh(l1d: &mut [u8], l2: &mut [u8], ext: &mut [u8]) -> Called
 {
     let mut tags = [0u32; WORDS];
     let x = calls::fresh(&mut tags, l1d, l2, ext);
-    let after = packing::unpack(&tags);
-    let k = x.l1d_left;
-    let l = x.l2_left;
-    Called {
-        number: x.number,
-        server: x.server,
-        value: x.value,
-        l1d_left: k,
-        l2_left: l,
-        external_read: x.read,
-        external_written: x.written,
-        record: after,
-    }
+    answered(x, &tags)
 }
 
 // A run over a trace; one answer of ten bytes for each command.

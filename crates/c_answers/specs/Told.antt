@@ -1,6 +1,8 @@
 -- What C is told of a reply: number, server and value as they are; what left a way as the number and the address that
 -- `leftKind` and `leftAddress` (model/specs/Reports) give each case; how many bytes of external memory were read and
 -- written.
+use Prim.Native.Nat.{ℕ}
+use mathlib.Core.List.{List}
 use mathlib.Core.Path.{_≡_, ap, _∙_}
 use Rattle.model.specs.Records.{State}
 use Rattle.model.specs.Reports.{leftKind, leftAddress}
@@ -8,6 +10,7 @@ use Rattle.model.specs.Calls.{Reply}
 use Rattle.model.specs.declared.Left.{Left}
 use Rattle.access.specs.Serving.{answerOf}
 use Rattle.access.specs.declared.Answer.{Answer}
+use Rattle.calls.specs.Handed.{withBytes}
 use Rattle.c_answers.specs.declared.CLeft.{CLeft}
 use Rattle.c_answers.specs.declared.CAnswer.{CAnswer}
 
@@ -45,6 +48,11 @@ Tells x z r = (x ≡ toldReply r) × (z ≡ r .next)
 
 pub tells : (a : Answer) (x : CAnswer) (z : State) (r : Reply) → x ≡ toldAnswer a → answerOf a z ≡ r → Tells x z r
 tells a x z r ex er = (ex ∙ ap toldReply er, ap (λ (q : Reply). q .next) er)
+
+-- a call that hands back bytes, in a lent buffer that holds o behind it
+pub tells-bytes : (a : Answer) (x : CAnswer) (z : State) (o : List ℕ) (r : Reply) → x ≡ toldAnswer a → withBytes (answerOf a z) o ≡ r →
+    Tells x z r × (o ≡ r .bytes)
+tells-bytes a x z o r ex er = ((ex ∙ ap toldReply er, ap (λ (q : Reply). q .next) er), ap (λ (q : Reply). q .bytes) er)
 
 pub refuses : (a : Answer) (x : CAnswer) → x ≡ toldAnswer a → x .number ≡ a .number
 refuses a x ex = ap (λ (q : CAnswer). q .number) ex

@@ -4,7 +4,7 @@ ghost use mathlib.Core.Logic.{_≢_};
 ghost use mathlib.Core.Path.{_≡_};
 ghost use lib.ListN.{length};
 ghost use Rattle.model.specs.Trace.{command};
-ghost use Rattle.model.specs.Calls.{oneCommand, freshStart, readUnaligned, writeUnaligned, called};
+ghost use Rattle.model.specs.Calls.{oneCommand, freshStart, readUnaligned, writeUnaligned, transferIn, transferOut, called};
 ghost use Rattle.tags.specs.Words.{recordWords, stateIn};
 ghost use Rattle.c_answers.specs.Told.{toldLeft, toldAnswer, Tells};
 use access::Answer;
@@ -122,6 +122,43 @@ pub fn write_unaligned(
     ensures refused { λ x. ⌜ (x .number ≢ 0 → now (tags .exit) ≡ now (tags .entry)) ⌝ }
 {
     let x = calls::write_unaligned(tags, size, address, value, l1d, l2, ext);
+    answer_for_c(x)
+}
+
+// A transfer in, and one out (02, U1): the latter hands its bytes back in the buffer.
+pub fn transfer_in(
+    tags: &mut [u32],
+    address: u32,
+    buffer: &[u8],
+    l1d: &mut [u8],
+    l2: &mut [u8],
+    ext: &mut [u8],
+) -> CAnswer
+    requires { ⌜ length (now tags) ≡ recordWords ⌝ }
+    ensures { λ x. ⌜ Tells x (stateIn (now (tags .exit)) (now (l1d .exit)) (now (l2 .exit)) (now (ext .exit)))
+        (called (transferIn address (now (buffer .entry))) (stateIn (now (tags .entry)) (now (l1d .entry)) (now (l2 .entry)) (now (ext .entry)))) ⌝ }
+    ensures refused { λ x. ⌜ (x .number ≢ 0 → now (tags .exit) ≡ now (tags .entry)) ⌝ }
+{
+    let x = calls::transfer_in(tags, address, buffer, l1d, l2, ext);
+    answer_for_c(x)
+}
+
+pub fn transfer_out(
+    tags: &mut [u32],
+    address: u32,
+    buffer: &mut [u8],
+    l1d: &mut [u8],
+    l2: &mut [u8],
+    ext: &mut [u8],
+) -> CAnswer
+    requires { ⌜ length (now tags) ≡ recordWords ⌝ }
+    ensures { λ x. ⌜ Tells x (stateIn (now (tags .exit)) (now (l1d .exit)) (now (l2 .exit)) (now (ext .exit)))
+        (called (transferOut address (now (buffer .entry))) (stateIn (now (tags .entry)) (now (l1d .entry)) (now (l2 .entry)) (now (ext .entry)))) ⌝ }
+    ensures handed { λ _. ⌜ now (buffer .exit)
+        ≡ called (transferOut address (now (buffer .entry))) (stateIn (now (tags .entry)) (now (l1d .entry)) (now (l2 .entry)) (now (ext .entry))) .bytes ⌝ }
+    ensures refused { λ x. ⌜ (x .number ≢ 0 → now (tags .exit) ≡ now (tags .entry)) ⌝ }
+{
+    let x = calls::transfer_out(tags, address, buffer, l1d, l2, ext);
     answer_for_c(x)
 }
 

@@ -1,7 +1,7 @@
-// The calls of paper 01 on a record that is lent as words: the fresh start, any command, the run over a trace; and the
-// non-aligned accesses of 02, U6. Every content of the words, every number that a caller can pass and every length of a
-// lent buffer meets a check, and a refused call leaves every word and every byte as it was. The contracts equate the
-// answer, the record and every lent byte with paper 01's definitions (model/specs/Calls).
+// The calls of paper 01 on a record that is lent as words: the fresh start, any command, the run over a trace; the
+// non-aligned accesses of 02, U6, and its transfers, U1. Every content of the words, every number that a caller can
+// pass and every length of a lent buffer meets a check, and a refused call leaves every word and every byte as it was.
+// The contracts equate the answer, the record and every lent byte with the definitions (model/specs/Calls).
 ghost use mathlib.Core.Logic.{_≢_};
 ghost use mathlib.Core.Path.{_≡_};
 ghost use Prim.Native.Nat.{_<_};
@@ -9,8 +9,9 @@ ghost use lib.ListN.{length};
 ghost use Rattle.model.specs.Refusals.{lentDue};
 ghost use Rattle.model.specs.Trace.{command};
 ghost use Rattle.access.specs.Serving.{answerOf, plainAnswer};
-ghost use Rattle.model.specs.Calls.{oneCommand, freshStart, readUnaligned, writeUnaligned, called, freshOk, ran, runCall};
+ghost use Rattle.model.specs.Calls.{oneCommand, freshStart, readUnaligned, writeUnaligned, transferIn, transferOut, called, freshOk, ran, runCall};
 ghost use Rattle.tags.specs.Words.{recordWords, stateIn};
+ghost use Rattle.calls.specs.Handed.{withBytes};
 use access::Answer;
 use geometry::L1d;
 use geometry::L2;
@@ -33,7 +34,7 @@ fn command_of(code: u8, first: u32, second: u32, value: u64) -> Command
     }
 }
 
-// An answer without server, value and report: a refusal, or a fresh start.
+// An answer without server, value and report: a refusal, a transfer, or a fresh start.
 fn numbered(number: u8) -> Answer
     ensures { λ x. ⌜ x ≡ plainAnswer number 0 0 ⌝ }
 {
@@ -123,6 +124,49 @@ pub fn write_unaligned(
     ensures refused { λ x. ⌜ (x .number ≢ 0 → now (tags .exit) ≡ now (tags .entry)) ⌝ }
 {
     unaligned(tags, 1, size, address, value, l1d, l2, ext)
+}
+
+// A transfer in, and one out (02, U1): the checks of lengths and record, then the transfer.
+pub fn transfer_in(
+    tags: &mut [u32],
+    address: u32,
+    buffer: &[u8],
+    l1d: &mut [u8],
+    l2: &mut [u8],
+    ext: &mut [u8],
+) -> Answer
+    requires { ⌜ length (now tags) ≡ recordWords ⌝ }
+    ensures { λ x. ⌜ answerOf x (stateIn (now (tags .exit)) (now (l1d .exit)) (now (l2 .exit)) (now (ext .exit)))
+        ≡ called (transferIn address (now (buffer .entry))) (stateIn (now (tags .entry)) (now (l1d .entry)) (now (l2 .entry)) (now (ext .entry))) ⌝ }
+    ensures refused { λ x. ⌜ (x .number ≢ 0 → now (tags .exit) ≡ now (tags .entry)) ⌝ }
+{
+    let lent = record_check::lent_due(tags, l1d, l2, ext);
+    if lent != 0 {
+        return numbered(lent);
+    }
+    let number = transfers::transfer_in(tags, address, buffer, l1d, l2, ext);
+    numbered(number)
+}
+
+pub fn transfer_out(
+    tags: &mut [u32],
+    address: u32,
+    buffer: &mut [u8],
+    l1d: &mut [u8],
+    l2: &mut [u8],
+    ext: &mut [u8],
+) -> Answer
+    requires { ⌜ length (now tags) ≡ recordWords ⌝ }
+    ensures { λ x. ⌜ withBytes (answerOf x (stateIn (now (tags .exit)) (now (l1d .exit)) (now (l2 .exit)) (now (ext .exit)))) (now (buffer .exit))
+        ≡ called (transferOut address (now (buffer .entry))) (stateIn (now (tags .entry)) (now (l1d .entry)) (now (l2 .entry)) (now (ext .entry))) ⌝ }
+    ensures refused { λ x. ⌜ (x .number ≢ 0 → now (tags .exit) ≡ now (tags .entry)) ⌝ }
+{
+    let lent = record_check::lent_due(tags, l1d, l2, ext);
+    if lent != 0 {
+        return numbered(lent);
+    }
+    let number = transfers::transfer_out(tags, address, buffer, l1d, l2, ext);
+    numbered(number)
 }
 
 fn fresh_ok(l1d: &[u8], l2: &[u8], ext: &[u8]) -> bool

@@ -1,7 +1,9 @@
 // Executes every exported call of crate by_value: a list of calls from a fresh start with L = E = 65,536 and external
 // memory zero, then a run over a trace. It prints what each answers: number, server and value; of a view its number,
-// how many bytes it has, and two of them; of the run bytes consumed, count and stop number, then each answer. What it
-// has to print is told by the reference model (compare/examples/each_call.rs).
+// how many bytes it has, and two of them; of a transfer out its number and two bytes of the buffer; of the run bytes
+// consumed, count and stop number, then each answer. What it has to print is told by the reference model
+// (compare/examples/each_call.rs).
+ghost use Prim.Native.Nat.{_≤_};
 use by_value::Called;
 use model::Record;
 
@@ -40,7 +42,51 @@ fn seen<'a>(r: Record, l2: &'a [u8], ext: &'a [u8], address: u32) {
     show(part.len() as u64, wide(part[0]), wide(part[2]));
 }
 
-// The call of one row: its code (13: a view; 14 and 15: a non-aligned read and write) and its numbers.
+// How many bytes of the buffer for a transfer are lent: those that are asked for, and at most all.
+fn front(n: u32) -> usize
+    ensures { λ r. ⌜ r ≤ 128 ⌝ }
+{
+    if n < 128 {
+        return n as usize;
+    }
+    128
+}
+
+// A transfer of the front of a buffer whose bytes are all v. Of one out the first and the last byte are told.
+fn transferred_in(
+    r: Record,
+    n: u32,
+    address: u32,
+    v: u32,
+    l1d: &mut [u8; 16384],
+    l2: &mut [u8; 65536],
+    ext: &mut [u8; 65536],
+) -> Record {
+    let v8 = (v % 256) as u8;
+    let buffer = [v8; 128];
+    let k = front(n);
+    told(by_value::transfer_in(r, address, &buffer[..k], l1d, l2, ext))
+}
+
+fn transferred_out(
+    r: Record,
+    n: u32,
+    address: u32,
+    v: u32,
+    l1d: &mut [u8; 16384],
+    l2: &mut [u8; 65536],
+    ext: &mut [u8; 65536],
+) -> Record {
+    let v8 = (v % 256) as u8;
+    let mut buffer = [v8; 128];
+    let k = front(n);
+    let x = by_value::transfer_out(r, address, &mut buffer[..k], l1d, l2, ext);
+    show(wide(x.number), wide(buffer[0]), wide(buffer[127]));
+    x.record
+}
+
+// The call of one row: its code (13: a view; 14 and 15: a non-aligned read and write; 16 and 17: a transfer in and out,
+// of so many bytes, at an address) and its numbers.
 fn one(
     r: Record,
     code: u32,
@@ -95,6 +141,12 @@ fn one(
     }
     if code == 15 {
         return told(by_value::write_unaligned(r, a, b, wide32(v), l1d, l2, ext));
+    }
+    if code == 16 {
+        return transferred_in(r, a, b, v, l1d, l2, ext);
+    }
+    if code == 17 {
+        return transferred_out(r, a, b, v, l1d, l2, ext);
     }
     seen(r, l2, ext, a);
     r
@@ -401,8 +453,96 @@ fn main() {
         8,
         2147549180,
         1,
+        1,
+        1,
+        512,
+        9,
+        0,
+        1,
+        512,
+        0,
+        1,
+        1,
+        512,
+        8,
+        17,
+        4,
+        512,
+        1,
+        0,
+        1,
+        512,
+        0,
+        1,
+        1,
+        516,
+        6,
+        16,
+        4,
+        512,
+        5,
+        0,
+        1,
+        512,
+        0,
+        0,
+        1,
+        516,
+        0,
+        0,
+        1,
+        2147484160,
+        0,
+        16,
+        128,
+        2147484160,
+        7,
+        0,
+        1,
+        2147484160,
+        0,
+        17,
+        128,
+        2147484160,
+        1,
+        1,
+        1,
+        2147484160,
+        3,
+        17,
+        4,
+        2147484160,
+        1,
+        5,
+        2147484160,
+        32,
+        0,
+        17,
+        128,
+        2147484160,
+        1,
+        16,
+        4,
+        2,
+        1,
+        16,
+        0,
+        0,
+        1,
+        17,
+        6,
+        32768,
+        1,
+        17,
+        8,
+        32764,
+        1,
+        16,
+        8,
+        2147549180,
+        1,
     ];
-    for k in 0..62 {
+    for k in 0..84 {
         let p = k * 4;
         r = one(
             r,

@@ -36,6 +36,10 @@ pub filled : (d s : List ℕ) (n : ℕ) → length d ≡ n → copied d s n ≡ 
 unfolding copied
 filled d s n e = let h : length d ≤ n = omega arith in rw (drop-of-length-le d h, append-nil)
 
+-- a slice that was replaced by one of its length is that one
+pub copied-all : (d s : List ℕ) → length d ≡ length s → copied d s (length s) ≡ s
+copied-all d s e = let h : length s ≤ length s = omega arith in filled d s (length s) e ∙ take-all (length s) s h
+
 -- m[a..] is lent to the end, and its first bytes become s
 put-back : (m s : List ℕ) (a : ℕ) → a + length s ≤ length m →
     take a m ++ (copied (take (length m - a) (drop a m)) s (length s) ++ drop (length m - a) (drop a m)) ≡ splice m a s
@@ -98,6 +102,32 @@ module _ (m l : List ℕ) (a b n : ℕ) where
       let p : take a m ++ (copied (take (length m - a) (drop a m)) (part l b n) (length (part l b n)) ++ drop (length m - a) (drop a m)) ≡ splice m a (part l b n)
       = put-back m (part l b n) a (omega arith) in
       rw t′ ((rw len at p) ∙ sym (stored-inside m a (part l b n) (omega arith)))
+
+  -- m[a..a + n] takes l[b..b + n]
+  pub moved : Inside m l a b n → (t : List ℕ) → t ≡ take (b + n - b) (drop b l) →
+      take a m ++ (t ++ drop (a + n - a) (drop a m)) ≡ stored m a (part l b n)
+  unfolding splice
+  moved i t g =
+      let k = i .from in
+      let h = i .to in
+      let b′ : b + n - b ≡ n = omega arith in
+      let a′ : a + n - a ≡ n = omega arith in
+      let t′ : t ≡ part l b n = g ∙ ap (λ (j : ℕ). take j (drop b l)) b′ ∙ sym (part-inside l b n k) in
+      let len = length-part l b n k in
+      let p : splice m a (part l b n) ≡ take a m ++ (part l b n ++ drop n (drop a m)) = rw (len, drop-drop) refl in
+      rw (t′, a′) (sym (stored-inside m a (part l b n) (omega arith) ∙ p))
+
+-- a memory whole, and one that others take the place of whole
+pub part-whole : (m : List ℕ) → part m 0 (length m) ≡ m
+part-whole m =
+    let h : 0 + length m ≤ length m = omega arith in let all : length m ≤ length m = omega arith in
+    part-inside m 0 (length m) h ∙ take-all (length m) m all
+
+pub stored-whole : (m bs : List ℕ) → length bs ≡ length m → stored m 0 bs ≡ bs
+unfolding splice
+stored-whole m bs e =
+    let h : 0 + length bs ≤ length m = omega arith in let all : length m ≤ 0 + length bs = omega arith in
+    stored-inside m 0 bs h ∙ rw (drop-of-length-le m all, append-nil) refl
 
 -- ---- a sum that may pass the largest number, tested without it
 pub leb-shift : (a n k : ℕ) → n ≤ k → leb a (k - n) ≡ leb (a + n) k

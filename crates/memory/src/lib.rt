@@ -1,6 +1,6 @@
 // Lines and values between lent memories. Every function that takes a place is total: what does not lie in its memory
 // is not touched, so that no caller has to know that a record is well formed. Lines go through an array by value,
-// which the compiler turns into wide moves.
+// which the compiler turns into wide moves; so does it with a long copy between two slices of one length.
 ghost use mathlib.Core.Bool.{true};
 ghost use mathlib.Core.Path.{_≡_};
 ghost use Prim.Native.Nat.{_+_, _≤_, _<_};
@@ -13,7 +13,6 @@ ghost use Rattle.memory.specs.Copied.{copied};
 
 // Do n bytes at a lie in a memory of len bytes? Told without a sum that could wrap.
 pub fn fits(a: usize, n: usize, len: usize) -> bool
-    requires { ⌜ n < 4294967296 ⌝ }
     ensures { λ r. ⌜ r ≡ leb (a + n) len ⌝ }
 {
     if len < n {
@@ -77,6 +76,31 @@ pub fn move128(dst: &mut [u8], a: usize, src: &[u8], b: usize) -> u32
     move64(dst, a, src, b);
     move64(dst, a + 64, src, b + 64);
     128
+}
+
+// ---- any number of bytes
+fn copy(dst: &mut [u8], src: &[u8])
+    requires { ⌜ length (now dst) ≡ length (now src) ⌝ }
+    ensures { λ _. ⌜ now (dst .exit) ≡ now (src .entry) ⌝ }
+{
+    let mut i: usize = 0;
+    while i < src.len() {
+        dst[i] = src[i];
+        i += 1;
+    }
+}
+
+// n bytes go from the place b of one memory to the place a of another, as a line does.
+pub fn move_part(dst: &mut [u8], a: usize, src: &[u8], b: usize, n: usize)
+    ensures { λ _. ⌜ now (dst .exit) ≡ stored (now (dst .entry)) a (part (now (src .entry)) b n) ⌝ }
+{
+    if !fits(b, n, src.len()) {
+        return;
+    }
+    if !fits(a, n, dst.len()) {
+        return;
+    }
+    copy(&mut dst[a..a + n], &src[b..b + n]);
 }
 
 // How many of the n bytes at a are there: all of them, or none.

@@ -1,14 +1,15 @@
 -- Each number, as the code comes to it: the tests passed so far, and what the next one says. Where only the last test
 -- is left, one law gives the number for both its answers (`access-last`).
 use Prim.Native.Nat.{ℕ, suc, _+_, _-_, _%_, _≤_, _<_}
-use mathlib.Core.Bool.{Bool, true, false, _&&_, _||_}
+use mathlib.Core.Bool.{Bool, true, false, not, _&&_, _||_}
 use mathlib.Core.Path.{_≡_, refl, sym, _∙_}
 use native.Mathlib.Omega.{arith}
 use lib.Dec.{ltb, leb, eqb}
-use borrow.Author.Tests.{lt-ltb, le-ltb, le-leb, lt-leb, eq-eqb, ne-eqb, eqb-true}
+use borrow.Author.Tests.{lt-ltb, le-ltb, le-leb, lt-leb, eq-eqb, ne-eqb, eqb-true, leb-true}
 use Rattle.model.specs.Memories.{externalBase, isMode, cacheSize}
 use Rattle.model.specs.Unaligned.{unalignedSize, bytesPlaced, unalignedDue}
-use Rattle.model.specs.Laws.{bool, placed-together}
+use Rattle.model.specs.Transfers.{transferLength, transferDue}
+use Rattle.model.specs.Laws.{bool, both-true, placed-together}
 use Rattle.model.specs.Refusals.{unless, sizeOk, placeOk, valueOk, accessDue, blockDue, modeDue, freezeDue}
 
 -- "4: address not a multiple of the size"
@@ -125,6 +126,32 @@ module _ (q : Asked) where
     pub unaligned-last : placed q ≡ true → (w : Bool) → w ≡ valueOk (q .size) (q .value) → unalignedOf ≡ unless w 6
     unfolding unalignedDue
     unaligned-last z w f = let t = together ∙ z in rw (x, t, f) refl
+
+-- ---- a transfer: a length that 13 lets pass is small
+pub transfer-joined : (n : ℕ) → (not (eqb n 0) && (eqb (n % 4) 0 && leb n 262140)) ≡ transferLength n
+unfolding transferLength
+transfer-joined n = refl
+
+pub transfer-short : (n : ℕ) → transferLength n ≡ true → n ≤ 262140
+unfolding transferLength
+transfer-short n h =
+    let w = both-true (not (eqb n 0)) (eqb (n % 4) 0 && leb n 262140) h .1 in
+    leb-true n 262140 (both-true (eqb (n % 4) 0) (leb n 262140) w .1)
+
+module _ (s e n a : ℕ) where
+  pub transfer-four : (a % 4 ≡ 0 → ⊥) → 4 ≡ transferDue s e n a
+  unfolding transferDue
+  transfer-four x = rw (ne-eqb (a % 4) 0 x) refl
+
+  module _ (x : a % 4 ≡ 0) where
+    pub transfer-thirteen : transferLength n ≡ false → 13 ≡ transferDue s e n a
+    unfolding transferDue
+    transfer-thirteen y = rw (eq-eqb (a % 4) 0 x, y) refl
+
+    -- w: what the test of the place says
+    pub transfer-last : transferLength n ≡ true → (w : Bool) → w ≡ placeOk s e n a → transferDue s e n a ≡ unless w 14
+    unfolding transferDue
+    transfer-last y w f = rw (eq-eqb (a % 4) 0 x, y, f) refl
 
 -- ---- a block, a mode
 module _ (b c : ℕ) where

@@ -6,6 +6,7 @@ ghost use Prim.Native.Nat.{_+_, _≤_};
 ghost use Rattle.model.specs.Memories.{externalBase};
 ghost use Rattle.model.specs.Refusals.{sizeOk, placeOk, valueOk, accessDue, blockDue, modeDue, freezeDue};
 ghost use Rattle.model.specs.Unaligned.{unalignedSize, unalignedDue};
+ghost use Rattle.model.specs.Transfers.{transferLength, transferDue};
 ghost use Rattle.refusals.specs.Due.{aligned};
 
 // Sums of an address and a length are made of 64 bits, so that none wraps.
@@ -107,6 +108,31 @@ pub fn unaligned_due(sram: u32, ext: u32, size: u32, address: u32, value: u64) -
         return 5;
     }
     3
+}
+
+// ---- a transfer (02, U1): 4, 13 and 14
+const LONGEST_TRANSFER: usize = 262140;
+
+fn transfer_length(length: usize) -> bool
+    ensures { λ b. ⌜ b ≡ transferLength length ⌝ }
+{
+    (length != 0) & ((length % 4 == 0) & (length <= LONGEST_TRANSFER))
+}
+
+// Any length can be lent: only one that 13 lets pass is added to the address.
+pub fn transfer_due(sram: u32, ext: u32, length: usize, address: u32) -> u8
+    ensures { λ n. ⌜ n ≡ transferDue sram ext length address ⌝ }
+{
+    if address % 4 == 0 {
+        if transfer_length(length) {
+            if place_ok(sram, ext, length as u32, address) {
+                return 0;
+            }
+            return 14;
+        }
+        return 13;
+    }
+    4
 }
 
 // ---- a block: 4 and 7

@@ -1,8 +1,5 @@
--- `by_value::fresh` meets its contract: the fresh start on words, whose record is then taken out (unpack).
-use Rattle.model.specs.Records.{state}
-use Rattle.model.specs.declared.Record.{Record}
-use mathlib.Core.Path.{ap, _∙_}
-use Rattle.access.specs.Serving.{answerOf}
+-- `by_value::fresh` meets its contract: the fresh start on words, whose record is then taken out (answered).
+use mathlib.Core.Path.{_∙_}
 use borrow.Author.Needs.{needs}
 use Rattle.by_value.proofs.fresh.Statement.{statement}
 use Rattle.by_value.proofs.fresh.Tie as tie
@@ -13,11 +10,11 @@ slice-aggregate-fresh c = search needs
 fresh-requires : tie.Need-fresh-requires
 fresh-requires c κs = search needs
 
-slice-aggregate-unpack : tie.Need-slice-aggregate-unpack
-slice-aggregate-unpack c = search needs
+slice-aggregate-answered : tie.Need-slice-aggregate-answered
+slice-aggregate-answered c = search needs
 
-unpack-requires : tie.Need-unpack-requires
-unpack-requires c κs = search needs
+answered-requires : tie.Need-answered-requires
+answered-requires c κs = search needs
 
 same-length : tie.Need-same-length
 same-length c = search needs
@@ -29,10 +26,7 @@ same-length-3 : tie.Need-same-length-3
 same-length-3 c = search needs
 
 returns : tie.Need-returns
-returns c =
-    let p-fresh = c .before .before .before .before .before .before .before .before .before in
-    let x = (p-fresh .fresh) .result in
-    ap (λ (q : Record). answerOf x (state q ((p-fresh .fresh) .last .1 .0) ((p-fresh .fresh) .last .1 .1 .0) ((p-fresh .fresh) .last .1 .1 .1 .0))) ((c .unpack) .ensures) ∙ (p-fresh .fresh) .ensures
+returns c = let o = c .before .before .before .before .before .before .before .before .before .fresh in c .answered .ensures (o .last .1 .0) (o .last .1 .1 .0) (o .last .1 .1 .1 .0) ∙ o .ensures
 
 pub fresh-spec : {M : Type 1} → statement M
 fresh-spec =
@@ -40,8 +34,8 @@ fresh-spec =
     (tie.spec
     slice-aggregate-fresh
     fresh-requires
-    slice-aggregate-unpack
-    unpack-requires
+    slice-aggregate-answered
+    answered-requires
     same-length
     same-length-2
     same-length-3

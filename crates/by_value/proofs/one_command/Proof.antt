@@ -1,11 +1,10 @@
--- `by_value::one_command` meets its contract: the words stand for the record before and after (pack, unpack), and the
+-- `by_value::one_command` meets its contract: the words stand for the record before and after (pack, answered), and the
 -- call on them is that of paper 01.
 use Rattle.model.specs.Records.{state}
 use Rattle.model.specs.declared.Record.{Record}
-use mathlib.Core.Path.{ap, _∙_}
+use Rattle.model.specs.Calls.{oneCommand, called}
 use Rattle.model.specs.Trace.{command}
-use Rattle.access.specs.Serving.{answerOf}
-use Rattle.model.specs.Calls.{call}
+use mathlib.Core.Path.{ap, _∙_}
 use borrow.Author.Needs.{needs}
 use Rattle.by_value.proofs.one_command.Statement.{statement}
 use Rattle.by_value.proofs.one_command.Tie as tie
@@ -22,11 +21,11 @@ slice-aggregate-carry-out c = search needs
 carry-out-requires : tie.Need-carry-out-requires
 carry-out-requires c κs = search needs
 
-slice-aggregate-unpack : tie.Need-slice-aggregate-unpack
-slice-aggregate-unpack c = search needs
+slice-aggregate-answered : tie.Need-slice-aggregate-answered
+slice-aggregate-answered c = search needs
 
-unpack-requires : tie.Need-unpack-requires
-unpack-requires c κs = search needs
+answered-requires : tie.Need-answered-requires
+answered-requires c κs = search needs
 
 same-length : tie.Need-same-length
 same-length c = search needs
@@ -39,13 +38,9 @@ same-length-3 c = search needs
 
 returns : tie.Need-returns
 returns c =
-    let p-carry-out = c .before .before .before .before .before .before .before .before .before in
-    let p-pack = p-carry-out .before .before .before .before .before .before in
-    let p-start = p-pack .before .before .before .before .before in
-    let a = p-start .args in let x = (p-carry-out .carry-out) .result in
-    ap (λ (q : Record). answerOf x (state q ((p-carry-out .carry-out) .last .1 .1 .1 .1 .1 .0) ((p-carry-out .carry-out) .last .1 .1 .1 .1 .1 .1 .0) ((p-carry-out .carry-out) .last .1 .1 .1 .1 .1 .1 .1 .0))) ((c .unpack) .ensures)
-    ∙ (p-carry-out .carry-out) .ensures .0
-    ∙ ap (λ (q : Record). call (command (a .code) (a .first) (a .second) (a .value)) (state q (a .l1d .now) (a .l2 .now) (a .ext .now))) ((p-pack .pack) .ensures)
+    let p-call = c .before .before .before .before .before .before .before .before .before in let p-pack = p-call .before .before .before .before .before .before in let a = p-pack .before .before .before .before .before .args in let o = p-call .carry-out in
+    c .answered .ensures (o .last .1 .1 .1 .1 .1 .0) (o .last .1 .1 .1 .1 .1 .1 .0) (o .last .1 .1 .1 .1 .1 .1 .1 .0) ∙ o .ensures .0
+    ∙ ap (λ (q : Record). called (oneCommand (command (a .code) (a .first) (a .second) (a .value))) (state q (a .l1d .now) (a .l2 .now) (a .ext .now))) (p-pack .pack .ensures)
 
 pub one-command-spec : {M : Type 1} → statement M
 one-command-spec =
@@ -55,8 +50,8 @@ one-command-spec =
     pack-requires
     slice-aggregate-carry-out
     carry-out-requires
-    slice-aggregate-unpack
-    unpack-requires
+    slice-aggregate-answered
+    answered-requires
     same-length
     same-length-2
     same-length-3

@@ -1,9 +1,8 @@
--- `by_value::read_unaligned` meets its contract: the words stand for the record before and after (pack, unpack).
+-- `by_value::read_unaligned` meets its contract: the words stand for the record before and after (pack, answered).
 use Rattle.model.specs.Records.{state}
 use Rattle.model.specs.declared.Record.{Record}
+use Rattle.model.specs.Calls.{readUnaligned, called}
 use mathlib.Core.Path.{ap, _∙_}
-use Rattle.access.specs.Serving.{answerOf}
-use Rattle.model.specs.Calls.{readUnalignedCall}
 use borrow.Author.Needs.{needs}
 use Rattle.by_value.proofs.read_unaligned.Statement.{statement}
 use Rattle.by_value.proofs.read_unaligned.Tie as tie
@@ -20,11 +19,11 @@ slice-aggregate-read-unaligned c = search needs
 read-unaligned-requires : tie.Need-read-unaligned-requires
 read-unaligned-requires c κs = search needs
 
-slice-aggregate-unpack : tie.Need-slice-aggregate-unpack
-slice-aggregate-unpack c = search needs
+slice-aggregate-answered : tie.Need-slice-aggregate-answered
+slice-aggregate-answered c = search needs
 
-unpack-requires : tie.Need-unpack-requires
-unpack-requires c κs = search needs
+answered-requires : tie.Need-answered-requires
+answered-requires c κs = search needs
 
 same-length : tie.Need-same-length
 same-length c = search needs
@@ -37,13 +36,9 @@ same-length-3 c = search needs
 
 returns : tie.Need-returns
 returns c =
-    let p-call = c .before .before .before .before .before .before .before .before .before in
-    let p-pack = p-call .before .before .before .before .before .before in
-    let p-start = p-pack .before .before .before .before .before in
-    let a = p-start .args in let o = p-call .read-unaligned in
-    ap (λ (q : Record). answerOf (o .result) (state q (o .last .1 .1 .1 .0) (o .last .1 .1 .1 .1 .0) (o .last .1 .1 .1 .1 .1 .0))) (c .unpack .ensures)
-    ∙ o .ensures .0
-    ∙ ap (λ (q : Record). readUnalignedCall (a .size) (a .address) (state q (a .l1d .now) (a .l2 .now) (a .ext .now))) (p-pack .pack .ensures)
+    let p-call = c .before .before .before .before .before .before .before .before .before in let p-pack = p-call .before .before .before .before .before .before in let a = p-pack .before .before .before .before .before .args in let o = p-call .read-unaligned in
+    c .answered .ensures (o .last .1 .1 .1 .0) (o .last .1 .1 .1 .1 .0) (o .last .1 .1 .1 .1 .1 .0) ∙ o .ensures .0
+    ∙ ap (λ (q : Record). called (readUnaligned (a .size) (a .address)) (state q (a .l1d .now) (a .l2 .now) (a .ext .now))) (p-pack .pack .ensures)
 
 pub read-unaligned-spec : {M : Type 1} → statement M
 read-unaligned-spec =
@@ -53,8 +48,8 @@ read-unaligned-spec =
     pack-requires
     slice-aggregate-read-unaligned
     read-unaligned-requires
-    slice-aggregate-unpack
-    unpack-requires
+    slice-aggregate-answered
+    answered-requires
     same-length
     same-length-2
     same-length-3

@@ -1,0 +1,56 @@
+-- `by_value::transfer_in` meets its contract: the words stand for the record before and after (pack, answered).
+use Rattle.model.specs.Records.{state}
+use Rattle.model.specs.declared.Record.{Record}
+use Rattle.model.specs.Calls.{transferIn, called}
+use mathlib.Core.Path.{ap, _∙_}
+use borrow.Author.Needs.{needs}
+use Rattle.by_value.proofs.transfer_in.Statement.{statement}
+use Rattle.by_value.proofs.transfer_in.Tie as tie
+
+slice-aggregate-pack : tie.Need-slice-aggregate-pack
+slice-aggregate-pack c = search needs
+
+pack-requires : tie.Need-pack-requires
+pack-requires c κs = search needs
+
+slice-aggregate-transfer-in : tie.Need-slice-aggregate-transfer-in
+slice-aggregate-transfer-in c = search needs
+
+transfer-in-requires : tie.Need-transfer-in-requires
+transfer-in-requires c κs = search needs
+
+slice-aggregate-answered : tie.Need-slice-aggregate-answered
+slice-aggregate-answered c = search needs
+
+answered-requires : tie.Need-answered-requires
+answered-requires c κs = search needs
+
+same-length : tie.Need-same-length
+same-length c = search needs
+
+same-length-2 : tie.Need-same-length-2
+same-length-2 c = search needs
+
+same-length-3 : tie.Need-same-length-3
+same-length-3 c = search needs
+
+returns : tie.Need-returns
+returns c =
+    let p-call = c .before .before .before .before .before .before .before .before .before in let p-pack = p-call .before .before .before .before .before .before in let a = p-pack .before .before .before .before .before .before .args in let o = p-call .transfer-in in
+    c .answered .ensures (o .last .1 .1 .1 .0) (o .last .1 .1 .1 .1 .0) (o .last .1 .1 .1 .1 .1 .0) ∙ o .ensures .0
+    ∙ ap (λ (q : Record). called (transferIn (a .address) (a .buffer .now)) (state q (a .l1d .now) (a .l2 .now) (a .ext .now))) (p-pack .pack .ensures)
+
+pub transfer-in-spec : {M : Type 1} → statement M
+transfer-in-spec =
+    tie.close
+    (tie.spec
+    slice-aggregate-pack
+    pack-requires
+    slice-aggregate-transfer-in
+    transfer-in-requires
+    slice-aggregate-answered
+    answered-requires
+    same-length
+    same-length-2
+    same-length-3
+    returns)
