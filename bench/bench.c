@@ -149,6 +149,29 @@ static c64x_answer library_unaligned(union both *both, const struct lent *m, con
                     : c64x_read_unaligned(r, u->size, u->address, LENT(*m));
 }
 
+/* A transfer, of as many bytes of a buffer. */
+struct transfer {
+    int in;
+    uint32_t address;
+    size_t length;
+};
+
+static c64x_answer library_transfer(const struct transfer *f, uint8_t *buffer)
+{
+    c64x_record *r = &lib.r.library;
+    return f->in ? c64x_transfer_in(r, f->address, buffer, f->length, LENT(lib.m))
+                 : c64x_transfer_out(r, f->address, buffer, f->length, LENT(lib.m));
+}
+
+/* All that it answers is the number. */
+static struct answer model_transfer(const struct transfer *f, uint8_t *buffer)
+{
+    struct record *r = &c.r.model;
+    uint8_t number = f->in ? model_transfer_in(r, &c.m, f->address, buffer, f->length)
+                           : model_transfer_out(r, &c.m, f->address, buffer, f->length);
+    return (struct answer){ number, 0, 0 };
+}
+
 static uint8_t library_view(uint32_t address, uint8_t *seen, size_t seen_len)
 {
     return c64x_view(&lib.r.library, address, lib.m.l2, lib.m.l2_len, lib.m.ext, lib.m.ext_len, seen, seen_len);
@@ -324,6 +347,41 @@ static struct unaligned some_unaligned(void)
     return (struct unaligned){ (int)below(2), size, a, below(30) ? some_value(size == 8 ? 8 : 4) : UINT64_MAX };
 }
 
+/* The buffers of both sides, which no length that is accepted passes. */
+static uint8_t buffer[1 << 18], buffer_by_c[1 << 18];
+static const struct report no_report;
+
+/* A transfer at any address: most of them pass the checks. */
+static struct transfer some_transfer(void)
+{
+    static const size_t lengths[8] = { 0, 2, 262136, 262140, 262144, 262148, (size_t)1 << 32, SIZE_MAX };
+    size_t length = below(20) ? 4 * (size_t)(1 + below(below(8) ? 64 : 8192)) : lengths[below(8)];
+    return (struct transfer){ (int)below(2), some_address() & ~(below(20) ? 3u : 0), length };
+}
+
+/* A word is read and written on both sides, so that L1D holds its line dirty. */
+static void same_dirty_word(uint32_t address)
+{
+    struct command q[2] = { { 0, 4, address, 0 }, { 1, 4, address, below(UINT32_MAX) } };
+    for (int i = 0; i < 2; i++) {
+        struct report t;
+        c64x_answer x = library_call(&lib.r, &lib.m, &q[i]);
+        struct answer y = model_call(&c.r.model, &c.m, &q[i], &t);
+        compare_call("word before a transfer", x, y, &t);
+    }
+}
+
+/* One transfer on both sides, of buffers that hold the same; the number. */
+static uint8_t same_transfer(const struct transfer *f)
+{
+    for (size_t i = 0; i < f->length && i < 1024; i++) buffer[i] = buffer_by_c[i] = (uint8_t)below(256);
+    c64x_answer x = library_transfer(f, buffer);
+    struct answer y = model_transfer(f, buffer_by_c);
+    compare_call("transfer", x, y, &no_report);
+    if (memcmp(buffer, buffer_by_c, sizeof buffer) != 0) differ("transfer", "buffer");
+    return y.number;
+}
+
 /* Writes the counts of dirty lines into a record. */
 static void count_dirty(struct record *r)
 {
@@ -379,7 +437,7 @@ static void same_checks(size_t *refused, size_t *passed)
 
 static void same_calls(struct trace *t)
 {
-    size_t refused = 0, passed = 0, put_out[2][4] = { { 0 } }, unaligned = 0, two = 0;
+    size_t refused = 0, passed = 0, put_out[2][4] = { { 0 } }, unaligned = 0, two = 0, moved = 0, sent = 0;
     static const size_t ext[6] = { 128, 4096, 65536, 262144, 16777216 + 65536, 131072 };
     for (int round = 0; round < 160; round++) {
         fresh("random", 32768 * (1 + below(8)), ext[below(round % 16 ? 4 : 6)]);
@@ -423,6 +481,11 @@ static void same_calls(struct trace *t)
             compare_call("non-aligned access", x, y, &t);
             unaligned += y.number == 0;
             two += t.external_read > 128;
+            struct transfer f = some_transfer();
+            if (below(2)) same_dirty_word(f.address & ~3u);
+            uint32_t dirty = c.r.model.dirty_l1d;
+            moved += same_transfer(&f) == 0;
+            sent += c.r.model.dirty_l1d < dirty;
             uint32_t seen_at = some_address() & ~(below(8) ? 63u : 0);
             size_t length = 63 + below(3);
             uint8_t seen[65] = { 0 }, seen_by_c[65] = { 0 };
@@ -442,6 +505,7 @@ static void same_calls(struct trace *t)
     printf("of the calls L1D put a clean line out in %zu, a dirty one in %zu, L2 in %zu and %zu: also the same\n",
            put_out[0][2], put_out[0][3], put_out[1][2], put_out[1][3]);
     printf("%zu non-aligned accesses, %zu of which had L2 fetch two lines: also the same\n", unaligned, two);
+    printf("%zu transfers, %zu of which sent lines of L1D home: also the same\n", moved, sent);
 }
 
 /* ---- the classes of a trace run */
@@ -802,6 +866,35 @@ static void unaligned(const char *name, int write, uint32_t address, uint32_t re
     row(name, &library_ns, &c_ns, 1);
 }
 
+/* A transfer in the same way: the record is put back, so that the lines which left are there again, and their bytes are
+   where they were. */
+static void transfer(const char *name, int in, uint32_t address, size_t length, uint8_t expected)
+{
+    static union both kept;
+    struct times library_ns = NO_TIME, c_ns = NO_TIME;
+    struct transfer f = { in, address, length };
+    memset(buffer, 0xA5, sizeof buffer);
+    memset(buffer_by_c, 0xA5, sizeof buffer_by_c);
+    kept = c.r;
+    for (int i = 0; i < CALLS; i++) {
+        lib.r = kept;
+        double at = now();
+        c64x_answer x = library_transfer(&f, buffer);
+        took(&library_ns, at);
+        c.r = kept;
+        at = now();
+        struct answer y = model_transfer(&f, buffer_by_c);
+        took(&c_ns, at);
+        compare_call(name, x, y, &no_report);
+        if (y.number != expected) differ(name, "not the number that is expected");
+        if (i == 0 || i == CALLS - 1) compare(name);
+    }
+    if (memcmp(buffer, buffer_by_c, sizeof buffer) != 0) differ(name, "buffer");
+    lib.r = kept;
+    c.r = kept;
+    row(name, &library_ns, &c_ns, 1);
+}
+
 /* The technician's call. */
 static void view(const char *name, uint32_t address, uint8_t expected)
 {
@@ -835,6 +928,49 @@ static void each_unaligned(uint32_t leaves)
     unaligned("non-aligned write, L1D hits in two lines", 1, EXTERNAL + 123, 0, 0);
     unaligned("non-aligned write, miss", 1, EXTERNAL + 0x50001, 128, leaves);
     unaligned("non-aligned write, misses in two lines", 1, EXTERNAL + 0x5007B, 256, 2 * leaves);
+}
+
+/* In and out, of 64 KiB and of a line. */
+static void each_transfer(const char *memory, uint32_t address)
+{
+    static const size_t lengths[2] = { 65536, 128 };
+    char text[100];
+    for (int i = 0; i < 2; i++)
+        for (int in = 1; in >= 0; in--) {
+            snprintf(text, sizeof text, "transfer %s, %zu bytes, %s", in ? "in" : "out", lengths[i], memory);
+            transfer(text, in, address, lengths[i], 0);
+        }
+}
+
+/* Transfers of external memory, for which no cache is looked at, and of SRAM: with a few lines of each in L1D, with all
+   lines of L1D dirty and from the first bytes of SRAM, and with all lines of both caches dirty. */
+static void transfers(struct trace *t)
+{
+    head("transfer, few lines (L = 262,144, mode 1)");
+    fresh("few lines", 262144, 1 << 20);
+    clear(t);
+    put(t, 11, 128, 1, 0);
+    put(t, 10, 1, 0, 0);
+    for (uint32_t i = 0; i < 4; i++) put(t, 0, 4, 64 * i, 0), put(t, 0, 4, EXTERNAL + 64 * i, 0);
+    play("few lines", t);
+    lib.answers_len = c.answers_len = 0;
+    each_transfer("external memory", EXTERNAL);
+    each_transfer("SRAM", 0);
+    transfer("transfer in refused with 13 (the check and little more)", 1, 0, 262144, 13);
+    transfer("transfer out refused with 14 (the check and little more)", 0, 0x7FFFFF80, 128, 14);
+
+    head("transfer, all 256 lines of L1D dirty, of SRAM (L = 262,144, mode 1)");
+    clear(t);
+    fill_l1d(t, 0);
+    play("full L1D", t);
+    lib.answers_len = c.answers_len = 0;
+    each_transfer("SRAM, 256 dirty lines, or 2", 0);
+    each_transfer("SRAM beside them", 65536);
+
+    head("transfer, all lines dirty (L = 262,144, mode 7)");
+    fill(t, 262144, 1 << 20, 7);
+    lib.answers_len = c.answers_len = 0;
+    each_transfer("external memory", EXTERNAL);
 }
 
 static void each_call(uint32_t count)
@@ -952,6 +1088,7 @@ static void directs(struct trace *t)
     full_l1d(t);
 
     putting_out(t);
+    transfers(t);
 
     head("the check of the whole record, and little more");
     static const uint32_t modes[5] = { 0, 1, 2, 3, 7 };

@@ -592,6 +592,24 @@ static void l2_block(struct machine *k, int code, uint32_t base, uint32_t count)
     }
 }
 
+/* ---- transfers (02, U1) */
+
+static inline uint8_t transfer_due(const struct machine *k, uint32_t address, size_t length)
+{
+    if (address % 4 != 0) return 4;
+    if (length == 0 || length % 4 != 0 || length > 262140) return 13;
+    return place_ok(k->sram, k->r->extlen, (uint32_t)length, address) ? 0 : 14;
+}
+
+/* Where the bytes of a transfer stand. Of SRAM the L1D lines go home first and leave, as for a block of so many words;
+   for external memory no cache is looked at. */
+static inline uint8_t *transferred(struct machine *k, uint32_t address, size_t length)
+{
+    if (address >= EXTERNAL) return k->ext + (address - EXTERNAL);
+    l1d_block(k, 7, address, (uint32_t)(length / 4));
+    return k->l2 + address;
+}
+
 /* ---- modes */
 
 static void fresh_sets(struct record *r)
@@ -683,6 +701,27 @@ struct answer model_unaligned(struct record *r, const struct lent *m, const stru
     q.number = unaligned_due(&k, u->size, u->address, u->write ? u->value : 0);
     if (!q.number) unaligned(&k, u, &q, t);
     return q;
+}
+
+uint8_t model_transfer_in(struct record *r, const struct lent *m, uint32_t address, const uint8_t *buffer,
+                          size_t length)
+{
+    uint8_t number = lent_due(r, m);
+    if (number) return number;
+    struct machine k = machine_of(r, m);
+    number = transfer_due(&k, address, length);
+    if (!number) memcpy(transferred(&k, address, length), buffer, length);
+    return number;
+}
+
+uint8_t model_transfer_out(struct record *r, const struct lent *m, uint32_t address, uint8_t *buffer, size_t length)
+{
+    uint8_t number = lent_due(r, m);
+    if (number) return number;
+    struct machine k = machine_of(r, m);
+    number = transfer_due(&k, address, length);
+    if (!number) memcpy(buffer, transferred(&k, address, length), length);
+    return number;
 }
 
 /* ---- the trace */

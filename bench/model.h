@@ -100,6 +100,12 @@ struct unaligned {
 
 struct answer model_unaligned(struct record *r, const struct lent *m, const struct unaligned *u, struct report *t);
 
+/* A transfer (paper 02, U1), which no trace has: the buffer's bytes into memory, or memory's into the buffer. All that
+   it answers is the number. */
+uint8_t model_transfer_in(struct record *r, const struct lent *m, uint32_t address, const uint8_t *buffer,
+                          size_t length);
+uint8_t model_transfer_out(struct record *r, const struct lent *m, uint32_t address, uint8_t *buffer, size_t length);
+
 struct run_result model_run(struct record *r, const struct lent *m, const uint8_t *trace, size_t trace_len,
                             uint8_t *answers, size_t answers_len);
 

@@ -16,8 +16,8 @@
 
 /* The calls, in the order of the codes of a trace; then the others. */
 enum {
-    FRESH = 13, READ_UNALIGNED, WRITE_UNALIGNED, RUN, VIEW, VIEW_NUMBER, SHORT_RUN_OF, SHORT_RUN_NUMBER, PUT, LOAD,
-    KINDS
+    FRESH = 13, READ_UNALIGNED, WRITE_UNALIGNED, TRANSFER_IN, TRANSFER_OUT, RUN, VIEW, VIEW_NUMBER, SHORT_RUN_OF,
+    SHORT_RUN_NUMBER, PUT, LOAD, KINDS
 };
 
 static const char *const names[KINDS] = {
@@ -37,6 +37,8 @@ static const char *const names[KINDS] = {
     "c64x_fresh",
     "c64x_read_unaligned",
     "c64x_write_unaligned",
+    "c64x_transfer_in",
+    "c64x_transfer_out",
     "c64x_run",
     "c64x_view",
     "c64x_view_number",
@@ -56,7 +58,7 @@ struct call {
 
 static c64x_record record, kept;
 static uint8_t l1d[C64X_L1D_BYTES], l2[262144], ext[EXT_BYTES], seen[C64X_VIEW_BYTES];
-static uint8_t trace[65536], answers[10 * 65536];
+static uint8_t trace[65536], answers[10 * 65536], buffer[C64X_TRANSFER_BYTES];
 static const uint8_t digits[8] = { 1, 2, 3, 4, 5, 6, 7, 8 };
 static size_t l2_len, trace_len;
 static uint8_t *stack;
@@ -99,6 +101,8 @@ static void call(void)
     case FRESH: c64x_fresh(r, LENT); break;
     case READ_UNALIGNED: c64x_read_unaligned(r, first, second, LENT); break;
     case WRITE_UNALIGNED: c64x_write_unaligned(r, first, second, now.value, LENT); break;
+    case TRANSFER_IN: c64x_transfer_in(r, first, buffer, second, LENT); break;
+    case TRANSFER_OUT: c64x_transfer_out(r, first, buffer, second, LENT); break;
     case RUN: c64x_run(r, trace, trace_len, LENT, answers, sizeof answers); break;
     case VIEW: c64x_view(r, first, l2, l2_len, ext, sizeof ext, seen, sizeof seen); break;
     case VIEW_NUMBER: c64x_view_number(r, first, l2, l2_len, ext, sizeof ext); break;
@@ -204,6 +208,10 @@ static void every_call(void)
         { READ_UNALIGNED, 8, 61, 0 }, { READ_UNALIGNED, 2, 0, 0 }, { READ_UNALIGNED, 4, UINT32_MAX, 0 },
         { WRITE_UNALIGNED, 8, EXTERNAL + 61, 5 }, { WRITE_UNALIGNED, 8, EXTERNAL + 0x5007B, 5 },
         { WRITE_UNALIGNED, 8, 61, 5 }, { WRITE_UNALIGNED, 4, EXTERNAL, UINT64_MAX },
+        { TRANSFER_IN, EXTERNAL, 65536, 0 }, { TRANSFER_IN, 60, 8, 0 }, { TRANSFER_IN, 0, 32768, 0 },
+        { TRANSFER_IN, 0, C64X_TRANSFER_BYTES, 0 }, { TRANSFER_IN, 0, 0, 0 }, { TRANSFER_IN, EXTERNAL - 4, 8, 0 },
+        { TRANSFER_OUT, EXTERNAL, 65536, 0 }, { TRANSFER_OUT, 60, 8, 0 }, { TRANSFER_OUT, 0, 32768, 0 },
+        { TRANSFER_OUT, 0, C64X_TRANSFER_BYTES, 0 }, { TRANSFER_OUT, 2, 4, 0 }, { TRANSFER_OUT, EXTERNAL, 262144, 0 },
         { FRESH, 0, 0, 0 }, { VIEW, EXTERNAL + 64, 0, 0 }, { VIEW, 64, 0, 0 }, { VIEW, 4, 0, 0 },
         { VIEW_NUMBER, EXTERNAL + 64, 0, 0 }, { VIEW_NUMBER, 4, 0, 0 },
         { PUT, 4, EXTERNAL, 5 }, { PUT, UINT32_MAX, UINT32_MAX, UINT64_MAX },
@@ -276,6 +284,8 @@ int main(void)
             q = some_command();
             measure(below(2) ? READ_UNALIGNED : WRITE_UNALIGNED, below(20) ? 4u << below(2) : below(10),
                     q.kind < 2 ? q.second + below(64) : EXTERNAL + below(EXT_BYTES), below(256));
+            uint32_t to = q.kind < 2 ? q.second : EXTERNAL + below(EXT_BYTES);
+            measure(below(2) ? TRANSFER_IN : TRANSFER_OUT, to & ~3u, 4 * below(300), 0);
             measure(VIEW, q.second & ~63u, 0, 0);
         }
         trace_len = 0;

@@ -1,7 +1,8 @@
 /*
  * What the repair panel shows: a trace is run from a fresh start, and each answer is told in words, that of an access
  * with the lines that it put out and the bytes of external memory that it moved; at the end stands what all of them
- * did. Then come whether L1D is frozen, what the two caches hold and how many of their lines are dirty.
+ * did. Then come whether L1D is frozen, what the two caches hold and how many of their lines are dirty; what stands in
+ * external memory itself; and what the camera's EDMA would take out of both memories.
  *
  *   panel [TRACE]           TRACE is a file; without it a small trace of its own is run
  *   panel --load SEED N     with both MAR bits on, the load of this seed and N accesses
@@ -186,6 +187,20 @@ static void show_behind(void)
     printf("behind L1D at 80000000: %02X %02X %02X %02X\n", seen[0], seen[1], seen[2], seen[3]);
 }
 
+/* The word that a transfer out takes at an address, as the camera's EDMA does. For external memory no cache is looked
+   at; of SRAM the line that L1D holds goes home first, and leaves L1D. */
+static void show_transfer(uint32_t address)
+{
+    uint8_t word[4];
+    c64x_answer answer = c64x_chip_transfer_out(&chip, address, word, sizeof word);
+    printf("a transfer out at %08lX: ", (unsigned long)address);
+    if (answer.number != C64X_ACCEPTED)
+        printf("%s\n", c64x_number_text(answer.number));
+    else
+        printf("%02X %02X %02X %02X; dirty in L1D then: %lu\n", word[0], word[1], word[2], word[3],
+               (unsigned long)chip.record.dirty_l1d);
+}
+
 /* Reads a file into the trace; its length, or exit. */
 static size_t read_trace(const char *name)
 {
@@ -273,5 +288,7 @@ int main(int argc, char **argv)
     show_totals(&totals);
     show_caches(&chip.record);
     show_behind();
+    show_transfer(C64X_EXTERNAL_BASE);
+    show_transfer(0);
     return run.stop == 0 ? 0 : 1;
 }

@@ -36,8 +36,8 @@
  *       line of memory that may not be cached, an order that names a line twice, a wrong count of dirty lines, and the
  *       like
  *    3  the size is not 1, 2, 4 or 8; of a non-aligned access: it is not 4 or 8
- *    4  the address is not a multiple of the size, but a non-aligned access may have any; a block's base is not one of
- *       4; a viewed address is not one of 64
+ *    4  the address is not a multiple of the size, but a non-aligned access may have any; a block's base, or a
+ *       transfer's address, is not one of 4; a viewed address is not one of 64
  *    5  not all of the access, or of the viewed line, lies in SRAM or in external memory
  *    6  the value needs more bytes than the size
  *    7  a block's count is above 65,535
@@ -46,13 +46,15 @@
  *   10  a MAR bit is to become 0 while a cache holds a line of that range
  *   11  the trace is damaged; of a command to be written: a code that traces lack, or a number that is too wide
  *   12  fewer than 10 answer bytes are left
+ *   13  the length of a transfer is 0, not a multiple of 4, or above 262,140
+ *   14  not all of the transfer lies in SRAM or in external memory
  *   16  fewer bytes of the output are left than the command, or the whole load, has
  *   17  L1D is to be frozen or thawed by a number above 1
  *   18  no short run: its number is above 4,680, it has more than four digits, or a digit is above 7
  *
  * Where several are due, the lowest counts (only in a trace 11, then 12, come before 3 to 10 and 17). A refused call
- * changes nothing: no byte of the record and no byte of a memory. (The one exception is c64x_fresh; see there. A run
- * that is stopped by 11 or 12 keeps what it did before.)
+ * changes nothing: no byte of the record, of a memory or of a buffer. (The one exception is c64x_fresh; see there. A
+ * run that is stopped by 11 or 12 keeps what it did before.)
  *
  * PADDING. The record has bytes between its fields that mean nothing. No call looks at them. An accepted call may
  * change them, so compare two records field by field and not with memcmp.
@@ -86,10 +88,10 @@ extern "C" {
  * record by value; since 2.4 the L2 commands reach all of L1D; since 2.5 L1D can be frozen, and a byte of the record
  * that was padding says whether it is; since 3.0 two counts of dirty lines stand in front of the record's sets; since
  * 4.0 an answer also tells which lines an access put out and how many bytes of external memory it moved; since 4.1
- * there are non-aligned accesses.
+ * there are non-aligned accesses; since 4.2 there are transfers.
  */
 #define C64X_VERSION_MAJOR 4
-#define C64X_VERSION_MINOR 1
+#define C64X_VERSION_MINOR 2
 
 /* The stack that a call needs at most, in bytes. */
 #define C64X_STACK_BYTES 4096
@@ -113,6 +115,8 @@ extern "C" {
 #define C64X_COMMAND_BYTES 21
 /* The longest access of a load: a write. */
 #define C64X_LOAD_ACCESS_BYTES 12
+/* The longest transfer. */
+#define C64X_TRANSFER_BYTES 262140
 
 /*
  * One line of a cache. `valid`: it holds something; `dirty`: what it holds is not yet in the memory behind; `address`
@@ -207,7 +211,7 @@ typedef struct {
  * What moves between L1D, SRAM and the L2 cache does not count.
  *
  * L1D lines that go because their L2 line is put out are told by neither `left`: no way was chosen for them. A refused
- * call, and every call that is no read or write, has kind 0 in both and counts of 0, whatever it wrote back. A
+ * call, and every call that is no read or write, has kind 0 in both and counts of 0, whatever it wrote back or moved. A
  * non-aligned access has its counts, and kind 0 in both `left`. The answers of a run carry none of this: to see what an
  * access puts out, make it as a call of its own.
  */
@@ -401,6 +405,27 @@ c64x_answer c64x_change_mar(c64x_record *record, uint32_t mar, uint32_t bit, C64
  * changes do what they always do. Refused: 1, 2, 17.
  */
 c64x_answer c64x_freeze(c64x_record *record, uint32_t frozen, C64X_LENT);
+
+/*
+ * A transfer by the EDMA, which moves the camera's frames: in, from a buffer to memory, or out, from memory to a
+ * buffer. It moves all `length` bytes of the buffer, to or from the memory at the address. It is no access of the CPU:
+ * its answer has the number, and 0 in every other field. What the caches have to do with it goes by the memory:
+ *
+ *   SRAM      each L1D line that has a byte of the transfer goes to SRAM first if it is dirty, and leaves L1D, whether
+ *             the transfer goes in or out. So a transfer out brings what the CPU has written, and what came in is what
+ *             the CPU sees from then on. The order of use stays as it is in every set.
+ *   external  no cache is looked at, in any mode and with either MAR bit. A transfer out brings what stands in external
+ *             memory itself, not what is dirty in a cache. After a transfer in the CPU goes on seeing each line that a
+ *             cache holds, and a dirty one goes over the new bytes when it is written back. To share a place with the
+ *             EDMA, let it begin and end at multiples of 128, and between the last read or write of it and the transfer
+ *             make both c64x_l2_writeback_invalidate_block and c64x_l1d_writeback_invalidate_block over it.
+ *
+ * The buffer overlaps nothing else that is lent. Its length is a multiple of 4, from 4 to C64X_TRANSFER_BYTES; every
+ * other length gets 13, however large it is, and then the buffer is not looked at. A refused transfer out leaves its
+ * buffer as it was. A trace has no transfers. Refused: 1, 2, 4, 13, 14.
+ */
+c64x_answer c64x_transfer_in(c64x_record *record, uint32_t address, const uint8_t *buffer, size_t length, C64X_LENT);
+c64x_answer c64x_transfer_out(c64x_record *record, uint32_t address, uint8_t *buffer, size_t length, C64X_LENT);
 
 /*
  * Many calls at once: a trace is a list of commands in bytes. A command is one byte, its code, and its numbers:

@@ -33,6 +33,8 @@ enum {
     C64X_REFUSED_LINE_HELD = 10,
     C64X_STOPPED_TRACE = 11,
     C64X_STOPPED_ANSWERS = 12,
+    C64X_REFUSED_TRANSFER_LENGTH = 13,
+    C64X_REFUSED_TRANSFER_PLACE = 14,
     C64X_REFUSED_ROOM = 16,
     C64X_REFUSED_FREEZE = 17,
     C64X_REFUSED_SHORT_RUN = 18
@@ -72,6 +74,8 @@ static inline const char *c64x_number_text(unsigned number)
     case C64X_REFUSED_LINE_HELD: return "refused: a cache holds a line of that range";
     case C64X_STOPPED_TRACE: return "stopped: the trace is damaged";
     case C64X_STOPPED_ANSWERS: return "stopped: fewer than 10 answer bytes are left";
+    case C64X_REFUSED_TRANSFER_LENGTH: return "refused: the transfer's length is 0, no multiple of 4 or above 262140";
+    case C64X_REFUSED_TRANSFER_PLACE: return "refused: the transfer is not wholly in SRAM or in external memory";
     case C64X_REFUSED_ROOM: return "refused: too few bytes of the output are left";
     case C64X_REFUSED_FREEZE: return "refused: neither 1, which freezes L1D, nor 0, which thaws it";
     case C64X_REFUSED_SHORT_RUN: return "refused: no short run has this number or these digits";
@@ -210,6 +214,16 @@ static inline c64x_answer c64x_chip_change_mar(c64x_chip *chip, uint32_t mar, ui
 static inline c64x_answer c64x_chip_freeze(c64x_chip *chip, uint32_t frozen)
 {
     return c64x_freeze(&chip->record, frozen, C64X_CHIP_LENT(chip));
+}
+
+static inline c64x_answer c64x_chip_transfer_in(c64x_chip *chip, uint32_t address, const uint8_t *buffer, size_t length)
+{
+    return c64x_transfer_in(&chip->record, address, buffer, length, C64X_CHIP_LENT(chip));
+}
+
+static inline c64x_answer c64x_chip_transfer_out(c64x_chip *chip, uint32_t address, uint8_t *buffer, size_t length)
+{
+    return c64x_transfer_out(&chip->record, address, buffer, length, C64X_CHIP_LENT(chip));
 }
 
 static inline c64x_ran c64x_chip_run(c64x_chip *chip, const uint8_t *trace, size_t trace_len, uint8_t *answers,

@@ -2,9 +2,10 @@
  * Every call of include/c64x_chip.h, on cases whose outcome the papers give: the worked example, C5, C6, C8, C9 and
  * C10, what each cache command does to a dirty line and L2's to lines that L1D alone holds, each number of the refusal
  * table with nothing changed, and short runs at the ends of each length; a frozen L1D; which lines accesses put out,
- * and the bytes of external memory that they move; non-aligned accesses; the trace of the worked example, C3 and C4
- * are written through c64x_put_command; a load by hand; after these the counts of dirty lines. It is compiled as C and
- * as C++. Prints how many checks passed; exit status 1 where one failed.
+ * and the bytes of external memory that they move; non-aligned accesses; transfers of SRAM and of external memory, and
+ * a frame; the trace of the worked example, C3 and C4 are written through c64x_put_command; a load by hand; after these
+ * the counts of dirty lines. It is compiled as C and as C++. Prints how many checks passed; exit status 1 where one
+ * failed.
  */
 #include <stdio.h>
 #include <string.h>
@@ -628,6 +629,175 @@ static void unaligned_refusals(void)
     CHECK(refused(c64x_chip_write_unaligned(&chip, 1, EXT, 0), C64X_REFUSED_LENGTH));
 }
 
+/* So many bytes of one value. */
+static int all_are(const uint8_t *bytes, size_t length, uint8_t value)
+{
+    for (size_t i = 0; i < length; i++)
+        if (bytes[i] != value)
+            return 0;
+    return 1;
+}
+
+static uint8_t buffer[C64X_TRANSFER_BYTES + 8];
+
+/* A buffer of one value, of which so many bytes are lent from its fifth on. */
+static c64x_answer transfer_in(uint32_t address, size_t length, uint8_t value)
+{
+    memset(buffer, value, sizeof buffer);
+    return c64x_chip_transfer_in(&chip, address, buffer + 4, length);
+}
+
+static c64x_answer transfer_out(uint32_t address, size_t length)
+{
+    memset(buffer, 0xEE, sizeof buffer);
+    return c64x_chip_transfer_out(&chip, address, buffer + 4, length);
+}
+
+/* No byte of the buffer but those that were lent has changed. */
+static int around_kept(size_t length)
+{
+    return all_are(buffer, 4, 0xEE) && all_are(buffer + 4 + length, sizeof buffer - 4 - length, 0xEE);
+}
+
+/* SRAM: touched lines of L1D go home if dirty and leave it, in both directions; those beside stay, and the order of use
+   of each set. A frozen L1D makes no difference. */
+static void transfers_of_sram(void)
+{
+    CHECK(C64X_VERSION_MAJOR == 4 && C64X_VERSION_MINOR >= 2 && C64X_TRANSFER_BYTES == 262140);
+    for (unsigned mode = 0; mode < 2; mode++)
+        for (unsigned freeze = 0; freeze < 2; freeze++)
+            for (int in = 0; in < 2; in++) {
+                cached(mode);
+                /* dirty lines at 0, 64 and 128, a clean one at 192, and one of external memory in the set of 64 */
+                for (uint32_t a = 0; a < 192; a += 64) {
+                    CHECK(c64x_chip_read(&chip, 1, a).server == C64X_SERVER_SRAM);
+                    CHECK(c64x_chip_write(&chip, 1, a, 5).server == C64X_SERVER_L1D);
+                    CHECK(c64x_chip_write(&chip, 1, a + 63, 6).server == C64X_SERVER_L1D);
+                }
+                CHECK(c64x_chip_read(&chip, 1, 192).server == C64X_SERVER_SRAM);
+                CHECK(c64x_chip_read(&chip, 1, EXT + 64).server == C64X_SERVER_EXTERNAL);
+                CHECK(order_is(0, 0, 1) && order_is(1, 1, 0) && dirty_are(3, 0) && l2[64] == 0);
+                CHECK(done(c64x_chip_freeze(&chip, freeze)));
+                /* from the last word of the line at 64 on, to the first of that at 192 */
+                CHECK(done(in ? transfer_in(124, 72, 7) : transfer_out(124, 72)));
+                CHECK(!l1d_line(64) && !l1d_line(128) && !l1d_line(192));
+                CHECK(dirty(l1d_line(0)) && clean(l1d_line(EXT + 64)) && dirty_are(1, 0) && l2[0] == 0);
+                CHECK(order_is(0, 0, 1) && order_is(1, 1, 0) && chip.record.frozen == freeze);
+                /* the rest of a touched line is what the CPU wrote */
+                CHECK(l2[64] == 5 && all_are(l2 + 65, 59, 0));
+                if (in) {
+                    CHECK(all_are(l2 + 124, 72, 7) && l2[196] == 0 && all_are(buffer, sizeof buffer, 7));
+                    CHECK(is(c64x_chip_read(&chip, 1, 128), 0, C64X_SERVER_SRAM, 7));
+                } else {
+                    CHECK(l2[127] == 6 && l2[128] == 5 && l2[191] == 6 && around_kept(72));
+                    CHECK(all_are(buffer + 4, 3, 0) && buffer[7] == 6 && buffer[8] == 5 && all_are(buffer + 9, 62, 0));
+                    CHECK(buffer[71] == 6 && all_are(buffer + 72, 4, 0));
+                    CHECK(is(c64x_chip_read(&chip, 1, 128), 0, C64X_SERVER_SRAM, 5));
+                }
+            }
+    /* a transfer that ends where a line begins leaves that line alone */
+    cached(0);
+    CHECK(c64x_chip_read(&chip, 1, 64).server == C64X_SERVER_SRAM);
+    CHECK(done(transfer_in(0, 64, 7)) && done(transfer_in(128, 4, 7)) && clean(l1d_line(64)));
+    CHECK(done(transfer_in(60, 8, 9)) && !l1d_line(64));
+    CHECK(l2[59] == 7 && all_are(l2 + 60, 8, 9) && l2[68] == 0 && all_are(l2 + 128, 4, 7));
+}
+
+/* External memory: no cache is looked at, and no field of the record changes. */
+static void transfers_of_external_memory(void)
+{
+    for (unsigned mode = 0; mode < 2; mode++) {
+        cached(mode);
+        dirty_line(EXT);
+        CHECK(write_word(EXT + 128).server == C64X_SERVER_EXTERNAL);
+        keep();
+        CHECK(done(transfer_in(EXT, 256, 9)));
+        CHECK(all_are(ext, 256, 9) && ext[256] == 0);
+        memcpy(ext_before, ext, sizeof ext);
+        CHECK(kept());
+        CHECK(done(transfer_out(EXT, 256)) && all_are(buffer + 4, 256, 9) && around_kept(256) && kept());
+        /* the CPU goes on seeing what L1D, or L2, holds */
+        CHECK(is(read_word(EXT), 0, C64X_SERVER_L1D, 7));
+        CHECK(is(read_word(EXT + 128), 0, mode ? C64X_SERVER_L2_CACHE : C64X_SERVER_EXTERNAL, mode ? 7 : 0x09090909));
+        /* and a dirty line goes over what came in */
+        CHECK(done(c64x_chip_l2_writeback_invalidate_all(&chip)));
+        CHECK(ext[0] == 7 && ext[1] == 0 && ext[128] == (mode ? 7 : 9));
+    }
+    /* past the caches both see the same */
+    start(sizeof l2);
+    CHECK(done(transfer_in(EXT + 65532, 4, 9)) && read_word(EXT + 65532).value == 0x09090909);
+    CHECK(write_word(EXT + 65528).server == C64X_SERVER_EXTERNAL);
+    CHECK(done(transfer_out(EXT + 65528, 8)) && buffer[4] == 7 && buffer[5] == 0 && buffer[8] == 9);
+}
+
+/* A frame: both block writeback-invalidates over the place, in either order, then a transfer: the CPU's words go out,
+   and the camera's bytes are what it reads. */
+static void frames(void)
+{
+    for (unsigned mode = 0; mode < 3; mode++)
+        for (unsigned bit = 0; bit < 2; bit++)
+            for (int l2_first = 0; l2_first < 2; l2_first++) {
+                start(sizeof l2);
+                CHECK(done(c64x_chip_change_mar(&chip, 128, bit)));
+                CHECK(done(c64x_chip_change_mode(&chip, mode)));
+                for (uint32_t a = EXT; a < EXT + 512; a += 32)
+                    CHECK(read_word(a).value == 0 && write_word(a).number == C64X_ACCEPTED);
+                for (int i = 0; i < 2; i++)
+                    CHECK(done(i == l2_first ? c64x_chip_l1d_writeback_invalidate_block(&chip, EXT, 128)
+                                             : c64x_chip_l2_writeback_invalidate_block(&chip, EXT, 128)));
+                CHECK(done(transfer_out(EXT + 128, 128)) && buffer[4] == 7 && buffer[5] == 0 && buffer[36] == 7);
+                CHECK(done(transfer_in(EXT, 512, 9)));
+                for (uint32_t a = EXT; a < EXT + 512; a += 4)
+                    CHECK(read_word(a).value == 0x09090909);
+            }
+}
+
+/* 1, 2, 4, then 13, then 14, with no byte changed, the buffer's neither. A length that is refused may be any number,
+   and nothing has to stand at the pointer then. */
+static void transfer_refusals(void)
+{
+    static const size_t lengths[] = {0, 1, 2, 3, 5, 6, 7, 262141, 262142, 262143, 262144, 262148, 1 << 20,
+                                     (size_t)1 << 32, ((size_t)1 << 32) + 4, (size_t)1 << 63, SIZE_MAX - 3, SIZE_MAX};
+    static const uint32_t ends[] = {32768, EXT + 65536};
+    uint8_t one = 0xEE;
+    three_levels();
+    CHECK(c64x_chip_read(&chip, 4, 64).number == C64X_ACCEPTED && c64x_chip_write(&chip, 4, 64, 5).server == 1);
+    keep();
+    for (size_t i = 0; i < sizeof lengths / sizeof lengths[0]; i++) {
+        CHECK(refused(c64x_chip_transfer_in(&chip, 64, &one, lengths[i]), C64X_REFUSED_TRANSFER_LENGTH));
+        CHECK(refused(c64x_chip_transfer_out(&chip, EXT, &one, lengths[i]), C64X_REFUSED_TRANSFER_LENGTH));
+        CHECK(refused(c64x_chip_transfer_out(&chip, EXT + 65536, &one, lengths[i]), C64X_REFUSED_TRANSFER_LENGTH));
+        for (uint32_t aside = 1; aside < 4; aside++) {
+            CHECK(refused(c64x_chip_transfer_in(&chip, EXT + aside, &one, lengths[i]), C64X_REFUSED_ALIGNMENT));
+            CHECK(refused(c64x_chip_transfer_out(&chip, 64 + aside, &one, lengths[i]), C64X_REFUSED_ALIGNMENT));
+        }
+        CHECK(one == 0xEE);
+    }
+    for (size_t i = 0; i < 2; i++) {
+        CHECK(refused(transfer_in(ends[i], 4, 7), C64X_REFUSED_TRANSFER_PLACE));
+        CHECK(refused(transfer_in(ends[i] - 4, 8, 7), C64X_REFUSED_TRANSFER_PLACE));
+        CHECK(refused(transfer_out(ends[i] - 4, 8), C64X_REFUSED_TRANSFER_PLACE) && around_kept(0));
+        CHECK(refused(transfer_out(ends[i] - 32764, 32768), C64X_REFUSED_TRANSFER_PLACE) && around_kept(0));
+        CHECK(refused(transfer_out(ends[i] - 2, 4), C64X_REFUSED_ALIGNMENT) && around_kept(0));
+    }
+    CHECK(refused(transfer_out(EXT - 4, 4), C64X_REFUSED_TRANSFER_PLACE) && around_kept(0));
+    CHECK(refused(transfer_out(EXT - 4, 8), C64X_REFUSED_TRANSFER_PLACE) && around_kept(0));
+    CHECK(refused(transfer_out(0xFFFFFFFC, 8), C64X_REFUSED_TRANSFER_PLACE) && around_kept(0));
+    CHECK(refused(transfer_out(EXT, 262140), C64X_REFUSED_TRANSFER_PLACE) && around_kept(0));
+    /* up to the ends */
+    CHECK(done(transfer_out(ends[0] - 32768, 32768)) && done(transfer_out(ends[1] - 65536, 65536)));
+    CHECK(buffer[4] == 5 && around_kept(65536));
+    chip.record.l1d[5].order.first = 1;
+    chip.record.l1d[5].order.second = 1;
+    keep();
+    CHECK(refused(c64x_chip_transfer_in(&chip, EXT + 1, &one, SIZE_MAX), C64X_REFUSED_RECORD));
+    CHECK(refused(transfer_out(EXT, 4), C64X_REFUSED_RECORD) && around_kept(0));
+    chip.ext_len = 128;
+    keep();
+    CHECK(refused(c64x_chip_transfer_in(&chip, EXT + 1, &one, SIZE_MAX), C64X_REFUSED_LENGTH));
+    CHECK(refused(transfer_out(EXT, 4), C64X_REFUSED_LENGTH) && around_kept(0));
+}
+
 /* Runs, views and calls of each number from 1 on: nothing changes. */
 static void refusals(void)
 {
@@ -845,7 +1015,7 @@ static void loads(void)
 /* Every number, server and kind has a text of its own; those that do not exist share one. */
 static void texts(void)
 {
-    for (unsigned a = 0; a <= 13; a++)
+    for (unsigned a = 0; a <= 15; a++)
         for (unsigned b = 0; b < a; b++)
             CHECK(strcmp(c64x_number_text(a), c64x_number_text(b)) != 0);
     for (unsigned a = 0; a < C64X_REFUSED_FREEZE; a++)
@@ -858,9 +1028,9 @@ static void texts(void)
     for (unsigned a = 0; a <= 4; a++)
         for (unsigned b = 0; b < a; b++)
             CHECK(strcmp(c64x_left_text(a), c64x_left_text(b)) != 0);
-    for (unsigned a = 0; a <= 13; a++)
+    for (unsigned a = 0; a <= 15; a++)
         CHECK(strcmp(c64x_number_text(a), c64x_number_text(C64X_REFUSED_ROOM)) != 0);
-    CHECK(strcmp(c64x_number_text(13), c64x_number_text(255)) == 0);
+    CHECK(strcmp(c64x_number_text(15), c64x_number_text(255)) == 0);
     CHECK(strcmp(c64x_server_text(5), c64x_server_text(255)) == 0);
     CHECK(strcmp(c64x_left_text(4), c64x_left_text(255)) == 0);
 }
@@ -879,6 +1049,10 @@ int main(void)
     unaligned_across();
     unaligned_upwards();
     unaligned_refusals();
+    transfers_of_sram();
+    transfers_of_external_memory();
+    frames();
+    transfer_refusals();
     refusals();
     short_runs();
     writing();

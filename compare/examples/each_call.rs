@@ -5,10 +5,14 @@ use oracle::gen::Setup;
 use oracle::trace::ANSWER_BYTES;
 use oracle::{Command, Unaligned};
 
-/// What comes next: a command, a non-aligned access, a view of an address, or a run over a trace.
+/// What comes next: a command, a non-aligned access, a transfer of so many bytes at an address (in:
+/// bytes that are all `value`; out: into a buffer of 128 such bytes, whose front is lent), a view of
+/// an address, or a run over a trace.
 enum Next {
     Call(Command),
     Access(Unaligned),
+    In { length: usize, address: u32, value: u8 },
+    Out { length: usize, address: u32, value: u8 },
     View(u32),
     Run(&'static [u8]),
 }
@@ -79,6 +83,28 @@ const LIST: &[Next] = &[
     Access(Unaligned::Read { size: 8, address: 0x8000007D }),
     Access(Unaligned::Read { size: 2, address: 0x0 }),
     Access(Unaligned::Write { size: 8, address: 0x8000FFFC, value: 1 }),
+    Call(Write { size: 1, address: 0x200, value: 9 }),
+    Call(Read { size: 1, address: 0x200 }),
+    Call(Write { size: 1, address: 0x200, value: 8 }),
+    Out { length: 4, address: 0x200, value: 1 },
+    Call(Read { size: 1, address: 0x200 }),
+    Call(Write { size: 1, address: 0x204, value: 6 }),
+    In { length: 4, address: 0x200, value: 5 },
+    Call(Read { size: 1, address: 0x200 }),
+    Call(Read { size: 1, address: 0x204 }),
+    Call(Read { size: 1, address: 0x80000200 }),
+    In { length: 128, address: 0x80000200, value: 7 },
+    Call(Read { size: 1, address: 0x80000200 }),
+    Out { length: 128, address: 0x80000200, value: 1 },
+    Call(Write { size: 1, address: 0x80000200, value: 3 }),
+    Out { length: 4, address: 0x80000200, value: 1 },
+    Call(L2BlockWritebackInvalidate { base: 0x80000200, count: 32 }),
+    Out { length: 128, address: 0x80000200, value: 1 },
+    In { length: 4, address: 0x2, value: 1 },
+    In { length: 0, address: 0x0, value: 1 },
+    Out { length: 6, address: 0x8000, value: 1 },
+    Out { length: 8, address: 0x7FFC, value: 1 },
+    In { length: 8, address: 0x8000FFFC, value: 1 },
     Run(&[
         11, 129, 1, 1, 0, 1, 128, 129, 128, 128, 8, 1, 1, 128, 129, 128, 128, 8, 4, 10, 2, 0, 1,
         128, 129, 128, 128, 8, 12, 2,
@@ -97,6 +123,15 @@ fn main() {
             Access(access) => {
                 let answer = setup.unaligned(access).answer;
                 println!("{} {} {}", answer.number, answer.server, answer.value);
+            }
+            In { length, address, value } => {
+                let answer = setup.transfer_in(*address, &[*value; 128][..*length]).answer;
+                println!("{} {} {}", answer.number, answer.server, answer.value);
+            }
+            Out { length, address, value } => {
+                let mut buffer = [*value; 128];
+                let answer = setup.transfer_out(*address, &mut buffer[..*length]).answer;
+                println!("{} {} {}", answer.number, buffer[0], buffer[127]);
             }
             View(address) => {
                 let bytes = setup.look(*address);

@@ -28,6 +28,8 @@ const COMMANDS: [&str; 13] = [
 /// What a number says.
 fn refusal(number: u8) -> &'static str {
     match number {
+        13 => "refused: the transfer's length is 0, no multiple of 4 or above 262140",
+        14 => "refused: the transfer is not wholly in SRAM or in external memory",
         17 => "refused: neither 1, which freezes L1D, nor 0, which thaws it",
         number => REFUSALS[usize::from(number)],
     }
@@ -185,6 +187,19 @@ fn panel(trace: &[u8]) -> String {
         number => {
             text += &format!("behind L1D at 80000000: {}\n", refusal(number));
         }
+    }
+    for address in [0x8000_0000, 0] {
+        let mut word = [0; 4];
+        let number = setup.transfer_out(address, &mut word).answer.number;
+        let [a, b, c, d] = word;
+        let taken = match number {
+            0 => {
+                let dirty = setup.record.dirty_l1d;
+                format!("{a:02X} {b:02X} {c:02X} {d:02X}; dirty in L1D then: {dirty}")
+            }
+            number => refusal(number).into(),
+        };
+        text += &format!("a transfer out at {address:08X}: {taken}\n");
     }
     text
 }

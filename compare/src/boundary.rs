@@ -4,11 +4,12 @@
 use std::fmt;
 use std::mem::{align_of, offset_of, size_of};
 use std::ops::{Deref, DerefMut};
+use std::ptr;
 
-use oracle::gen::Rng;
+use oracle::gen::{Rng, Transfer};
 use oracle::geometry::{L1d, L2};
 use oracle::record::{L1dSet, L2Set, Line, Record};
-use oracle::{Command, Left, Report, Unaligned};
+use oracle::{Command, Direction, Left, Report, Unaligned};
 
 /// The structs name their padding, so that it can be filled and compared.
 /// Equality is that of the fields: an accepted call may change padding.
@@ -343,6 +344,8 @@ calls! {
     c64x_change_mode(mode: u32);
     c64x_change_mar(mar: u32, bit: u32);
     c64x_freeze(frozen: u32);
+    c64x_transfer_in(address: u32, buffer: *const u8, length: usize);
+    c64x_transfer_out(address: u32, buffer: *mut u8, length: usize);
 }
 
 extern "C" {
@@ -448,6 +451,83 @@ pub fn unaligned(record: &mut CRecord, access: &Unaligned, lent: Lent) -> CAnswe
         Unaligned::Write { size, address, value } => {
             call_lent!(c64x_write_unaligned, record, lent, size, address, value)
         }
+    }
+}
+
+/// The buffer of a transfer, between bytes that no call may change. Where there is none of that
+/// length, and for half of those of no byte, the call is given an address at which nothing stands.
+#[derive(Clone)]
+pub struct Buffer {
+    whole: Vec<u8>,
+    length: usize,
+    nowhere: bool,
+}
+
+impl Buffer {
+    /// So many bytes stand in front of a buffer, and as many behind it.
+    const AROUND: usize = 64;
+
+    /// The buffer before the transfer.
+    pub fn of(transfer: &Transfer) -> Buffer {
+        let bytes = transfer.buffer();
+        let empty = transfer.length == 0 && transfer.filling % 2 == 1;
+        let nowhere = bytes.is_none() || empty;
+        Buffer::around(&bytes.unwrap_or_default(), transfer.length, nowhere)
+    }
+
+    /// One that holds these bytes.
+    fn around(bytes: &[u8], length: usize, nowhere: bool) -> Buffer {
+        let guard = [0xA7; Buffer::AROUND];
+        Buffer { whole: [&guard, bytes, &guard].concat(), length, nowhere }
+    }
+
+    /// The same with other bytes in it.
+    pub fn with(&self, bytes: &[u8]) -> Buffer {
+        Buffer::around(bytes, self.length, self.nowhere)
+    }
+
+    /// The bytes of the buffer; there are none of one that is not there.
+    pub fn bytes(&self) -> &[u8] {
+        &self.whole[Buffer::AROUND..self.whole.len() - Buffer::AROUND]
+    }
+
+    pub fn bytes_mut(&mut self) -> &mut [u8] {
+        let behind = self.whole.len() - Buffer::AROUND;
+        &mut self.whole[Buffer::AROUND..behind]
+    }
+
+    /// The bytes with those around them.
+    pub fn whole(&self) -> &[u8] {
+        &self.whole
+    }
+
+    /// The byte behind the buffer, for differences that are planted.
+    pub fn behind(&mut self) -> &mut u8 {
+        let behind = self.whole.len() - Buffer::AROUND;
+        &mut self.whole[behind]
+    }
+
+    fn pointer(&mut self) -> *mut u8 {
+        if self.nowhere {
+            return ptr::without_provenance_mut(1);
+        }
+        self.whole[Buffer::AROUND..].as_mut_ptr()
+    }
+}
+
+/// A transfer, by way of its buffer.
+pub fn transfer(
+    record: &mut CRecord,
+    transfer: &Transfer,
+    buffer: &mut Buffer,
+    lent: Lent,
+) -> CAnswer {
+    let (address, length, pointer) = (transfer.address, buffer.length, buffer.pointer());
+    match transfer.direction {
+        Direction::In => {
+            call_lent!(c64x_transfer_in, record, lent, address, pointer.cast_const(), length)
+        }
+        Direction::Out => call_lent!(c64x_transfer_out, record, lent, address, pointer, length),
     }
 }
 
@@ -623,6 +703,13 @@ pub fn l2_holds(record: &CRecord, address: u32) -> bool {
     way_of(&record.l2[set].lines, L2::line_address(address)).is_some()
 }
 
+/// Whether L2 holds this line, and dirty.
+pub fn l2_is_dirty(record: &CRecord, address: u32) -> bool {
+    let Some(set) = L2::set_of(record.mode.into(), address) else { return false };
+    let lines = &record.l2[set].lines;
+    way_of(lines, L2::line_address(address)).is_some_and(|way| lines[way].dirty == 1)
+}
+
 /// Whether L1D holds this line, and dirty.
 pub fn l1d_is_dirty(record: &CRecord, address: u32) -> bool {
     let lines = &record.l1d[L1d::set_of(address)].lines;
@@ -740,10 +827,10 @@ pub fn record_difference(ours: &CRecord, theirs: &CRecord) -> String {
 mod tests {
     use super::{
         by_bytes, byte_difference, dirty_line, dirty_marks, l1d_holds, l2_holds, left_by_records,
-        padding_of, record_of, report_of, CAnswer, CLeft, CReport, Held, Lent,
+        padding_of, record_of, report_of, transfer, Buffer, CAnswer, CLeft, CReport, Held, Lent,
     };
-    use oracle::gen::Setup;
-    use oracle::{Left, Line, Record, Report, Unaligned};
+    use oracle::gen::{Setup, Transfer};
+    use oracle::{Direction, Left, Line, Record, Report, Unaligned};
 
     /// 2 for each of 128 sets of L1D, 2 for each line.
     const PADDING_BYTES: usize = 128 * 2 + (128 * 2 + 512 * 4) * 2;
@@ -859,6 +946,36 @@ mod tests {
         assert_eq!(told(&setup, next + 64)[0], (CLeft::clean(64), CLeft::dirty(A)));
         setup.freeze(1);
         assert_eq!(told(&setup, next), [(none, CLeft::dirty(A)), (none, CLeft::dirty(A))]);
+    }
+
+    /// Whatever the length, the call is made; of a buffer its own bytes change and none around it.
+    #[test]
+    fn buffers_of_every_length() {
+        let mut setup = Setup::fresh_over(32_768, vec![5; 256]);
+        let mut record = record_of(&setup.record);
+        for direction in [Direction::In, Direction::Out] {
+            for (length, number) in
+                [(0, 13), (3, 13), (4, 0), (256, 0), (260, 14), (262_144, 13), (usize::MAX, 13)]
+            {
+                for filling in [2, 3] {
+                    let drawn = Transfer { direction, address: 0x8000_0000, length, filling };
+                    let mut buffer = Buffer::of(&drawn);
+                    let Setup { l1d, l2, ext, .. } = &mut setup;
+                    let stood = ext.clone();
+                    let lent = Lent { l1d, l2, ext };
+                    let answer = transfer(&mut record, &drawn, &mut buffer, lent);
+                    assert_eq!(answer.number, number, "{drawn:?}");
+                    let given = drawn.buffer().unwrap_or_default();
+                    let moved = number == 0 && direction == Direction::Out;
+                    let expected = if moved { &stood[..length] } else { &given[..] };
+                    assert_eq!(buffer.whole(), Buffer::of(&drawn).with(expected).whole());
+                    assert_eq!(buffer.bytes(), expected);
+                    if number == 0 && !moved {
+                        assert!(setup.ext[..length] == given);
+                    }
+                }
+            }
+        }
     }
 
     #[test]

@@ -34,7 +34,7 @@ compare: the calls of the boundary against the reference model
   --bench-trace PATH   the program bench-trace, to be compared as well
   --section NAME       only this section: records, lists, traces, refusals, views,
                        short-runs, writing, two-runs, dropped, reaching, load, frozen,
-                       thrashing
+                       thrashing, transfers
   --group K            only group K of that section
   --input K            nothing but input K of bench-trace
   --now PATH           a file that says which group is being run
@@ -279,6 +279,44 @@ fn run(arguments: &Arguments) -> Result<bool, String> {
         unaligned.single,
         unaligned.direction
     );
+    let transfers = &met.transfers;
+    println!(
+        "transfers out and in by number: {:?}; of SRAM by mode: {:?}, over clean lines of L1D: {:?}, \
+         dirty: {:?}, dirty ones in part: {:?}, none: {:?}, dirty of a frozen L1D: {:?}; of external \
+         memory by mode: {:?}, over clean and dirty lines of L1D: {:?}, of L2: {:?}, with MAR bit 0: \
+         {:?}, held by a frozen L1D: {:?}, across the MAR ranges: {:?}",
+        transfers.numbers,
+        transfers.sram,
+        transfers.clean,
+        transfers.dirty,
+        transfers.in_part,
+        transfers.untouched,
+        transfers.frozen,
+        transfers.external,
+        transfers.l1d_lines,
+        transfers.l2_lines,
+        transfers.past,
+        transfers.external_frozen,
+        transfers.ranges
+    );
+    println!(
+        "transfers: longest of SRAM and of external memory {:?}, refused of length 0, no multiple of 4, \
+         262,144 and no buffer's {:?}, 1 to 3 behind a multiple of 4 {:?}, to the ends {:?}, a word \
+         behind {:?}, 4 before 13 and 13 before 14 {:?}; by flat memory of SRAM {:?}, external {:?}, of \
+         those covered {:?}; left out {}; in lists with drops {:?}; in parts {:?}",
+        transfers.longest,
+        transfers.lengths,
+        transfers.misaligned,
+        transfers.ends,
+        transfers.beyond,
+        transfers.several,
+        transfers.flat_sram,
+        transfers.flat_external,
+        transfers.flat_covered,
+        transfers.left_out,
+        transfers.history,
+        transfers.in_parts
+    );
     let faults = met.possible_faults();
     println!(
         "ill-formed records made: {}; of each fault in each mode: {} at least",
@@ -420,6 +458,7 @@ fn met_everything(met: &Met) -> bool {
         && met.counts.met_everything()
         && met.put_out.met_everything()
         && met.unaligned.met_everything()
+        && met.transfers.met_everything()
         && met.loads.iter().all(|&count| count > 500)
         && met.long_runs > 0
         && met.short_runs == 4_681

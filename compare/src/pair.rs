@@ -5,22 +5,24 @@
 use std::panic::{catch_unwind, AssertUnwindSafe};
 
 use oracle::calls::{fresh_start, look, look_number};
+use oracle::covered::Covered;
 use oracle::dropped::History;
 use oracle::flat::Flat;
-use oracle::gen::{code, Fault, Setup, FAULTS, LEGAL_MODES, RANGE_BYTES};
+use oracle::gen::{code, Fault, Setup, Transfer, FAULTS, LEGAL_MODES, LONGEST_BUFFER, RANGE_BYTES};
 use oracle::geometry::{
     external_length_is_legal, l2_length_is_legal, sram_size, L1d, EXTERNAL_BASE, L1D_BYTES, L2,
 };
 use oracle::machine::{SERVER_EXTERNAL, SERVER_L1D, SERVER_L2};
 use oracle::short_runs;
 use oracle::trace::{decode, ANSWER_BYTES};
+use oracle::transfers::LONGEST_TRANSFER;
 use oracle::wellformed::is_well_formed;
-use oracle::{Answer, Command, Record, Reply, RunResult, Unaligned};
+use oracle::{Answer, Command, Direction, Record, Reply, RunResult, Unaligned};
 
 use crate::boundary::{
-    self, byte_difference, dirty_line, dirty_marks, l1d_holds, l1d_is_dirty, l2_holds,
-    left_by_records, padding_of, record_difference, record_of, report_of, same_record, CAnswer,
-    CLeft, CLine, CRecord, CReport, CRunNumber, CShortRun, Held, Lent,
+    self, byte_difference, dirty_line, dirty_marks, l1d_holds, l1d_is_dirty, l2_holds, l2_is_dirty,
+    left_by_records, padding_of, record_difference, record_of, report_of, same_record, Buffer,
+    CAnswer, CLeft, CLine, CRecord, CReport, CRunNumber, CShortRun, Held, Lent,
 };
 use crate::now;
 use crate::plant;
@@ -55,7 +57,8 @@ pub struct Start {
     pub flat: bool,
     /// From fresh, with lines dropped: each byte read keeps to its history.
     pub history: bool,
-    /// Accesses are made a second time over other bytes, to see which of them move.
+    /// Accesses are made a second time over other bytes, to see which of them move; transfers are
+    /// made a second time in their parts.
     pub moves: bool,
 }
 
@@ -68,6 +71,7 @@ pub enum Op {
     Record(Box<Record>),
     Direct(Command),
     Unaligned(Unaligned),
+    Transfer(Transfer),
     Run { trace: Vec<u8>, answer_bytes: usize },
     RunAndSingleCalls { trace: Vec<u8>, answer_bytes: usize },
     View { address: u32, buffer: usize },
@@ -76,7 +80,7 @@ pub enum Op {
 }
 
 /// The numbers that calls give back.
-pub const NUMBERS: [usize; 15] = [0, 1, 2, 3, 4, 5, 6, 7, 8, 9, 10, 11, 12, 17, 18];
+pub const NUMBERS: [usize; 17] = [0, 1, 2, 3, 4, 5, 6, 7, 8, 9, 10, 11, 12, 13, 14, 17, 18];
 
 /// What was met, to see that a comparison was worth running.
 #[derive(Clone, Default, Debug)]
@@ -126,6 +130,165 @@ pub struct Met {
     pub counts: Counts,
     pub put_out: PutOut,
     pub unaligned: UnalignedMet,
+    pub transfers: TransfersMet,
+}
+
+/// What transfers met; pairs of counts are those out and in, but where something else is said.
+#[derive(Clone, Default, Debug)]
+pub struct TransfersMet {
+    /// By their number.
+    pub numbers: [[u64; 15]; 2],
+    /// Accepted ones of SRAM and of external memory, by the mode.
+    pub sram: [[u64; 8]; 2],
+    pub external: [[u64; 8]; 2],
+    /// Those of SRAM that touch a clean line of L1D, a dirty one, one that is dirty and reaches out
+    /// of the transfer, none at all; with a dirty one in a frozen L1D.
+    pub clean: [u64; 2],
+    pub dirty: [u64; 2],
+    pub in_part: [u64; 2],
+    pub untouched: [u64; 2],
+    pub frozen: [u64; 2],
+    /// Those of external memory over a line that is clean in L1D, dirty there, clean in L2 and not
+    /// in L1D, and dirty in L2.
+    pub l1d_lines: [[u64; 2]; 2],
+    pub l2_lines: [[u64; 2]; 2],
+    /// With the MAR bit 0, with L1D frozen, and across both MAR ranges.
+    pub past: [u64; 2],
+    pub external_frozen: [u64; 2],
+    pub ranges: [u64; 2],
+    /// The longest that are accepted, of SRAM and of external memory.
+    pub longest: [u64; 2],
+    /// Refused by their length: 0, no multiple of 4, 262,144, and one that no buffer has.
+    pub lengths: [u64; 4],
+    /// Addresses 1, 2 and 3 behind a multiple of 4.
+    pub misaligned: [u64; 3],
+    /// Accepted ones that end with SRAM, and with external memory; those refused with 14 that end a
+    /// word behind it.
+    pub ends: [u64; 2],
+    pub beyond: [u64; 2],
+    /// 4 where 13 is due as well, and 13 where 14 is.
+    pub several: [u64; 2],
+    /// Set against flat memory: of SRAM, of external memory, and of a part of it that the CPU had
+    /// accessed and both block writeback-invalidates had covered.
+    pub flat_sram: [u64; 2],
+    pub flat_external: [u64; 2],
+    pub flat_covered: [u64; 2],
+    /// External ones that were not made in a list, since flat memory or histories need not agree.
+    pub left_out: u64,
+    /// In lists with drops.
+    pub history: [u64; 2],
+    /// Set against a writeback and a move, of SRAM and of external memory.
+    pub in_parts: [u64; 2],
+}
+
+impl TransfersMet {
+    /// Whether everything came up that should.
+    pub fn met_everything(&self) -> bool {
+        let numbers =
+            self.numbers.iter().flat_map(|by| [by[0], by[1], by[2], by[4], by[13], by[14]]);
+        let modes = [0, 1, 2, 3, 7];
+        let external = self.external.iter().flat_map(|by| modes.map(|mode| by[mode]));
+        // Mode 7 leaves no SRAM.
+        let sram = self.sram.iter().flat_map(|by| [0, 1, 2, 3].map(|mode| by[mode]));
+        let lines =
+            self.clean.iter().chain(&self.dirty).chain(&self.in_part).chain(&self.untouched);
+        let held = self.l1d_lines.iter().chain(&self.l2_lines).flatten();
+        let lists = self.flat_sram.iter().chain(&self.flat_external).chain(&self.flat_covered);
+        let lists = lists.chain(&self.history).chain([&self.left_out]).chain(&self.frozen);
+        let mut many = numbers.chain(external).chain(sram).chain(lines.copied());
+        let mut some = held.chain(lists).chain(&self.past).chain(&self.misaligned);
+        let mut few = self.several.iter().chain(&self.external_frozen).chain(&self.in_parts);
+        let mut rare = self.lengths.iter().chain(&self.ends).chain(&self.beyond);
+        let others = self.numbers.iter().flat_map(|by| &by[5..13]);
+        many.all(|count| count > 50)
+            && some.all(|&count| count > 50)
+            && few.all(|&count| count > 20)
+            && rare.all(|&count| count > 10)
+            && self.ranges.iter().all(|&count| count > 10)
+            && self.longest.iter().all(|&count| count > 0)
+            // 3 and 5 to 12 are no number of theirs.
+            && others.chain(self.numbers.iter().map(|by| &by[3])).all(|&count| count == 0)
+    }
+
+    /// A transfer, its number, and the record before it.
+    fn count(&mut self, transfer: &Transfer, passed: &CRecord, number: u8) {
+        let Transfer { address, length, .. } = *transfer;
+        let by = usize::from(transfer.is_in());
+        self.numbers[by][usize::from(number) % 15] += 1;
+        let sram = sram_size(passed.l2len, passed.mode.into());
+        let ends = [u64::from(sram), u64::from(EXTERNAL_BASE) + u64::from(passed.extlen)];
+        let end = u64::from(address).saturating_add(length as u64);
+        let wrong_length = length == 0 || length % 4 != 0 || length > LONGEST_TRANSFER;
+        match number {
+            4 => {
+                self.misaligned[address as usize % 4 - 1] += 1;
+                self.several[0] += u64::from(wrong_length);
+            }
+            13 => {
+                self.lengths[0] += u64::from(length == 0);
+                self.lengths[1] += u64::from(length % 4 != 0);
+                self.lengths[2] += u64::from(length == LONGEST_TRANSFER + 4);
+                self.lengths[3] += u64::from(length > LONGEST_BUFFER);
+                self.several[1] += u64::from(!ends.iter().any(|&to| u64::from(address) < to));
+            }
+            14 => {
+                for (count, to) in self.beyond.iter_mut().zip(ends) {
+                    *count += u64::from(end == to + 4 && length > 4);
+                }
+            }
+            0 => self.count_accepted(transfer, passed, ends),
+            _ => {}
+        }
+    }
+
+    fn count_accepted(&mut self, transfer: &Transfer, passed: &CRecord, ends: [u64; 2]) {
+        let by = usize::from(transfer.is_in());
+        let (first, length) = (transfer.address, transfer.length as u32);
+        let end = first + length;
+        let external = first >= EXTERNAL_BASE;
+        let mode = usize::from(passed.mode);
+        self.longest[usize::from(external)] += u64::from(transfer.length == LONGEST_TRANSFER);
+        self.ends[usize::from(external)] +=
+            u64::from(u64::from(end) == ends[usize::from(external)]);
+        let lines = (L1d::line_address(first)..end).step_by(L1d::LINE as usize);
+        let frozen = passed.frozen == 1;
+        if external {
+            self.external[by][mode] += 1;
+            let [mut clean, mut dirty, mut clean_l2, mut dirty_l2] = [false; 4];
+            for line in lines {
+                let held = l1d_holds(passed, line);
+                let is_dirty = l1d_is_dirty(passed, line);
+                (clean, dirty) = (clean || held && !is_dirty, dirty || is_dirty);
+                let is_dirty = l2_is_dirty(passed, line);
+                clean_l2 |= l2_holds(passed, line) && !is_dirty && !held;
+                dirty_l2 |= is_dirty;
+            }
+            for (count, met) in self.l1d_lines[by].iter_mut().zip([clean, dirty]) {
+                *count += u64::from(met);
+            }
+            for (count, met) in self.l2_lines[by].iter_mut().zip([clean_l2, dirty_l2]) {
+                *count += u64::from(met);
+            }
+            let border = EXTERNAL_BASE + RANGE_BYTES;
+            let mar = if first < border { passed.mar128 } else { passed.mar129 };
+            self.past[by] += u64::from(mar == 0);
+            self.external_frozen[by] += u64::from(frozen && (clean || dirty));
+            self.ranges[by] += u64::from(first < border && border < end);
+            return;
+        }
+        self.sram[by][mode] += 1;
+        let [mut clean, mut dirty, mut in_part] = [false; 3];
+        for line in lines.filter(|&line| l1d_holds(passed, line)) {
+            let is_dirty = l1d_is_dirty(passed, line);
+            (clean, dirty) = (clean || !is_dirty, dirty || is_dirty);
+            in_part |= is_dirty && (line < first || end < line + L1d::LINE);
+        }
+        self.clean[by] += u64::from(clean);
+        self.dirty[by] += u64::from(dirty);
+        self.in_part[by] += u64::from(in_part);
+        self.untouched[by] += u64::from(!clean && !dirty);
+        self.frozen[by] += u64::from(frozen && dirty);
+    }
 }
 
 /// What non-aligned accesses met; pairs of counts are those of reads and of writes, but where
@@ -432,6 +595,9 @@ pub struct TwoRuns {
     /// Accepted non-aligned reads and writes, and those that answer the byte.
     pub unaligned: [u64; 2],
     pub unaligned_parted: u64,
+    /// Accepted transfers out and in, and buffers that have the byte.
+    pub transfers: [u64; 2],
+    pub transfers_parted: u64,
 }
 
 impl TwoRuns {
@@ -447,6 +613,8 @@ impl TwoRuns {
             && self.left.iter().flatten().all(|&count| count > 10)
             && self.unaligned.iter().all(|&count| count > 100)
             && self.unaligned_parted > 5
+            && self.transfers.iter().all(|&count| count > 100)
+            && self.transfers_parted > 5
     }
 }
 
@@ -589,6 +757,8 @@ struct Pair<'a> {
     theirs: Setup,
     odd: bool,
     flat: Option<Flat>,
+    /// Beside flat memory: which external transfers it agrees with.
+    covered: Option<Covered>,
     history: Option<History>,
     moves: bool,
     met: &'a mut Met,
@@ -623,6 +793,7 @@ fn make(start: &Start, ops: &[Op], met: &mut Met, reached: &mut usize) -> Result
         theirs: start.setup.clone(),
         odd: start.odd.iter().any(|odd| odd.value > 1),
         flat: start.flat.then(|| Flat::fresh(start.setup.record.l, &start.setup.ext)),
+        covered: start.flat.then(|| Covered::fresh(start.setup.record.e)),
         history: start.history.then(|| History::fresh(&start.setup)),
         moves: start.moves,
         met,
@@ -880,6 +1051,7 @@ impl Pair<'_> {
             }
             Op::Direct(command) => self.direct(command),
             Op::Unaligned(access) => self.unaligned(access),
+            Op::Transfer(transfer) => self.transfer(transfer),
             Op::Run { trace, answer_bytes } => self.run(trace, *answer_bytes).map(|_| ()),
             Op::RunAndSingleCalls { trace, answer_bytes } => {
                 self.run_and_single_calls(trace, *answer_bytes)
@@ -911,6 +1083,7 @@ impl Pair<'_> {
         self.odd = false;
         if self.flat.is_some() {
             self.flat = Some(Flat::fresh(self.theirs.record.l, &self.theirs.ext));
+            self.covered = Some(Covered::fresh(self.theirs.record.e));
         }
         if self.history.is_some() {
             self.history = Some(History::fresh(&self.theirs));
@@ -997,6 +1170,147 @@ impl Pair<'_> {
         self.unaligned_flat(access, &ours)
     }
 
+    /// A transfer (02, U1).
+    fn transfer(&mut self, transfer: &Transfer) -> Result<(), Wrong> {
+        if !self.joins(transfer) {
+            self.met.transfers.left_out += 1;
+            return Ok(());
+        }
+        let mut buffer = Buffer::of(transfer);
+        let (Reply { answer: theirs, report }, bytes) = if self.odd {
+            (Reply::refused(self.odd_number(true)), buffer.bytes().to_vec())
+        } else {
+            self.theirs.transfer(transfer)
+        };
+        let expected = buffer.with(&bytes);
+        let accepted = theirs.number == 0;
+        let copy = (self.moves && accepted || plant::wants_copy()).then(|| self.ours());
+        let (record, lent) = self.lent();
+        let mut called = boundary::transfer(record, transfer, &mut buffer, lent);
+        let lent = Lent { l1d: &mut self.l1d, l2: &mut self.l2, ext: &mut self.ext };
+        let (ours, passed) = (&mut self.record, &self.passed);
+        plant::transfer(transfer, &mut called, ours, passed, lent, &mut buffer, copy.as_ref());
+        self.met.calls += 1;
+        self.met.numbers[usize::from(theirs.number)] += 1;
+        self.met.servers[usize::from(theirs.server)] += 1;
+        self.met.odd += u64::from(self.odd);
+        if accepted {
+            self.met.modes[self.theirs.record.mode as usize] += 1;
+        }
+        expect_answer("answer", answer_of(&called), theirs)?;
+        expect_report("report", called.report(), report_of(&report))?;
+        self.met.transfers.count(transfer, &self.passed, theirs.number);
+        self.met.frozen.refused += u64::from(self.passed.frozen > 1 && theirs.number == 2);
+        expect_bytes("buffer, with 64 bytes before it,", buffer.whole(), expected.whole())?;
+        self.expect_record(accepted)?;
+        if let (true, true, Some(copy)) = (self.moves, accepted, copy) {
+            self.expect_in_parts(transfer, &buffer, copy)?;
+        }
+        self.transfer_history(transfer, &buffer, &answer_of(&called));
+        self.transfer_flat(transfer, &buffer, called.number)
+    }
+
+    /// Whether a transfer is made in this list: external ones that are accepted are "left out" of
+    /// those with drops (02, U13), and flat memory agrees with those that are covered (02, U1).
+    fn joins(&mut self, transfer: &Transfer) -> bool {
+        let Transfer { address, length, .. } = *transfer;
+        if let Some(history) = &mut self.history {
+            let accepted = history.flat.transfer_number(address, length) == 0;
+            return !accepted || address < EXTERNAL_BASE;
+        }
+        let (Some(flat), Some(covered)) = (&mut self.flat, &self.covered) else { return true };
+        let accepted = flat.transfer_number(address, length) == 0;
+        !accepted || plant::joins(covered.joins(address, length))
+    }
+
+    /// Of SRAM a transfer is an L1D block writeback-invalidate over as many words, and then a move
+    /// of bytes; of external memory it is the move alone. These are made on a copy of what was there
+    /// before. This asks the library itself, and not the reference model.
+    fn expect_in_parts(
+        &mut self,
+        transfer: &Transfer,
+        buffer: &Buffer,
+        mut copy: Ours,
+    ) -> Result<(), Wrong> {
+        let (base, external) = (transfer.address, transfer.address >= EXTERNAL_BASE);
+        if !external {
+            let count = transfer.length as u32 / 4;
+            let command = Command::L1dBlockWritebackInvalidate { base, count };
+            let (record, lent) = copy.lent();
+            boundary::direct(record, &command, lent);
+            self.met.calls += 1;
+        }
+        let from = (base % EXTERNAL_BASE) as usize;
+        let memory = if external { &mut copy.ext } else { &mut copy.l2 };
+        let stretch = &mut memory[from..from + transfer.length];
+        if transfer.is_in() {
+            stretch.copy_from_slice(buffer.bytes());
+        }
+        plant::in_parts(stretch);
+        expect_bytes("buffer, by its parts,", buffer.bytes(), stretch)?;
+        if **self.record != **copy.record {
+            let difference = record_difference(&self.record, &copy.record);
+            let what = format!("record, by its parts: {difference}");
+            return Err(Wrong { kind: Kind::Record, what });
+        }
+        expect_bytes("L1D, by its parts,", &self.l1d, &copy.l1d)?;
+        expect_bytes("L2, by its parts,", &self.l2, &copy.l2)?;
+        expect_bytes("external memory, by its parts,", &self.ext, &copy.ext)?;
+        self.met.transfers.in_parts[usize::from(external)] += 1;
+        Ok(())
+    }
+
+    /// What is known of the bytes after a transfer in a list with drops: "a SRAM transfer in writes
+    /// too" (02, U13), and either direction sends lines home. One that is refused does nothing.
+    fn transfer_history(&mut self, transfer: &Transfer, buffer: &Buffer, ours: &Answer) {
+        let Some(history) = &mut self.history else { return };
+        if ours.number != 0 {
+            return;
+        }
+        let address = transfer.address;
+        match transfer.direction {
+            Direction::In => {
+                history.transfer_in(address, buffer.bytes(), ours);
+                plant::transfer_history(address, buffer.bytes(), history);
+            }
+            Direction::Out => history.transfer_out(address, transfer.length, ours),
+        }
+        self.met.transfers.history[usize::from(transfer.is_in())] += 1;
+    }
+
+    /// "SRAM transfers join the lists compared with flat memory, which moves the same bytes; an out
+    /// transfer's buffer is compared too." (02, U1)
+    fn transfer_flat(
+        &mut self,
+        transfer: &Transfer,
+        buffer: &Buffer,
+        ours: u8,
+    ) -> Result<(), Wrong> {
+        let (Some(flat), Some(covered)) = (&mut self.flat, &self.covered) else { return Ok(()) };
+        let Transfer { address, length, .. } = *transfer;
+        let given = transfer.buffer();
+        let mut bytes = given.clone().unwrap_or_default();
+        let mut number = match transfer.direction {
+            _ if given.is_none() => flat.transfer_number(address, length),
+            Direction::In => flat.transfer_in(address, &bytes),
+            Direction::Out => flat.transfer_out(address, &mut bytes),
+        };
+        plant::transfer_flat(transfer, flat, &mut number, &mut bytes);
+        expect(Kind::Number, "number, by flat memory,", ours, number)?;
+        expect_bytes("buffer, by flat memory,", buffer.bytes(), &bytes)?;
+        let by = usize::from(transfer.is_in());
+        let met = &mut self.met.transfers;
+        match (number, address) {
+            (0, 0..EXTERNAL_BASE) => met.flat_sram[by] += 1,
+            (0, _) => {
+                met.flat_external[by] += 1;
+                met.flat_covered[by] += u64::from(covered.was_accessed(address, length));
+            }
+            _ => {}
+        }
+        Ok(())
+    }
+
     /// Our side as it stands.
     fn ours(&self) -> Ours {
         Ours {
@@ -1059,6 +1373,9 @@ impl Pair<'_> {
     /// "Lists with these accesses keep agreeing with flat memory."
     fn unaligned_flat(&mut self, access: &Unaligned, ours: &Answer) -> Result<(), Wrong> {
         let Some(flat) = &mut self.flat else { return Ok(()) };
+        if let Some(covered) = &mut self.covered {
+            covered.unaligned(access, ours.number == 0);
+        }
         let (mut number, mut value) = flat.apply_unaligned(access);
         plant::unaligned_flat(access, flat, &mut number, &mut value);
         expect(Kind::Number, "number, by flat memory,", ours.number, number)?;
@@ -1263,6 +1580,9 @@ impl Pair<'_> {
         if let Some(flat) = &mut self.flat {
             plant::flat_freeze(command, flat);
         }
+        if let Some(covered) = &mut self.covered {
+            covered.command(command, ours.number == 0);
+        }
         let said = self.flat.as_mut().and_then(|flat| flat.apply(command));
         let Some((mut number, mut value)) = said else { return Ok(()) };
         plant::flat_answer(command, &mut number, &mut value);
@@ -1459,9 +1779,14 @@ impl Pair<'_> {
         if whole || self.ext.len() <= SMALL {
             return expect_bytes("external memory", &self.ext, &self.theirs.ext);
         }
+        let mut length = 0;
         let address = match *op {
             Op::Direct(Command::Read { address, .. } | Command::Write { address, .. }) => address,
             Op::Unaligned(access) => access.address(),
+            Op::Transfer(transfer) => {
+                length = transfer.length.min(LONGEST_TRANSFER);
+                transfer.address
+            }
             Op::Direct(
                 Command::L2BlockWriteback { base, .. }
                 | Command::L2BlockWritebackInvalidate { base, .. }
@@ -1471,7 +1796,7 @@ impl Pair<'_> {
         };
         let from = (address.saturating_sub(EXTERNAL_BASE) as usize).saturating_sub(4_096);
         let from = from.min(self.ext.len());
-        let to = (from + 8_192).min(self.ext.len());
+        let to = (from + 8_192 + length).min(self.ext.len());
         expect_bytes("part of external memory", &self.ext[from..to], &self.theirs.ext[from..to])
     }
 

@@ -10,16 +10,17 @@ use std::sync::OnceLock;
 use oracle::access::load;
 use oracle::dropped::History;
 use oracle::flat::Flat;
-use oracle::gen::RANGE_BYTES;
+use oracle::gen::{Transfer, RANGE_BYTES};
 use oracle::geometry::{external_offset, sram_size, L1d, EXTERNAL_BASE, L2};
 use oracle::load::Load;
 use oracle::machine::{SERVER_L1D, SERVER_L2};
 use oracle::trace::{decode, ANSWER_BYTES};
+use oracle::transfers::LONGEST_TRANSFER;
 use oracle::writer::Put;
 use oracle::{Answer, Command, Unaligned};
 
 use crate::boundary::{
-    self, dirty_marks, CAnswer, CLeft, CLine, CRecord, CRun, CRunNumber, CShortRun, Lent,
+    self, dirty_marks, Buffer, CAnswer, CLeft, CLine, CRecord, CRun, CRunNumber, CShortRun, Lent,
 };
 use crate::pair::{Ours, SMALL};
 
@@ -182,6 +183,33 @@ enum Plant {
     HeldUnaligned,
     DataUnaligned,
     UnalignedBehind,
+    TransferHeld,
+    TransferLost,
+    TransferInside,
+    TransferOutHeld,
+    TransferFrozen,
+    TransferUses,
+    TransferCount,
+    TransferUpdates,
+    TransferSnoops,
+    TransferDrops,
+    TransferLast,
+    TransferLimit,
+    TransferOrder,
+    TransferAligned,
+    TransferClears,
+    TransferBehind,
+    TransferBuffer,
+    TransferServer,
+    TransferCounts,
+    TransferParts,
+    FlatTransfer,
+    FlatTransferOut,
+    FlatTransferNumber,
+    FlatUncovered,
+    HeldTransfer,
+    DataTransfer,
+    TransferNeighbour,
     BenchOutput,
     BenchStatus,
 }
@@ -197,7 +225,7 @@ const fn planted(plant: Plant, name: &'static str, about: &'static str) -> Plant
     Planted { plant, name, about }
 }
 
-pub const PLANTS: [Planted; 158] = [
+pub const PLANTS: [Planted; 185] = [
     planted(Plant::ReadValue, "read-value", "a 4-byte read from L2 cache gets 1 more"),
     planted(Plant::ReadOrder, "read-order", "a read hit in L1D turns its set's order around"),
     planted(Plant::WriteNumber, "write-number", "a write refused with 6 gets 5"),
@@ -393,6 +421,41 @@ pub const PLANTS: [Planted; 158] = [
         Plant::UnalignedBehind,
         "unaligned-behind",
         "..: one of 4 bytes answers 8, in two runs",
+    ),
+    planted(Plant::TransferHeld, "transfer-held", "a transfer: L1D keeps the lines of SRAM, clean"),
+    planted(Plant::TransferLost, "transfer-lost", "..: dirty lines of SRAM do not go home"),
+    planted(Plant::TransferInside, "transfer-inside", "..: a line that reaches out of it stays"),
+    planted(Plant::TransferOutHeld, "transfer-out-held", "..: one out leaves L1D as it is"),
+    planted(Plant::TransferFrozen, "transfer-frozen", "..: a frozen L1D is left as it is"),
+    planted(Plant::TransferUses, "transfer-uses", "..: the ways of lines that leave are used"),
+    planted(Plant::TransferCount, "transfer-count", "..: lines that go home are counted on"),
+    planted(
+        Plant::TransferUpdates,
+        "transfer-updates",
+        "..: one in changes L1D's line of external memory",
+    ),
+    planted(Plant::TransferSnoops, "transfer-snoops", "..: one out takes L1D's bytes of it"),
+    planted(Plant::TransferDrops, "transfer-drops", "..: one in to it makes L2's lines invalid"),
+    planted(Plant::TransferLast, "transfer-last", "..: its last byte is not moved"),
+    planted(Plant::TransferLimit, "transfer-limit", "..: one of 262,144 bytes is accepted"),
+    planted(Plant::TransferOrder, "transfer-order", "..: 14 comes before 13"),
+    planted(Plant::TransferAligned, "transfer-aligned", "..: 13 comes before 4"),
+    planted(Plant::TransferClears, "transfer-clears", "..: a refused one out clears its buffer"),
+    planted(Plant::TransferBehind, "transfer-behind", "..: one out writes behind its buffer"),
+    planted(Plant::TransferBuffer, "transfer-buffer", "..: one in changes its buffer"),
+    planted(Plant::TransferServer, "transfer-server", "..: it tells a server"),
+    planted(Plant::TransferCounts, "transfer-counts", "..: it counts external bytes"),
+    planted(Plant::TransferParts, "transfer-parts", "..: by its parts a byte is another"),
+    planted(Plant::FlatTransfer, "flat-transfer", "..: flat memory lacks its last byte"),
+    planted(Plant::FlatTransferOut, "flat-transfer-out", "..: by flat memory one out is zero"),
+    planted(Plant::FlatTransferNumber, "flat-transfer-number", "..: flat memory says 5 for 14"),
+    planted(Plant::FlatUncovered, "flat-uncovered", "..: one that is not covered joins a list"),
+    planted(Plant::HeldTransfer, "held-transfer", "..: in a list with drops it writes 1 more"),
+    planted(Plant::DataTransfer, "data-transfer", "..: with odd data it gets 14, in two runs"),
+    planted(
+        Plant::TransferNeighbour,
+        "transfer-neighbour",
+        "..: one out brings the word beside it, in two runs",
     ),
     planted(Plant::BenchOutput, "bench-output", "bench-trace prints a line more after an 8"),
     planted(Plant::BenchStatus, "bench-status", "bench-trace fails after a 7"),
@@ -830,7 +893,7 @@ fn marked(
     }
 }
 
-/// Whether this difference needs our side as it was before a non-aligned access.
+/// Whether this difference needs our side as it was before a non-aligned access or a transfer.
 pub fn wants_copy() -> bool {
     matches!(
         CHOSEN.get(),
@@ -840,6 +903,8 @@ pub fn wants_copy() -> bool {
                 | Plant::UnalignedStored
                 | Plant::UnalignedCounts
                 | Plant::UnalignedLeft
+                | Plant::TransferLost
+                | Plant::TransferLast
         )
     )
 }
@@ -999,6 +1064,204 @@ pub fn steered_unaligned(access: &Unaligned, called: &mut CAnswer, ext: &[u8]) {
             let from = external_offset(access.address()) + 4;
             if from + 4 <= ext.len() {
                 called.value |= load(ext, from, 4) << 32;
+            }
+        }
+        _ => {}
+    }
+}
+
+/// Whether a length is wrong, and whether so many bytes from an address on lie in one memory.
+fn is_wrong_length(length: usize) -> bool {
+    length == 0 || length % 4 != 0 || length > LONGEST_TRANSFER
+}
+
+fn is_in_memory(passed: &CRecord, transfer: &Transfer) -> bool {
+    let sram = u128::from(sram_size(passed.l2len, passed.mode.into()));
+    let (first, base) = (u128::from(transfer.address), u128::from(EXTERNAL_BASE));
+    let end = first + transfer.length as u128;
+    end <= sram || first >= base && end <= base + u128::from(passed.extlen)
+}
+
+/// What a transfer gave back, its buffer, and the record and the memories after it.
+pub fn transfer(
+    transfer: &Transfer,
+    called: &mut CAnswer,
+    record: &mut CRecord,
+    passed: &CRecord,
+    lent: Lent,
+    buffer: &mut Buffer,
+    before: Option<&Ours>,
+) {
+    let Some(plant) = CHOSEN.get() else { return };
+    if called.number == 0 {
+        let right = counts_are_right(record);
+        transferred(*plant, transfer, record, passed, lent, buffer, before);
+        counts_follow(record, right);
+        match plant {
+            Plant::TransferCount => record.dirty_l1d = passed.dirty_l1d,
+            Plant::TransferServer => {
+                called.server = if transfer.address < EXTERNAL_BASE { 2 } else { 4 };
+            }
+            Plant::TransferCounts if transfer.address >= EXTERNAL_BASE => {
+                called.external_read = L1d::LINE;
+            }
+            _ => {}
+        }
+        return;
+    }
+    let in_memory = is_in_memory(passed, transfer);
+    let too_long_by_4 = transfer.length == LONGEST_TRANSFER + 4;
+    match (plant, called.number) {
+        (Plant::TransferLimit, 13) if too_long_by_4 && in_memory => called.number = 0,
+        (Plant::TransferOrder, 13) if !in_memory => called.number = 14,
+        (Plant::TransferAligned, 4) if is_wrong_length(transfer.length) => called.number = 13,
+        (Plant::TransferClears, _) if !transfer.is_in() => buffer.bytes_mut().fill(0),
+        _ => {}
+    }
+}
+
+/// The same of one that was accepted: mistakes in what it does to L1D, to L2 and to the bytes.
+fn transferred(
+    plant: Plant,
+    transfer: &Transfer,
+    record: &mut CRecord,
+    passed: &CRecord,
+    lent: Lent,
+    buffer: &mut Buffer,
+    before: Option<&Ours>,
+) {
+    let (first, length) = (transfer.address, transfer.length);
+    let (end, is_in) = (first + length as u32, transfer.is_in());
+    let external = first >= EXTERNAL_BASE;
+    let taken = sram_lines_taken(passed, record);
+    // Which bytes of a line of L1D are moved, if any are.
+    let shared = |line: u32| {
+        let (from, to) = (line.max(first), (line + L1d::LINE).min(end));
+        (from < to).then(|| (from - line) as usize..(to - line) as usize)
+    };
+    match (plant, before) {
+        (Plant::TransferHeld, _) => {
+            for (set, way, line) in taken {
+                record.l1d[set].lines[way] = line;
+                record.l1d[set].lines[way].dirty = 0;
+            }
+        }
+        (Plant::TransferLost, Some(before)) => {
+            for (_, _, line) in taken.iter().filter(|(_, _, line)| line.dirty == 1) {
+                let Some(part) = shared(line.address) else { continue };
+                for (place, at) in sram_bytes(line).enumerate() {
+                    if !part.contains(&place) {
+                        lent.l2[at] = before.l2[at];
+                    } else if !is_in {
+                        lent.l2[at] = before.l2[at];
+                        buffer.bytes_mut()[at - first as usize] = before.l2[at];
+                    }
+                }
+            }
+        }
+        (Plant::TransferInside, _) => {
+            for (set, way, line) in taken {
+                if line.address < first || end < line.address + L1d::LINE {
+                    record.l1d[set].lines[way] = line;
+                }
+            }
+        }
+        (Plant::TransferOutHeld, _) if !is_in => record.l1d = passed.l1d,
+        (Plant::TransferFrozen, _) if passed.frozen == 1 => record.l1d = passed.l1d,
+        (Plant::TransferUses, _) => {
+            for (set, way, _) in taken {
+                record.l1d[set].order = [way as u8, 1 - way as u8];
+            }
+        }
+        (Plant::TransferUpdates | Plant::TransferSnoops, _) if external => {
+            for (set, held) in passed.l1d.iter().enumerate() {
+                for (way, line) in held.lines.iter().enumerate().filter(|(_, line)| line.valid == 1)
+                {
+                    let Some(part) = shared(line.address) else { continue };
+                    let from = L1d::offset(set, way);
+                    let data = &mut lent.l1d[from + part.start..from + part.end];
+                    let at = (line.address as usize + part.start) - first as usize;
+                    let bytes = &mut buffer.bytes_mut()[at..at + part.len()];
+                    match (plant, is_in) {
+                        (Plant::TransferUpdates, true) => data.copy_from_slice(bytes),
+                        (Plant::TransferSnoops, false) => bytes.copy_from_slice(data),
+                        _ => {}
+                    }
+                }
+            }
+        }
+        (Plant::TransferDrops, _) if external && is_in => {
+            for set in &mut record.l2 {
+                for line in set.lines.iter_mut().filter(|line| line.valid == 1) {
+                    if line.address < end && first < line.address + L2::LINE {
+                        (line.valid, line.dirty, line.address) = (0, 0, 0);
+                    }
+                }
+            }
+        }
+        (Plant::TransferLast, Some(before)) => {
+            let last = length - 1;
+            match (is_in, external) {
+                (true, true) => {
+                    let at = external_offset(first) + last;
+                    lent.ext[at] = before.ext[at];
+                }
+                (true, false) => lent.l2[end as usize - 1] = before.l2[end as usize - 1],
+                _ => buffer.bytes_mut()[last] = transfer.buffer().unwrap_or_default()[last],
+            }
+        }
+        (Plant::TransferBehind, _) if !is_in => change(Some(buffer.behind())),
+        (Plant::TransferBuffer, _) if is_in => change(buffer.bytes_mut().first_mut()),
+        _ => {}
+    }
+}
+
+/// The bytes that a transfer moved, by its parts.
+pub fn in_parts(stretch: &mut [u8]) {
+    if CHOSEN.get() == Some(&Plant::TransferParts) {
+        change(stretch.last_mut());
+    }
+}
+
+/// Whether a transfer joins a list that is set against flat memory.
+pub fn joins(joins: bool) -> bool {
+    joins || CHOSEN.get() == Some(&Plant::FlatUncovered)
+}
+
+/// What flat memory says of a transfer.
+pub fn transfer_flat(transfer: &Transfer, flat: &mut Flat, number: &mut u8, bytes: &mut [u8]) {
+    match CHOSEN.get() {
+        Some(Plant::FlatTransfer) if *number == 0 && transfer.is_in() => {
+            let last = transfer.address + transfer.length as u32 - 1;
+            let (_, byte) = flat.read(1, last);
+            flat.write(1, last, (byte + 1) & 0xFF);
+        }
+        Some(Plant::FlatTransferOut) if *number == 0 && !transfer.is_in() => bytes.fill(0),
+        Some(Plant::FlatTransferNumber) if *number == 14 => *number = 5,
+        _ => {}
+    }
+}
+
+/// What is known of the bytes after a transfer in.
+pub fn transfer_history(address: u32, bytes: &[u8], history: &mut History) {
+    if let (Some(Plant::HeldTransfer), Some(first)) = (CHOSEN.get(), bytes.first()) {
+        history.flat.write(1, address, u64::from(first.wrapping_add(1)));
+    }
+}
+
+/// What a transfer of one of two runs gave back: data has steered it.
+pub fn steered_transfer(transfer: &Transfer, called: &mut CAnswer, buffer: &mut [u8], ext: &[u8]) {
+    if called.number != 0 {
+        return;
+    }
+    match CHOSEN.get() {
+        Some(Plant::DataTransfer) if buffer[0] % 2 == 1 => called.number = 14,
+        Some(Plant::TransferNeighbour)
+            if !transfer.is_in() && transfer.address >= EXTERNAL_BASE =>
+        {
+            let from = external_offset(transfer.address) + 4;
+            if from + buffer.len() <= ext.len() {
+                buffer.copy_from_slice(&ext[from..from + buffer.len()]);
             }
         }
         _ => {}

@@ -1,6 +1,7 @@
 //! A case in words. Numbers in hexadecimal begin with 0x, all others are
 //! decimal.
 
+use oracle::gen::Transfer;
 use oracle::record::{L1dSet, L2Set, Line, Record};
 use oracle::trace::decode;
 use oracle::{Command, Unaligned};
@@ -102,6 +103,7 @@ fn report_op(number: usize, op: &Op) {
         }
         Op::Direct(command) => println!("{number}: {}", command_words(command)),
         Op::Unaligned(access) => println!("{number}: {}", unaligned_words(access)),
+        Op::Transfer(transfer) => println!("{number}: {}", transfer_words(transfer)),
         Op::View { address, buffer } => {
             println!("{number}: view of {address:#x}, buffer of {buffer} bytes");
         }
@@ -141,6 +143,13 @@ pub fn unaligned_words(access: &Unaligned) -> String {
             format!("non-aligned Write size {size} address {address:#x} value {value:#x}")
         }
     }
+}
+
+pub fn transfer_words(transfer: &Transfer) -> String {
+    let Transfer { address, length, filling, .. } = *transfer;
+    let direction = if transfer.is_in() { "in" } else { "out" };
+    let bytes = if filling == 0 { "all 0" } else { "random" };
+    format!("transfer {direction} of {length} bytes, address {address:#x}, buffer {bytes}")
 }
 
 pub fn command_words(command: &Command) -> String {

@@ -1,16 +1,17 @@
-//! What is compared: thirteen sections, each made of groups, each group of a few
+//! What is compared: fourteen sections, each made of groups, each group of a few
 //! lists of calls. A group is known by its section and number, and equal seeds
 //! give equal groups.
 
 use oracle::gen::{
-    self, call, command, crowded, crowded_e, encode, hot, hot_for, ill_formed_record, l_for,
-    look_address, make_length_wrong, senseless_record, single, well_formed_record,
-    well_formed_record_in_mode, Call, Hot, Mix, Rng, Setup, Single, TraceKind, E_BOTH_RANGES,
-    FAULTS, LEGAL_L, LEGAL_MODES, RANGE_BYTES, TRACE_KINDS, WRONG_LENGTHS,
+    self, call, command, crowded, crowded_e, encode, frame, hot, hot_for, huge_length,
+    ill_formed_record, l_for, look_address, make_length_wrong, senseless_record, single, transfer,
+    well_formed_record, well_formed_record_in_mode, Call, Hot, Mix, Rng, Setup, Single, TraceKind,
+    Transfer, E_BOTH_RANGES, FAULTS, LEGAL_L, LEGAL_MODES, RANGE_BYTES, TRACE_KINDS, WRONG_LENGTHS,
 };
 use oracle::geometry::{mode_is_legal, sram_size, EXTERNAL_BASE, L2};
 use oracle::short_runs;
-use oracle::{Command, Line, Record, Unaligned};
+use oracle::transfers::LONGEST_TRANSFER;
+use oracle::{Command, Direction, Line, Record, Unaligned};
 
 use crate::load;
 use crate::pair::{compare, Met, OddByte, OddPlace, Op, Start};
@@ -35,7 +36,7 @@ pub enum Group {
     Words(fn(&mut Rng, u64, &mut Met) -> Option<String>),
 }
 
-pub const SECTIONS: [Section; 13] = [
+pub const SECTIONS: [Section; 14] = [
     Section {
         name: "records",
         share: 40,
@@ -129,6 +130,13 @@ pub const SECTIONS: [Section; 13] = [
         about: "lines that put each other out, the bytes that move seen from outside",
         group: Group::Calls(thrashing),
     },
+    Section {
+        name: "transfers",
+        share: 10,
+        groups: 0,
+        about: "transfers over lines that are held, and frames, set against flat memory too",
+        group: Group::Calls(transfers),
+    },
 ];
 
 /// Compares a list; a difference makes it a case.
@@ -206,11 +214,33 @@ fn setup_in_mode(rng: &mut Rng, mode: u32, l: u32, e: u32) -> Setup {
     setup
 }
 
-/// A random single call.
-fn some_single(rng: &mut Rng, lines: &Hot, mix: &Mix) -> Op {
-    match single(rng, lines, mix) {
+fn single_op(single: Single) -> Op {
+    match single {
         Single::Command(command) => Op::Direct(command),
         Single::Unaligned(access) => Op::Unaligned(access),
+        Single::Transfer(transfer) => Op::Transfer(transfer),
+    }
+}
+
+/// A random single call.
+fn some_single(rng: &mut Rng, lines: &Hot, mix: &Mix) -> Op {
+    single_op(single(rng, lines, mix))
+}
+
+/// A transfer in, and one out of the same bytes.
+fn transfer_pair(rng: &mut Rng, address: u32, length: usize) -> [Op; 2] {
+    let filling = rng.next_u64();
+    [Direction::In, Direction::Out]
+        .map(|direction| Op::Transfer(Transfer { direction, address, length, filling }))
+}
+
+/// One of the two.
+fn transfer_either(rng: &mut Rng, address: u32, length: usize) -> Op {
+    let [into, out] = transfer_pair(rng, address, length);
+    if rng.chance(1, 2) {
+        into
+    } else {
+        out
     }
 }
 
@@ -231,8 +261,8 @@ fn unaligned_either(rng: &mut Rng, size: u32, address: u32, value: u64) -> Op {
 }
 
 /// Accesses of each size that end with external memory, and just behind it; non-aligned ones
-/// also across its end.
-fn accesses_at_the_end(e: u32) -> Vec<Op> {
+/// also across its end. Transfers do so too.
+fn accesses_at_the_end(rng: &mut Rng, e: u32) -> Vec<Op> {
     let end = EXTERNAL_BASE + e;
     let mut ops = Vec::new();
     for size in [1, 2, 4, 8] {
@@ -253,6 +283,12 @@ fn accesses_at_the_end(e: u32) -> Vec<Op> {
             ops.extend(unaligned_pair(size, border - back, 0xD0 + u64::from(size)));
         }
     }
+    for length in [4, 64, 128, 512, LONGEST_TRANSFER as u32] {
+        let first = end.wrapping_sub(length);
+        for address in [first, first.wrapping_add(4), end, border - 4, border - 128] {
+            ops.extend(transfer_pair(rng, address, length as usize));
+        }
+    }
     ops
 }
 
@@ -261,6 +297,7 @@ fn op_of(call: Call, rng: &mut Rng) -> Op {
         Call::FreshStart => Op::Fresh,
         Call::Direct(command) => Op::Direct(command),
         Call::Unaligned(access) => Op::Unaligned(access),
+        Call::Transfer(transfer) => Op::Transfer(transfer),
         Call::Run { trace, answer_bytes } => Op::Run { trace, answer_bytes },
         Call::Look { address } => Op::View { address, buffer: view_buffer(rng) },
     }
@@ -289,7 +326,7 @@ fn records(rng: &mut Rng, group: u64, met: &mut Met) -> Option<Case> {
         let lines = hot_for(rng, &record);
         ops.push(Op::Record(record));
         if large {
-            ops.extend(accesses_at_the_end(e));
+            ops.extend(accesses_at_the_end(rng, e));
         }
         for _ in 0..if large { 200 } else { 4 + rng.below(28) } {
             let call = call(rng, &lines, &Mix::ALL);
@@ -345,12 +382,15 @@ fn lists(rng: &mut Rng, group: u64, met: &mut Met) -> Option<Case> {
     modes.retain(|&mode| mode_is_legal(l, mode));
     ops.push(Op::Direct(Command::Mode { mode: rng.pick(&modes) }));
     if large {
-        ops.extend(accesses_at_the_end(e));
+        ops.extend(accesses_at_the_end(rng, e));
     }
     let mut lines = hot(rng, l, e);
     for _ in 0..3_000 {
         if rng.chance(1, 700) {
             lines = hot(rng, l, e);
+        }
+        if rng.chance(1, 150) {
+            ops.extend(frame(rng, &lines).into_iter().map(single_op));
         }
         if rng.chance(1, 200) {
             let count = rng.below(30) as usize;
@@ -641,6 +681,122 @@ fn freeing_a_way(rng: &mut Rng, mode: u32, e: u32) -> Vec<Op> {
     ops
 }
 
+/// Transfers over lines that the caches hold. In turn lists from fresh that are set against flat
+/// memory, with frames and with lines of SRAM that become dirty; such lists that drop lines, each
+/// byte that is read keeping to its history; random records; and now and then the edges.
+fn transfers(rng: &mut Rng, group: u64, met: &mut Met) -> Option<Case> {
+    let mode = LEGAL_MODES[group as usize % LEGAL_MODES.len()];
+    match group % 16 {
+        15 => return transfer_edges(rng, group / 16, met),
+        3 | 7 | 11 => return transfers_on_records(rng, group / 4, mode, met),
+        _ => {}
+    }
+    let with_sram: Vec<u32> = LEGAL_L.into_iter().filter(|&l| sram_size(l, mode) > 0).collect();
+    let l = if mode == 7 { LEGAL_L[7] } else { rng.pick(&with_sram) };
+    let e = [65_536, 8_192, 6 * 65_536, 1_024][group as usize / 4 % 4];
+    let drops = group % 4 == 2;
+    let all = if drops { Mix::ALL } else { Mix::NO_DROPS };
+    let mix = Mix {
+        l2_all: 4,
+        l2_block_writeback: 10,
+        mode: 3,
+        mar: 8,
+        freeze: 40,
+        transfer: 250,
+        ..all
+    };
+    let mut ext = vec![0; e as usize];
+    rng.fill(&mut ext);
+    let setup = Setup::fresh_over(l, ext);
+    let bit = u32::from(rng.chance(7, 8));
+    let begin = [Command::Mar { number: 128, bit }, Command::Mode { mode }];
+    let mut ops = begin.map(Op::Direct).to_vec();
+    let mut lines = hot(rng, l, e);
+    for _ in 0..lines.lines.len() / 2 {
+        let line = 64 * rng.below(8) + 8_192 * rng.below(4);
+        lines.lines.extend([line, line ^ 64]);
+    }
+    for _ in 0..250 {
+        match rng.below(60) {
+            0 => {
+                let count = rng.below(12) as usize;
+                let trace = gen::trace(rng, &lines, &mix, count, TraceKind::Valid).bytes;
+                ops.push(Op::RunAndSingleCalls { trace, answer_bytes: 10 * count });
+            }
+            1..=6 => ops.extend(frame(rng, &lines).into_iter().map(single_op)),
+            7 => ops.push(Op::View { address: look_address(rng, &lines), buffer: 64 }),
+            8..=15 => ops.extend(held_line(rng, &lines)),
+            16..=24 => ops.extend(over_a_held_line(rng)),
+            _ => ops.push(some_single(rng, &lines, &mix)),
+        }
+    }
+    check(Start { flat: !drops, history: drops, ..plain(rng, setup) }, ops, met)
+}
+
+/// A hot line comes into L1D, and most often becomes dirty.
+fn held_line(rng: &mut Rng, lines: &Hot) -> Vec<Op> {
+    let (size, address) = (4, rng.pick(&lines.lines) + 4 * rng.below(16));
+    let mut ops = vec![Op::Direct(Command::Read { size, address })];
+    if rng.chance(3, 4) {
+        let value = rng.next_u32().into();
+        ops.push(Op::Direct(Command::Write { size, address, value }));
+    }
+    ops
+}
+
+/// A line of SRAM comes into L1D, which now and then is frozen then, and a transfer goes over some
+/// of its bytes, and most often over some beside it.
+fn over_a_held_line(rng: &mut Rng) -> Vec<Op> {
+    let line = 64 * rng.below(8) + 8_192 * rng.below(4);
+    let lines = Hot { l: 0, e: 0, lines: vec![line] };
+    let mut ops = vec![Op::Direct(Command::Freeze { frozen: 0 })];
+    ops.extend(held_line(rng, &lines));
+    if rng.chance(1, 3) {
+        ops.push(Op::Direct(Command::Freeze { frozen: 1 }));
+    }
+    let address = (line + 4 * rng.below(16)).saturating_sub(rng.pick(&[0, 0, 32, 64]));
+    let length = 4 * (1 + rng.below(40) as usize);
+    ops.push(transfer_either(rng, address, length));
+    ops
+}
+
+/// Transfers from any record, over lines that it holds, each made a second time in its parts. Every
+/// twelfth group comes to the border of the MAR ranges; then they are made once.
+fn transfers_on_records(rng: &mut Rng, turn: u64, mode: u32, met: &mut Met) -> Option<Case> {
+    let large = turn % 12 == 11;
+    // The longest fits into SRAM where all of the largest L2 is SRAM.
+    let l = if mode == 0 && turn % 2 == 0 { LEGAL_L[7] } else { l_for(rng, mode) };
+    let e = match turn % 3 {
+        _ if large => e_at_the_border(rng),
+        // Room for the longest there.
+        0 => 262_144 + 128 * rng.below(600),
+        _ => small_e(rng),
+    };
+    let setup = Setup::random(rng, l, e);
+    let mut ops = Vec::new();
+    for _ in 0..6 {
+        let record = well_formed_record_in_mode(rng, l, e, mode);
+        let lines = hot_for(rng, &record);
+        ops.push(Op::Record(record));
+        for _ in 0..12 {
+            ops.push(Op::Transfer(transfer(rng, &lines)));
+        }
+        for external in [false, true] {
+            let (base, bytes) = if external { (EXTERNAL_BASE, e) } else { (0, sram_size(l, mode)) };
+            if bytes >= LONGEST_TRANSFER as u32 {
+                let address = base + 4 * rng.below((bytes - LONGEST_TRANSFER as u32) / 4 + 2);
+                ops.push(transfer_either(rng, address, LONGEST_TRANSFER));
+            }
+        }
+        if large {
+            let back = 4 * (1 + rng.below(64));
+            let address = EXTERNAL_BASE + RANGE_BYTES - back;
+            ops.push(transfer_either(rng, address, 4 * (back as usize / 4 + 8)));
+        }
+    }
+    check(Start { moves: !large, ..plain(rng, setup) }, ops, met)
+}
+
 fn global_writeback(rng: &mut Rng) -> Command {
     rng.pick(&[Command::L2WritebackAll, Command::L2WritebackInvalidateAll])
 }
@@ -793,7 +949,18 @@ fn every_call() -> Vec<Op> {
         Unaligned::Write { size: 4, address: u32::MAX, value: 7 },
         Unaligned::Write { size: 4, address: EXTERNAL_BASE, value: u64::MAX },
     ];
-    commands.map(Op::Direct).into_iter().chain(accesses.map(Op::Unaligned)).collect()
+    let transfers = [
+        (Direction::In, 64, 8),
+        (Direction::Out, EXTERNAL_BASE, 128),
+        (Direction::Out, 64, 64),
+        (Direction::In, 2, 0),
+        (Direction::Out, EXTERNAL_BASE, 6),
+        (Direction::In, EXTERNAL_BASE, usize::MAX),
+        (Direction::Out, EXTERNAL_BASE - 4, 8),
+    ]
+    .map(|(direction, address, length)| Transfer { direction, address, length, filling: 7 });
+    let others = accesses.map(Op::Unaligned).into_iter().chain(transfers.map(Op::Transfer));
+    commands.map(Op::Direct).into_iter().chain(others).collect()
 }
 
 /// Every kind of call, and some more.
@@ -1011,7 +1178,7 @@ fn change(rng: &mut Rng, record: &mut Record) {
     }
 }
 
-/// Numbers 3 to 8 and 17 at their edges, and several due at once.
+/// Numbers 3 to 8, 13, 14 and 17 at their edges, and several due at once.
 fn edges(rng: &mut Rng, turn: u64, met: &mut Met) -> Option<Case> {
     let l = LEGAL_L[turn as usize % LEGAL_L.len()];
     let e = rng.pick(&[128, 256, 65_536, 8_192]);
@@ -1039,6 +1206,13 @@ fn edges(rng: &mut Rng, turn: u64, met: &mut Met) -> Option<Case> {
                 let value = rng.pick(&[7, u64::from(u32::MAX), 1 << 32]);
                 ops.push(unaligned_either(rng, size, end.wrapping_sub(back), value));
             }
+        }
+    }
+    // Of transfers 4, 13 and 14, each also where a later one is due.
+    for end in ends {
+        for length in [0, 3, 4, 8, 64, LONGEST_TRANSFER + 4] {
+            let back = rng.pick(&[0, 2, 4, length as u32]);
+            ops.push(transfer_either(rng, end.wrapping_sub(back), length));
         }
     }
     // All of 3 to 6 at once, and one less each time.
@@ -1084,6 +1258,39 @@ fn edges(rng: &mut Rng, turn: u64, met: &mut Met) -> Option<Case> {
     for address in [0, 32, 64, s.wrapping_sub(64), s.wrapping_sub(32), s, EXTERNAL_BASE, outside] {
         for address in [address, address.wrapping_sub(64), address.wrapping_add(1)] {
             ops.push(Op::View { address, buffer: view_buffer(rng) });
+        }
+    }
+    check(plain(rng, setup), ops, met)
+}
+
+/// Numbers 4, 13 and 14 of transfers at their edges, and several due at once: every length around
+/// 0 and around the longest, and lengths that no buffer has, at the ends of both memories.
+fn transfer_edges(rng: &mut Rng, turn: u64, met: &mut Met) -> Option<Case> {
+    let l = LEGAL_L[if turn % 2 == 0 { 7 } else { turn as usize / 2 % LEGAL_L.len() }];
+    let e = rng.pick(&[128, 8_192, 65_536, 262_144, 262_272, 393_216]);
+    let mut setup = Setup::random(rng, l, e);
+    if turn % 2 == 0 {
+        setup.redraw_record_in_mode(rng, 0);
+    }
+    let s = setup.record.sram_size();
+    let short = (0..=9).chain([60, 62, 64, 68, 124, 128, 132, 256]);
+    let long = (LONGEST_TRANSFER - 4..=LONGEST_TRANSFER + 8).chain([524_288, 1 << 20]);
+    let huge = [huge_length(rng), huge_length(rng), usize::MAX];
+    let mut ops = Vec::new();
+    for length in short.chain(long).chain(huge) {
+        let bytes = length as u32;
+        for (begin, end) in [(0, s), (EXTERNAL_BASE, EXTERNAL_BASE + e), (l, 0)] {
+            // A long buffer takes its time.
+            let more = if length > 1_000 { 1 } else { 3 };
+            let last = end.wrapping_sub(bytes);
+            let places = [begin, last, last.wrapping_add(4), end, begin.wrapping_sub(4)];
+            for place in places {
+                if rng.chance(more, 3) {
+                    ops.push(transfer_either(rng, place, length));
+                }
+            }
+            let aside = rng.pick(&places).wrapping_add(1 + rng.below(3));
+            ops.push(transfer_either(rng, aside, length));
         }
     }
     check(plain(rng, setup), ops, met)

@@ -5,6 +5,7 @@
 use std::time::{Duration, Instant};
 
 use oracle::calls::fresh_start;
+use oracle::gen::Transfer;
 use oracle::record::{L1dSet, L2Set, Line, Record};
 use oracle::trace::{decode, ANSWER_BYTES};
 
@@ -70,6 +71,7 @@ pub fn shrink(case: Case) -> Case {
         shrinker.clear_memories();
         shrinker.drop_ops();
         shrinker.make_calls_plain();
+        shrinker.shorten_transfers();
         shrinker.shorten_traces();
         shrinker.shorten_answers();
         shrinker.drop_digits();
@@ -135,6 +137,9 @@ impl Shrinker {
                 }
                 Op::Unaligned(access) => {
                     setup.unaligned(access);
+                }
+                Op::Transfer(transfer) => {
+                    setup.transfer(transfer);
                 }
                 Op::Run { trace, answer_bytes } | Op::RunAndSingleCalls { trace, answer_bytes } => {
                     setup.run(trace, &mut vec![0; *answer_bytes]);
@@ -219,6 +224,32 @@ impl Shrinker {
             }
             op += 1;
         }
+    }
+
+    /// Tries shorter transfers, the shortest first, and buffers whose bytes are 0.
+    fn shorten_transfers(&mut self) {
+        let mut op = 0;
+        while let Some(call) = self.case.ops.get(op) {
+            if let Op::Transfer(transfer) = *call {
+                for length in [4, 64, 128].into_iter().filter(|&length| length < transfer.length) {
+                    if self.try_transfer(op, Transfer { length, ..transfer }) {
+                        break;
+                    }
+                }
+            }
+            if let Some(Op::Transfer(transfer)) = self.case.ops.get(op).cloned() {
+                if transfer.filling != 0 {
+                    self.try_transfer(op, Transfer { filling: 0, ..transfer });
+                }
+            }
+            op += 1;
+        }
+    }
+
+    fn try_transfer(&mut self, op: usize, transfer: Transfer) -> bool {
+        let mut ops = self.case.ops.clone();
+        ops[op] = Op::Transfer(transfer);
+        self.try_ops(ops)
     }
 
     /// Leaves out commands of traces, then single bytes.

@@ -12,28 +12,29 @@ use std::panic::{catch_unwind, AssertUnwindSafe};
 
 use oracle::gen::{
     code, crowded, crowded_e, hot_for, ill_formed_record, l_for, look_address, make_length_wrong,
-    single, well_formed_record_in_mode, Hot, Mix, Rng, Setup, Single, E_BOTH_RANGES, FAULTS,
-    LEGAL_MODES, WRONG_LENGTHS,
+    single, well_formed_record_in_mode, Hot, Mix, Rng, Setup, Single, Transfer, E_BOTH_RANGES,
+    FAULTS, LEGAL_MODES, WRONG_LENGTHS,
 };
 use oracle::geometry::{external_offset, sram_size, L1d, EXTERNAL_BASE, L1D_BYTES, L2};
 use oracle::record::{L1dSet, L2Set, Line, Record};
 use oracle::{Command, Unaligned};
 
-use crate::boundary::{self, record_difference, record_of, CAnswer, CLine, Held, Lent};
+use crate::boundary::{self, record_difference, record_of, Buffer, CAnswer, CLine, Held, Lent};
 use crate::now;
 use crate::pair::Met;
 use crate::plant;
-use crate::report::{command_words, left, record_words, unaligned_words};
+use crate::report::{command_words, left, record_words, transfer_words, unaligned_words};
 use crate::sections::in_bytes;
 use crate::shrink::{Counts, Size};
 
 /// A single call: trace runs and U7's writer are left out. Of a write, the value
-/// that the second run writes.
+/// that the second run writes; of a transfer, the filling of its buffer there.
 #[derive(Clone, PartialEq, Eq)]
 enum Step {
     Fresh,
     Direct { command: Command, other: u64 },
     Unaligned { access: Unaligned, other: u64 },
+    Transfer { transfer: Transfer, other: u64 },
     View { address: u32 },
 }
 
@@ -68,6 +69,7 @@ enum Kind {
     Record,
     Value,
     Viewed,
+    Buffer,
     External,
     Sram,
     L1dLine,
@@ -170,10 +172,10 @@ fn some_step(rng: &mut Rng, lines: &Hot, differ: &Differ) -> Step {
         0 => Step::Fresh,
         1..=16 => Step::View { address: look_address(rng, lines) },
         _ => {
-            // A byte that is written is soon the same in both runs.
+            // A byte that is written, or comes in, is soon the same in both runs.
             let mix = match differ {
                 Differ::Data { .. } => Mix::ALL,
-                Differ::OneByte { .. } => Mix { write: 40, ..Mix::ALL },
+                Differ::OneByte { .. } => Mix { write: 40, transfer: 30, ..Mix::ALL },
             };
             let drawn = single(rng, lines, &mix);
             let other = match (drawn, differ) {
@@ -187,11 +189,15 @@ fn some_step(rng: &mut Rng, lines: &Hot, differ: &Differ) -> Step {
                     | Single::Unaligned(Unaligned::Write { value, .. }),
                     Differ::OneByte { .. },
                 ) => value,
+                (Single::Transfer(_), Differ::Data { .. }) => rng.next_u64(),
+                // "each in transfer's buffer being the same in both"
+                (Single::Transfer(transfer), Differ::OneByte { .. }) => transfer.filling,
                 _ => 0,
             };
             match drawn {
                 Single::Command(command) => Step::Direct { command, other },
                 Single::Unaligned(access) => Step::Unaligned { access, other },
+                Single::Transfer(transfer) => Step::Transfer { transfer, other },
             }
         }
     }
@@ -221,10 +227,12 @@ struct Run {
     ext: Vec<u8>,
 }
 
-/// What a call answered: number, server and value, and what a view shows.
+/// What a call answered: number, server and value, what a view shows, and what a transfer's
+/// buffer holds after it.
 struct Said {
     answer: CAnswer,
     seen: [u8; L1d::LINE as usize],
+    buffer: Vec<u8>,
 }
 
 impl Run {
@@ -243,6 +251,7 @@ impl Run {
 
     fn step(&mut self, step: &Step, second: bool) -> Said {
         let mut seen = [0; L1d::LINE as usize];
+        let mut held = Vec::new();
         let lent = Lent { l1d: &mut self.l1d, l2: &mut self.l2, ext: &mut self.ext };
         let answer = match step {
             Step::Fresh => boundary::fresh(&mut self.record, lent),
@@ -269,13 +278,23 @@ impl Run {
                 plant::steered_unaligned(&access, &mut answer, &self.ext);
                 answer
             }
+            Step::Transfer { transfer, other } => {
+                let filling = if second { *other } else { transfer.filling };
+                let transfer = Transfer { filling, ..*transfer };
+                let mut buffer = Buffer::of(&transfer);
+                let mut answer = boundary::transfer(&mut self.record, &transfer, &mut buffer, lent);
+                let bytes = buffer.bytes_mut();
+                plant::steered_transfer(&transfer, &mut answer, bytes, &self.ext);
+                held = buffer.bytes().to_vec();
+                answer
+            }
             Step::View { address } => {
                 let number = boundary::view(&self.record, *address, &self.l2, &self.ext, &mut seen);
                 plant::steered_view(*address, number, &mut seen, &self.ext);
                 CAnswer::refused(number)
             }
         };
-        Said { answer, seen }
+        Said { answer, seen, buffer: held }
     }
 }
 
@@ -325,6 +344,12 @@ fn compare(case: &Case, met: &mut Met, reached: &mut usize) -> Result<(), Wrong>
             met.two_runs.unaligned[usize::from(access.is_write())] += 1;
             let one_byte = matches!(case.differ, Differ::OneByte { .. });
             met.two_runs.unaligned_parted += u64::from(parted && one_byte);
+        }
+        if let (Step::Transfer { transfer, .. }, 0) = (step, said.answer.number) {
+            met.two_runs.transfers[usize::from(transfer.is_in())] += 1;
+            let one_byte = matches!(case.differ, Differ::OneByte { .. });
+            let parted = said.buffer != other_said.buffer;
+            met.two_runs.transfers_parted += u64::from(parted && one_byte);
         }
         match case.differ {
             Differ::Data { .. } => met.two_runs.data += 1,
@@ -380,7 +405,7 @@ fn differs(one: &[u8], other: &[u8], from: Option<u32>, x: u32) -> Option<usize>
 
 /// "in no byte of any answer ... that doesn't stand for that address": byte k of
 /// what a read of n bytes at a answers stands for a + k, for k below n; byte k of
-/// what a view of the line at a shows for a + k.
+/// what a view of the line at a shows, or of the buffer of a transfer at a, for a + k.
 fn same_answer_but(x: u32, step: &Step, said: &Said, other: &Said) -> Result<(), Wrong> {
     let (ours, theirs) = (said.answer.value.to_le_bytes(), other.answer.value.to_le_bytes());
     let (read, rest) = match *step {
@@ -399,8 +424,15 @@ fn same_answer_but(x: u32, step: &Step, said: &Said, other: &Said) -> Result<(),
     }
     let from = match *step {
         Step::View { address } => Some(address),
+        Step::Transfer { transfer, .. } => Some(transfer.address),
         _ => None,
     };
+    let moved = differs(&said.buffer, &other.buffer, from, x);
+    expect(Kind::Buffer, moved.is_none(), || {
+        let place = moved.unwrap_or_default();
+        let (ours, theirs) = (said.buffer[place], other.buffer[place]);
+        format!("byte {place} of the buffer is another: {ours:#04x} and {theirs:#04x}")
+    })?;
     let seen = differs(&said.seen, &other.seen, from, x);
     expect(Kind::Viewed, seen.is_none(), || {
         let place = seen.unwrap_or_default();
@@ -521,13 +553,14 @@ fn fewer_steps(found: &mut Found) {
     }
 }
 
-/// Lets writes have the same value in both runs.
+/// Lets writes have the same value, and transfers the same buffer, in both runs.
 fn same_values(found: &mut Found) {
     for place in 0..found.case.steps.len() {
         found.change(|case| {
             if let Some(
                 Step::Direct { command: Command::Write { value, .. }, other }
-                | Step::Unaligned { access: Unaligned::Write { value, .. }, other },
+                | Step::Unaligned { access: Unaligned::Write { value, .. }, other }
+                | Step::Transfer { transfer: Transfer { filling: value, .. }, other },
             ) = case.steps.get_mut(place)
             {
                 *other = *value;
@@ -595,6 +628,10 @@ fn words(found: &Found) -> String {
                     String::new()
                 };
                 format!("\n{place}: {words}{other}")
+            }
+            Step::Transfer { transfer, other } => {
+                let same = if *other == transfer.filling { "the same" } else { "another" };
+                format!("\n{place}: {}, in the other run {same}", transfer_words(transfer))
             }
             Step::Direct { command, other } => match command {
                 Command::Write { .. } => {

@@ -10,6 +10,7 @@ use crate::machine::{Events, Machine, Report, SERVER_NONE};
 use crate::modes::{change_freeze, change_mar, change_mode, holds_a_line_of};
 use crate::record::Record;
 use crate::trace::Command;
+use crate::transfers;
 use crate::unaligned::{carry_out_unaligned, Unaligned};
 use crate::wellformed::is_well_formed;
 
@@ -435,4 +436,74 @@ pub fn write_unaligned(
     value: u64,
 ) -> Reply {
     unaligned(record, l1d, l2, ext, &Unaligned::Write { size, address, value })
+}
+
+/// A transfer in (02, U1): checks 1 and 2, then the rest.
+pub fn transfer_in(
+    record: &mut Record,
+    l1d: &mut [u8],
+    l2: &mut [u8],
+    ext: &mut [u8],
+    address: u32,
+    buffer: &[u8],
+) -> Reply {
+    transfer_in_with_events(record, l1d, l2, ext, address, buffer).0
+}
+
+/// A transfer in, and what happened to lines in it.
+pub fn transfer_in_with_events(
+    record: &mut Record,
+    l1d: &mut [u8],
+    l2: &mut [u8],
+    ext: &mut [u8],
+    address: u32,
+    buffer: &[u8],
+) -> (Reply, Events) {
+    let number = check_lent_and_record(record, l1d.len(), l2.len(), ext.len());
+    if number != 0 {
+        return (Reply::refused(number), Events::default());
+    }
+    let mut machine = Machine::new(record, l1d, l2, ext);
+    let reply = transfers::carry_in(&mut machine, address, buffer);
+    (reply, machine.events)
+}
+
+/// A transfer out (02, U1): checks 1 and 2, then the rest.
+pub fn transfer_out(
+    record: &mut Record,
+    l1d: &mut [u8],
+    l2: &mut [u8],
+    ext: &mut [u8],
+    address: u32,
+    buffer: &mut [u8],
+) -> Reply {
+    transfer_out_with_events(record, l1d, l2, ext, address, buffer).0
+}
+
+/// A transfer out, and what happened to lines in it.
+pub fn transfer_out_with_events(
+    record: &mut Record,
+    l1d: &mut [u8],
+    l2: &mut [u8],
+    ext: &mut [u8],
+    address: u32,
+    buffer: &mut [u8],
+) -> (Reply, Events) {
+    let number = check_lent_and_record(record, l1d.len(), l2.len(), ext.len());
+    if number != 0 {
+        return (Reply::refused(number), Events::default());
+    }
+    let mut machine = Machine::new(record, l1d, l2, ext);
+    let reply = transfers::carry_out(&mut machine, address, buffer);
+    (reply, machine.events)
+}
+
+/// The number of a transfer in either direction by itself, for lengths that no buffer has: the
+/// three lengths are those of L1D, L2 and external memory.
+pub fn transfer_number(record: &Record, lent: [usize; 3], address: u32, length: usize) -> u8 {
+    let [l1d, l2, ext] = lent;
+    match check_lent_and_record(record, l1d, l2, ext) {
+        0 => transfers::check_transfer(record.sram_size(), record.e, address, length),
+        number => number,
+    }
 }

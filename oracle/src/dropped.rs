@@ -7,11 +7,12 @@
 
 use std::collections::{BTreeSet, HashMap, HashSet};
 
-use crate::calls::direct_with_events;
+use crate::calls::{direct_with_events, transfer_in_with_events, transfer_out_with_events};
 use crate::flat::Flat;
 use crate::gen::Setup;
-use crate::geometry::{external_offset, EXTERNAL_BASE};
-use crate::{Answer, Command, Unaligned};
+use crate::geometry::{external_offset, L1d, EXTERNAL_BASE};
+use crate::machine::Events;
+use crate::{Answer, Command, Record, Unaligned};
 
 /// A sentence of the request that a read does not keep to, from 1 to 3.
 #[derive(Clone, PartialEq, Eq, Debug)]
@@ -131,6 +132,44 @@ impl History {
             read.older += seen.older;
         }
         Ok(read)
+    }
+
+    /// A transfer in (02, U1) to SRAM, "external transfers left out"; or a refused one, which is
+    /// none. "a SRAM transfer in writes too", once the lines that it touches have gone home.
+    pub fn transfer_in(&mut self, address: u32, buffer: &[u8], answer: &Answer) {
+        let before = (self.chip.record.clone(), self.chip.l1d.clone());
+        let Setup { record, l1d, l2, ext } = &mut self.chip;
+        let (_, events) = transfer_in_with_events(record, l1d, l2, ext, address, buffer);
+        self.flat.transfer_in(address, buffer);
+        if answer.number != 0 {
+            return;
+        }
+        self.went_home(&before.0, &before.1, events);
+        for (address, &value) in (address..).zip(buffer) {
+            self.write(address, value);
+        }
+    }
+
+    /// A transfer out (02, U1) of SRAM, or a refused one: it is no read of the CPU, but sends the
+    /// lines that it touches home as well.
+    pub fn transfer_out(&mut self, address: u32, length: usize, answer: &Answer) {
+        let before = (self.chip.record.clone(), self.chip.l1d.clone());
+        let Setup { record, l1d, l2, ext } = &mut self.chip;
+        let mut buffer = vec![0; length];
+        let (_, events) = transfer_out_with_events(record, l1d, l2, ext, address, &mut buffer);
+        if answer.number == 0 {
+            self.went_home(&before.0, &before.1, events);
+        }
+    }
+
+    /// "a writeback last reached ... its SRAM byte" with what L1D held of it before: the bytes of
+    /// a transfer in stand there afterwards.
+    fn went_home(&mut self, record: &Record, l1d: &[u8], events: Events) {
+        for address in events.reached.into_iter().flatten() {
+            let (set, way) = record.find_l1d(address).expect("a line that went home was held");
+            let value = l1d[L1d::offset(set, way) + (address % L1d::LINE) as usize];
+            self.held.insert(address, BTreeSet::from([value]));
+        }
     }
 
     /// The values that this byte held since a writeback last reached it.

@@ -159,4 +159,54 @@ impl Flat {
             }
         }
     }
+
+    /// "SRAM transfers join the lists compared with flat memory, which moves the same bytes"
+    /// (02, U1), and so do some external ones. All the bytes of one at once; `Err` is the number
+    /// due: 4, 13, then 14, by this S.
+    fn transferred(&mut self, address: u32, length: usize) -> Result<&mut [u8], u8> {
+        // "4 (address not a multiple of 4)"
+        if address & 3 != 0 {
+            return Err(4);
+        }
+        // "13 for a length of 0, not a multiple of 4 or above 262,140": so many whole words.
+        let words = length / 4;
+        if words * 4 != length || !(1..=65_535).contains(&words) {
+            return Err(13);
+        }
+        // "14 for a transfer not wholly in SRAM or external memory."
+        let first = u64::from(address);
+        let (memory, offset) = match first.checked_sub(EXTERNAL_AT) {
+            Some(offset) => (&mut self.ext, offset as usize),
+            None => (&mut self.sram, first as usize),
+        };
+        memory.get_mut(offset..offset + length).ok_or(14)
+    }
+
+    /// The number of a transfer of this length, in either direction.
+    pub fn transfer_number(&mut self, address: u32, length: usize) -> u8 {
+        self.transferred(address, length).err().unwrap_or(0)
+    }
+
+    /// The number of a transfer in; with 0 the buffer's bytes stand at the address.
+    pub fn transfer_in(&mut self, address: u32, buffer: &[u8]) -> u8 {
+        match self.transferred(address, buffer.len()) {
+            Ok(stretch) => {
+                stretch.copy_from_slice(buffer);
+                0
+            }
+            Err(number) => number,
+        }
+    }
+
+    /// The number of a transfer out; with 0 the buffer holds the bytes at the address: "an out
+    /// transfer's buffer is compared too."
+    pub fn transfer_out(&mut self, address: u32, buffer: &mut [u8]) -> u8 {
+        match self.transferred(address, buffer.len()) {
+            Ok(stretch) => {
+                buffer.copy_from_slice(stretch);
+                0
+            }
+            Err(number) => number,
+        }
+    }
 }

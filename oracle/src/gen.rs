@@ -5,6 +5,7 @@ use crate::calls;
 use crate::geometry::{cache_size, mode_is_legal, sram_size, L1d, EXTERNAL_BASE, L1D_BYTES, L2};
 use crate::record::{Line, Record};
 use crate::trace::{run, Command, RunResult};
+use crate::transfers::{Direction, LONGEST_TRANSFER};
 use crate::unaligned::Unaligned;
 use crate::wellformed::Clause;
 use crate::{Answer, Reply};
@@ -181,11 +182,40 @@ impl Setup {
         calls::unaligned(&mut self.record, &mut self.l1d, &mut self.l2, &mut self.ext, access)
     }
 
+    /// A transfer in (02, U1).
+    pub fn transfer_in(&mut self, address: u32, buffer: &[u8]) -> Reply {
+        let Setup { record, l1d, l2, ext } = self;
+        calls::transfer_in(record, l1d, l2, ext, address, buffer)
+    }
+
+    /// A transfer out (02, U1).
+    pub fn transfer_out(&mut self, address: u32, buffer: &mut [u8]) -> Reply {
+        let Setup { record, l1d, l2, ext } = self;
+        calls::transfer_out(record, l1d, l2, ext, address, buffer)
+    }
+
+    /// A transfer that was drawn, and what its buffer holds afterwards: nothing where the length
+    /// is one that no buffer has, of which the number is asked alone.
+    pub fn transfer(&mut self, transfer: &Transfer) -> (Reply, Vec<u8>) {
+        let address = transfer.address;
+        let Some(mut buffer) = transfer.buffer() else {
+            let lent = [self.l1d.len(), self.l2.len(), self.ext.len()];
+            let number = calls::transfer_number(&self.record, lent, address, transfer.length);
+            return (Reply::refused(number), Vec::new());
+        };
+        let reply = match transfer.direction {
+            Direction::In => self.transfer_in(address, &buffer),
+            Direction::Out => self.transfer_out(address, &mut buffer),
+        };
+        (reply, buffer)
+    }
+
     /// Any single call.
     pub fn single(&mut self, single: &Single) -> Reply {
         match single {
             Single::Command(command) => self.reply(command),
             Single::Unaligned(access) => self.unaligned(access),
+            Single::Transfer(transfer) => self.transfer(transfer).0,
         }
     }
 
@@ -1234,7 +1264,8 @@ pub fn hot_for(rng: &mut Rng, record: &Record) -> Hot {
     hot
 }
 
-/// How often each kind of command comes up, in parts of the sum.
+/// How often each kind of command comes up, in parts of the sum, and beside them transfers, which
+/// no trace has.
 #[derive(Clone, Copy, Debug)]
 pub struct Mix {
     pub read: u32,
@@ -1248,6 +1279,7 @@ pub struct Mix {
     pub mode: u32,
     pub mar: u32,
     pub freeze: u32,
+    pub transfer: u32,
 }
 
 impl Mix {
@@ -1264,13 +1296,14 @@ impl Mix {
         mode: 15,
         mar: 40,
         freeze: 20,
+        transfer: 60,
     };
 
     /// Everything that flat memory agrees with: nothing is dropped unwritten.
     pub const NO_DROPS: Mix =
         Mix { l2_block_invalidate: 0, l1d_block_invalidate: 0, l1d_invalidate_all: 0, ..Mix::ALL };
 
-    /// The sum of the parts.
+    /// The sum of the commands' parts.
     fn sum(&self) -> u32 {
         self.read
             + self.write
@@ -1356,16 +1389,52 @@ pub fn command(rng: &mut Rng, hot: &Hot, mix: &Mix) -> Command {
     }
 }
 
-/// A single call: a command that a trace could hold as well, or an access that none can
-/// (02, U6).
+/// A transfer that is drawn (02, U1): its direction, where it goes, and the length of its buffer,
+/// whose bytes before it are drawn from the filling; with 0 they are 0.
+#[derive(Clone, Copy, PartialEq, Eq, Debug)]
+pub struct Transfer {
+    pub direction: Direction,
+    pub address: u32,
+    pub length: usize,
+    pub filling: u64,
+}
+
+/// No buffer is made that is longer: such a transfer is refused, and nothing of it is looked at.
+pub const LONGEST_BUFFER: usize = 1 << 20;
+
+impl Transfer {
+    pub fn is_in(&self) -> bool {
+        self.direction == Direction::In
+    }
+
+    /// The buffer before the transfer, if there is one of this length.
+    pub fn buffer(&self) -> Option<Vec<u8>> {
+        if self.length > LONGEST_BUFFER {
+            return None;
+        }
+        let mut bytes = vec![0; self.length];
+        if self.filling != 0 {
+            Rng::new(self.filling).fill(&mut bytes);
+        }
+        Some(bytes)
+    }
+}
+
+/// A single call: a command that a trace could hold as well, or an access or a transfer that none
+/// can (02, U6 and U1).
 #[derive(Clone, Copy, PartialEq, Eq, Debug)]
 pub enum Single {
     Command(Command),
     Unaligned(Unaligned),
+    Transfer(Transfer),
 }
 
-/// A random single call: a command, but of the accesses one in six is a non-aligned one.
+/// A random single call: a transfer, or a command, but of the accesses one in six is a
+/// non-aligned one.
 pub fn single(rng: &mut Rng, hot: &Hot, mix: &Mix) -> Single {
+    if rng.below(mix.sum() + mix.transfer) < mix.transfer {
+        return Single::Transfer(transfer(rng, hot));
+    }
     let drawn = command(rng, hot, mix);
     let is_write = match drawn {
         Command::Read { .. } => false,
@@ -1376,6 +1445,137 @@ pub fn single(rng: &mut Rng, hot: &Hot, mix: &Mix) -> Single {
         return Single::Command(drawn);
     }
     Single::Unaligned(unaligned_access(rng, hot, is_write))
+}
+
+/// A random transfer; most of them pass the checks, and most touch a few hot lines.
+pub fn transfer(rng: &mut Rng, hot: &Hot) -> Transfer {
+    let direction = rng.pick(&[Direction::In, Direction::Out]);
+    let length = transfer_length(rng);
+    let address = transfer_address(rng, hot, length.min(LONGEST_TRANSFER) as u32);
+    Transfer { direction, address, length, filling: rng.next_u64() }
+}
+
+/// A length: mostly that of a few lines or less, seldom one at an edge, or one that no buffer has.
+fn transfer_length(rng: &mut Rng) -> usize {
+    let words = match rng.below(64) {
+        0 => return 0,
+        1 | 2 => return 1 + rng.below(8) as usize,
+        // 262,140 is the longest.
+        3 => return LONGEST_TRANSFER - 4 + rng.pick(&[0, 1, 2, 4, 4, 5, 7, 8, 8, 12]),
+        4 => return huge_length(rng),
+        5 => return 4 * rng.below(256) as usize + 1 + rng.below(3) as usize,
+        6 => 1 + rng.below(65_535),
+        7..=10 => 1 + rng.below(2_048),
+        11..=30 => 32 * (1 + rng.below(8)),
+        31..=42 => 16 * (1 + rng.below(8)),
+        _ => 1 + rng.below(64),
+    };
+    4 * words as usize
+}
+
+/// A length far above the longest, also one that is short in its last 16 or 32 bits.
+pub fn huge_length(rng: &mut Rng) -> usize {
+    let short = 4 * (1 + rng.below(64) as usize);
+    rng.pick(&[
+        usize::MAX,
+        usize::MAX - 3,
+        1 << 63,
+        (1 << 63) - 4,
+        (1 << 32) + short,
+        1 << 32,
+        (1 << 31) + short,
+        LONGEST_BUFFER + short,
+        (1 << 19) + short,
+    ])
+}
+
+/// Where so many bytes go: mostly from a hot line on, or from the words around its beginning;
+/// seldom so that they end with a memory or just behind it, or anywhere.
+fn transfer_address(rng: &mut Rng, hot: &Hot, length: u32) -> u32 {
+    let line = rng.pick(&hot.lines);
+    // One word less, none or one more than what ends there.
+    let mut back = || length.wrapping_sub(4).wrapping_add(4 * rng.below(3));
+    let at_sram_end = sram_size(hot.l, 0).wrapping_sub(back());
+    let at_external_end = EXTERNAL_BASE.wrapping_add(hot.e).wrapping_sub(back());
+    let address = match rng.below(40) {
+        0 => rng.next_u32(),
+        1 => u32::MAX - rng.below(2 * length + 4),
+        2 => EXTERNAL_BASE.wrapping_sub(4 * rng.below(length / 4 + 2)),
+        3 | 4 => at_external_end,
+        5 => at_sram_end,
+        6 | 7 => at_sram_end.wrapping_sub(hot.l - sram_size(hot.l, rng.pick(&LEGAL_MODES))),
+        8 => EXTERNAL_BASE + rng.below(hot.e),
+        9 => rng.below(hot.l),
+        10..=17 => line - line % L2::LINE,
+        18..=25 => line,
+        _ => line.wrapping_add(4 * rng.below(32)).wrapping_sub(L1d::LINE),
+    };
+    if rng.chance(1, 32) {
+        address.wrapping_add(rng.below(4))
+    } else {
+        address - address % 4
+    }
+}
+
+/// A frame, as the camera's EDMA and the CPU share a place of a few lines of external memory: the
+/// CPU reads and writes there, both block writeback-invalidates go over the place, whole or in two
+/// parts, in any order, a transfer moves some lines of it, and the CPU reads it again. Now and then
+/// one of the commands is left out, or the CPU comes back in between: then not all is covered.
+pub fn frame(rng: &mut Rng, hot: &Hot) -> Vec<Single> {
+    let external: Vec<u32> =
+        hot.lines.iter().copied().filter(|&line| line >= EXTERNAL_BASE).collect();
+    let line = if external.is_empty() { EXTERNAL_BASE } else { rng.pick(&external) };
+    let lines = (hot.e / L2::LINE).min(8);
+    let lines = 1 + rng.below(lines);
+    let end = EXTERNAL_BASE + hot.e;
+    let place = (line - line % L2::LINE).min(end - lines * L2::LINE);
+    let bytes = lines * L2::LINE;
+    let access = |rng: &mut Rng| {
+        let size = rng.pick(&[1, 2, 4, 8]);
+        let address = place + rng.below(bytes / size) * size;
+        if rng.chance(1, 2) {
+            Command::Read { size, address }
+        } else {
+            Command::Write { size, address, value: rng.next_u64() >> (64 - 8 * size) }
+        }
+    };
+    let mut calls = Vec::new();
+    for _ in 0..rng.below(8) {
+        calls.push(access(rng));
+    }
+    let mut covering = Vec::new();
+    let part = 4 * rng.below(bytes / 4);
+    let parts = if rng.chance(2, 3) {
+        vec![(place, bytes)]
+    } else {
+        vec![(place, part), (place + part, bytes - part)]
+    };
+    for (base, bytes) in parts {
+        let count = bytes / 4;
+        covering.push(Command::L2BlockWritebackInvalidate { base, count });
+        covering.push(Command::L1dBlockWritebackInvalidate { base, count });
+    }
+    for place in (1..covering.len()).rev() {
+        covering.swap(place, rng.below(place as u32 + 1) as usize);
+    }
+    if rng.chance(1, 8) {
+        covering.pop();
+    }
+    calls.extend(covering);
+    if rng.chance(1, 8) {
+        calls.push(access(rng));
+    }
+    let mut calls: Vec<Single> = calls.into_iter().map(Single::Command).collect();
+    let first = rng.below(lines);
+    let length = (L2::LINE * (1 + rng.below(lines - first))) as usize;
+    let direction = rng.pick(&[Direction::In, Direction::In, Direction::Out]);
+    let (address, filling) = (place + first * L2::LINE, rng.next_u64());
+    calls.push(Single::Transfer(Transfer { direction, address, length, filling }));
+    for _ in 0..1 + rng.below(4) {
+        let (size, address) = (4, place + 4 * rng.below(bytes / 4));
+        calls.push(Single::Command(Command::Read { size, address }));
+    }
+    calls
 }
 
 /// A random non-aligned access; most of them pass the checks. One in four goes from one
@@ -1497,6 +1697,7 @@ pub enum Call {
     FreshStart,
     Direct(Command),
     Unaligned(Unaligned),
+    Transfer(Transfer),
     Run { trace: Vec<u8>, answer_bytes: usize },
     Look { address: u32 },
 }
@@ -1520,6 +1721,7 @@ pub fn call(rng: &mut Rng, hot: &Hot, mix: &Mix) -> Call {
         _ => match single(rng, hot, mix) {
             Single::Command(command) => Call::Direct(command),
             Single::Unaligned(access) => Call::Unaligned(access),
+            Single::Transfer(transfer) => Call::Transfer(transfer),
         },
     }
 }

@@ -5,6 +5,7 @@
 use oracle::calls::direct_with_events;
 use oracle::dropped::{History, Read};
 use oracle::gen::{hot, single, Mix, Rng, Setup, Single, LEGAL_L};
+use oracle::geometry::EXTERNAL_BASE;
 use oracle::machine::Events;
 use oracle::Command;
 
@@ -173,11 +174,79 @@ fn an_older_value_comes_back() {
     }
 }
 
+/// "a SRAM transfer in writes too" (02, U1), and what it touches goes home first: a drop then
+/// brings no older value back than that.
+#[test]
+fn a_transfer_writes() {
+    for value in 0..=255 {
+        let mut setup = Setup::fresh(65_536, 128);
+        let mut history = History::fresh(&setup);
+        let mut made = |command: Command, setup: &mut Setup| {
+            let answer = setup.call(&command);
+            history.call(&command, &answer)
+        };
+        // 5 is dirty in L1D, with the byte behind it; 0 stands in SRAM.
+        made(Command::Read { size: 1, address: 64 }, &mut setup).unwrap();
+        made(Command::Write { size: 1, address: 64, value: 5 }, &mut setup).unwrap();
+        made(Command::Write { size: 1, address: 68, value: 6 }, &mut setup).unwrap();
+        let answer = setup.transfer_in(64, &[7, 0, 0, 0]).answer;
+        assert_eq!(answer.number, 0);
+        history.transfer_in(64, &[7, 0, 0, 0], &answer);
+        assert_eq!((setup.l2[64], setup.l2[68], setup.l1d_line(64)), (7, 6, None));
+        // The byte beside the transfer has reached its memory, and is the only one it held.
+        assert!(history.held[&68].iter().eq(&[6]));
+        // 7 in L1D becomes 8 there, and is dropped.
+        let mut made = |command: Command, setup: &mut Setup| {
+            let answer = setup.call(&command);
+            history.call(&command, &answer)
+        };
+        made(Command::Read { size: 1, address: 64 }, &mut setup).unwrap();
+        made(Command::Write { size: 1, address: 64, value: 8 }, &mut setup).unwrap();
+        made(Command::L1dInvalidateAll, &mut setup).unwrap();
+        let last = Command::Read { size: 1, address: 64 };
+        let answer = setup.call(&last);
+        assert_eq!(answer.value, 7);
+        let seen = history.call(&last, &oracle::Answer { value, ..answer });
+        match value {
+            // 5 went home with the line, 7 came, and 8 was written.
+            5 | 7 => assert_eq!(seen, Ok(Read { bytes: 1, older: 1 })),
+            8 => assert_eq!(seen, Ok(Read { bytes: 1, older: 0 })),
+            _ => assert_eq!(seen.unwrap_err().sentence, 1),
+        }
+    }
+}
+
+/// A transfer out sends lines home too, and a refused one nothing.
+#[test]
+fn a_transfer_out_sends_lines_home() {
+    let mut setup = Setup::fresh(65_536, 128);
+    let mut history = History::fresh(&setup);
+    for command in [
+        Command::Read { size: 1, address: 64 },
+        Command::Write { size: 1, address: 64, value: 5 },
+        Command::Write { size: 1, address: 64, value: 6 },
+    ] {
+        let answer = setup.call(&command);
+        history.call(&command, &answer).unwrap();
+    }
+    assert!(history.held[&64].iter().eq(&[0, 5, 6]));
+    for (length, number) in [(0, 13), (4, 0)] {
+        let mut buffer = vec![1; length];
+        let answer = setup.transfer_out(64, &mut buffer).answer;
+        assert_eq!(answer.number, number);
+        history.transfer_out(64, length, &answer);
+        let held: &[u8] = if number == 0 { &[6] } else { &[0, 5, 6] };
+        assert!(history.held[&64].iter().eq(held));
+        assert_eq!(buffer, [6, 0, 0, 0][..length]);
+    }
+    assert!(history.dropped.is_empty());
+}
+
 /// The sentences hold along lists with drops, and older values are met.
 #[test]
 fn lists_with_drops_keep_to_the_sentences() {
     let mix = Mix { l2_block_invalidate: 40, l1d_block_invalidate: 40, mode: 5, ..Mix::ALL };
-    let (mut met, mut unaligned) = (Read::default(), Read::default());
+    let (mut met, mut unaligned, mut transfers) = (Read::default(), Read::default(), [0; 2]);
     for (number, l) in LEGAL_L.into_iter().enumerate() {
         let mut rng = Rng::new(4_000 + number as u64);
         let e = [8_192, 65_536, 6 * 65_536][number % 3];
@@ -188,10 +257,28 @@ fn lists_with_drops_keep_to_the_sentences() {
         let lines = hot(&mut rng, l, e);
         for turn in 0..6_000 {
             let call = single(&mut rng, &lines, &mix);
+            if let Single::Transfer(transfer) = call {
+                // "external transfers left out"
+                let (address, length) = (transfer.address, transfer.length);
+                let number = history.flat.transfer_number(address, length);
+                if number == 0 && address < EXTERNAL_BASE {
+                    let answer = setup.transfer(&transfer).0.answer;
+                    assert_eq!(answer.number, 0);
+                    match transfer.buffer() {
+                        Some(buffer) if transfer.is_in() => {
+                            history.transfer_in(address, &buffer, &answer);
+                        }
+                        _ => history.transfer_out(address, length, &answer),
+                    }
+                    transfers[usize::from(transfer.is_in())] += 1;
+                }
+                continue;
+            }
             let answer = setup.single(&call).answer;
             let seen = match &call {
                 Single::Command(command) => history.call(command, &answer),
                 Single::Unaligned(access) => history.unaligned(access, &answer),
+                Single::Transfer(_) => unreachable!(),
             };
             match seen {
                 Ok(read) => {
@@ -208,4 +295,5 @@ fn lists_with_drops_keep_to_the_sentences() {
     }
     assert!(met.bytes > 50_000 && met.older > 500, "{met:?}");
     assert!(unaligned.bytes > 5_000 && unaligned.older > 50, "{unaligned:?}");
+    assert!(transfers.iter().all(|&count| count > 100), "{transfers:?}");
 }

@@ -1,10 +1,12 @@
 //! Long lists of calls from fresh agree with the flat memory of the paper, and
 //! every accepted call keeps the record well formed.
 
+use oracle::covered::Covered;
 use oracle::flat::Flat;
-use oracle::gen::{hot, single, Mix, Rng, Setup, Single, E_BOTH_RANGES, LEGAL_L};
+use oracle::gen::{frame, hot, single, Mix, Rng, Setup, Single, Transfer, E_BOTH_RANGES, LEGAL_L};
+use oracle::geometry::EXTERNAL_BASE;
 use oracle::wellformed::broken_clauses;
-use oracle::{Command, Line};
+use oracle::{Command, Direction, Line};
 
 /// What a list met, to see that it was worth running.
 #[derive(Default, Debug)]
@@ -20,6 +22,60 @@ struct Met {
     /// Non-aligned accesses by the number, and accepted ones of a frozen L1D.
     unaligned: [u32; 7],
     unaligned_frozen: u32,
+    transfers: Transfers,
+}
+
+/// What transfers a list met, out and in.
+#[derive(Default, Debug)]
+struct Transfers {
+    numbers: [u32; 15],
+    sram: [u32; 2],
+    /// Those of SRAM before which L1D held a dirty line that they touch.
+    dirty: [u32; 2],
+    /// External ones, those of a place that the CPU had accessed, and those that do not join.
+    external: [u32; 2],
+    covered: [u32; 2],
+    left_out: u32,
+}
+
+/// A transfer of a list. "SRAM transfers join the lists compared with flat memory, which moves the
+/// same bytes; an out transfer's buffer is compared too. External ones join where" they are
+/// covered. The others are made only where lines are dropped, since no value is compared then.
+fn run_transfer(
+    setup: &mut Setup,
+    flat: &mut Flat,
+    covered: &Covered,
+    drops: bool,
+    transfer: &Transfer,
+    met: &mut Transfers,
+) {
+    let Transfer { direction, address, length, .. } = *transfer;
+    let number = flat.transfer_number(address, length);
+    let joins = number != 0 || covered.joins(address, length);
+    if !joins && !drops {
+        met.left_out += 1;
+        return;
+    }
+    let by = usize::from(transfer.is_in());
+    if number == 0 && address < EXTERNAL_BASE {
+        let lines = setup.record.l1d.iter().flat_map(|set| set.lines);
+        let end = address + length as u32;
+        let mut touched = lines.filter(|line| line.address < end && address < line.address + 64);
+        met.sram[by] += 1;
+        met.dirty[by] += u32::from(touched.any(|line| line.dirty));
+    } else if number == 0 {
+        met.external[by] += 1;
+        met.covered[by] += u32::from(joins && covered.was_accessed(address, length));
+    }
+    let (reply, buffer) = setup.transfer(transfer);
+    assert_eq!(reply.answer.number, number, "{transfer:x?}");
+    met.numbers[usize::from(number)] += 1;
+    let Some(mut theirs) = transfer.buffer() else { return };
+    match direction {
+        Direction::In => assert_eq!(flat.transfer_in(address, &theirs), number),
+        Direction::Out => assert_eq!(flat.transfer_out(address, &mut theirs), number),
+    }
+    assert!(drops || buffer == theirs, "{transfer:x?}");
 }
 
 /// "After a global writeback, external memory and SRAM are now flat memory's in
@@ -40,18 +96,34 @@ fn run_list(seed: u64, l: u32, e: u32, calls: u32, mix: &Mix, met: &mut Met) {
     let mut ext = vec![0; e as usize];
     rng.fill(&mut ext);
     let mut flat = Flat::fresh(l, &ext);
+    let mut covered = Covered::fresh(e);
     let mut setup = Setup::fresh_over(l, ext);
     let drops = mix.l2_block_invalidate + mix.l1d_block_invalidate + mix.l1d_invalidate_all > 0;
     let mut lines = hot(&mut rng, l, e);
+    let mut drawn = Vec::new();
     for turn in 0..calls {
         if rng.chance(1, 1_000) {
             lines = hot(&mut rng, l, e);
         }
-        let command = match single(&mut rng, &lines, mix) {
+        if drawn.is_empty() {
+            drawn = if rng.chance(1, 60) {
+                frame(&mut rng, &lines)
+            } else {
+                vec![single(&mut rng, &lines, mix)]
+            };
+            drawn.reverse();
+        }
+        let command = match drawn.pop().expect("drawn just now") {
             Single::Command(command) => command,
+            Single::Transfer(transfer) => {
+                let met = &mut met.transfers;
+                run_transfer(&mut setup, &mut flat, &covered, drops, &transfer, met);
+                continue;
+            }
             // "Lists with these accesses keep agreeing with flat memory." (02, U6)
             Single::Unaligned(access) => {
                 let answer = setup.unaligned(&access).answer;
+                covered.unaligned(&access, answer.number == 0);
                 let (number, value) = flat.apply_unaligned(&access);
                 assert_eq!(answer.number, number, "{seed} {turn} {access:x?}");
                 if !drops {
@@ -63,6 +135,7 @@ fn run_list(seed: u64, l: u32, e: u32, calls: u32, mix: &Mix, met: &mut Met) {
             }
         };
         let answer = setup.call(&command);
+        covered.command(&command, answer.number == 0);
         met.numbers[answer.number as usize] += 1;
         met.servers[answer.server as usize] += 1;
         if answer.number != 0 {
@@ -161,6 +234,11 @@ fn check_met(met: &Met) {
     }
     assert!([0, 3, 5, 6].iter().all(|&number| met.unaligned[number] > 20), "{met:?}");
     assert!(met.unaligned[4] == 0 && met.unaligned_frozen > 500, "{met:?}");
+    let transfers = &met.transfers;
+    assert!([0, 4, 13, 14].iter().all(|&number| transfers.numbers[number] > 20), "{met:?}");
+    let pairs = [transfers.sram, transfers.dirty, transfers.external, transfers.covered];
+    assert!(pairs.iter().flatten().all(|&count| count > 50), "{met:?}");
+    assert!(transfers.left_out > 500, "{met:?}");
     for mode in [0, 1, 2, 3, 7] {
         assert!(met.modes[mode] > 500, "{met:?}");
         assert!(met.settled[mode] > 2, "{met:?}");

@@ -127,13 +127,58 @@ fn unaligned_accesses() {
     assert_eq!(flat.apply_unaligned(&read(4, 0)), (5, 0));
 }
 
-/// The module names nothing of the machine but the commands and accesses.
+/// "which moves the same bytes" (02, U1): those of a transfer, and no others, in both directions.
+#[test]
+fn transfers() {
+    let mut flat = Flat::fresh(32_768, &[9; 512]);
+    assert_eq!(flat.transfer_in(EXT + 4, &[1, 2, 3, 4, 5, 6, 7, 8]), 0);
+    assert_eq!(flat.ext[..14], [9, 9, 9, 9, 1, 2, 3, 4, 5, 6, 7, 8, 9, 9]);
+    assert_eq!(flat.transfer_in(32_764, &[1, 2, 3, 4]), 0);
+    assert_eq!(flat.sram[32_762..], [0, 0, 1, 2, 3, 4]);
+    let mut buffer = [7; 8];
+    assert_eq!(flat.transfer_out(EXT + 8, &mut buffer), 0);
+    assert_eq!(buffer, [5, 6, 7, 8, 9, 9, 9, 9]);
+    assert_eq!(flat.transfer_out(32_760, &mut buffer), 0);
+    assert_eq!(buffer, [0, 0, 0, 0, 1, 2, 3, 4]);
+    // 4, then 13, then 14, with nothing moved.
+    let before = flat.clone();
+    for (address, length, number) in [
+        (EXT + 2, 0, 4),
+        (EXT + 1, 262_144, 4),
+        (EXT + 512, 0, 13),
+        (32_768, 6, 13),
+        (EXT, 262_144, 13),
+        (EXT, usize::MAX, 13),
+        (EXT, 262_140, 14),
+        (EXT + 508, 8, 14),
+        (32_764, 8, 14),
+        (EXT - 4, 8, 14),
+        (0xFFFF_FFFC, 8, 14),
+        (EXT + 508, 4, 0),
+        (32_764, 4, 0),
+    ] {
+        assert_eq!(flat.transfer_number(address, length), number, "{address:x} {length}");
+        if number != 0 && length <= 262_144 {
+            let mut buffer = vec![7; length];
+            assert_eq!(flat.transfer_in(address, &buffer), number);
+            assert_eq!(flat.transfer_out(address, &mut buffer), number);
+            assert!(buffer.iter().all(|&byte| byte == 7));
+        }
+    }
+    assert_eq!(flat, before);
+    // By its own S: none is left.
+    flat.change_mode(1);
+    assert_eq!(flat.transfer_number(0, 4), 14);
+}
+
+/// The modules name nothing of the machine but the commands and accesses.
 #[test]
 fn shares_no_function_with_the_machine() {
-    let text = include_str!("../src/flat.rs");
-    let uses: Vec<&str> = text.lines().filter(|line| line.contains("crate::")).collect();
-    assert_eq!(uses, ["use crate::trace::Command;", "use crate::unaligned::Unaligned;"]);
-    assert!(!["super::", ".size()", ".address()", ".value()"]
-        .iter()
-        .any(|word| text.contains(word)));
+    for text in [include_str!("../src/flat.rs"), include_str!("../src/covered.rs")] {
+        let uses: Vec<&str> = text.lines().filter(|line| line.contains("crate::")).collect();
+        assert_eq!(uses, ["use crate::trace::Command;", "use crate::unaligned::Unaligned;"]);
+        assert!(!["super::", ".size()", ".address()", ".value()"]
+            .iter()
+            .any(|word| text.contains(word)));
+    }
 }

@@ -156,6 +156,14 @@ fn nothing_panics_whatever_the_content() {
                     let answer = setup.unaligned(&access).answer;
                     assert!(well_formed || answer.number == 1 || answer.number == 2);
                 }
+                Call::Transfer(transfer) => {
+                    let (reply, buffer) = setup.transfer(&transfer);
+                    let number = reply.answer.number;
+                    assert!(well_formed || number == 1 || number == 2);
+                    if number != 0 || transfer.is_in() {
+                        assert_eq!(buffer, transfer.buffer().unwrap_or_default());
+                    }
+                }
                 Call::Run { trace, answer_bytes } => {
                     let result = setup.run(&trace, &mut vec![0; answer_bytes]);
                     assert!(well_formed || result.stop == 1 || result.stop == 2);

@@ -4,7 +4,9 @@
 //! afterwards in no byte of any answer, of external memory, of SRAM or of a valid
 //! line that doesn't stand for that address."
 
-use oracle::gen::{hot_for, l_for, look_address, single, Mix, Rng, Setup, Single, LEGAL_MODES};
+use oracle::gen::{
+    hot_for, l_for, look_address, single, Mix, Rng, Setup, Single, Transfer, LEGAL_MODES,
+};
 use oracle::geometry::{L1d, EXTERNAL_BASE, L2};
 use oracle::{Command, Line, Reply, Unaligned};
 
@@ -29,6 +31,7 @@ fn other_value(rng: &mut Rng, size: u32, value: u64) -> u64 {
 #[test]
 fn data_steers_nothing() {
     let mut rng = Rng::new(8);
+    let mut transferred = 0;
     for turn in 0..60 {
         let mut one = setup(&mut rng, LEGAL_MODES[turn % LEGAL_MODES.len()]);
         let mut other = one.clone();
@@ -47,6 +50,11 @@ fn data_steers_nothing() {
                     let value = other_value(&mut rng, size, value);
                     Single::Unaligned(Unaligned::Write { size, address, value })
                 }
+                // A buffer holds data too (02, U1), before a transfer in either direction.
+                Single::Transfer(transfer) => {
+                    transferred += u32::from(one.clone().transfer(&transfer).0.answer.number == 0);
+                    Single::Transfer(Transfer { filling: rng.next_u64(), ..transfer })
+                }
                 same => same,
             };
             let (ours, theirs) = (one.single(&first), other.single(&second));
@@ -57,13 +65,15 @@ fn data_steers_nothing() {
             assert_eq!(one.look_number(address), other.look_number(address));
         }
     }
+    assert!(transferred > 200, "{transferred}");
 }
 
 /// Every place of the two differs at address x alone, the first standing for `from`.
 fn same_but(x: u32, from: u32, ours: &[u8], theirs: &[u8]) {
     assert_eq!(ours.len(), theirs.len());
     for (place, (ours, theirs)) in ours.iter().zip(theirs).enumerate() {
-        assert!(ours == theirs || from + place as u32 == x, "byte {place} from {from:#x} on");
+        let at = u64::from(from) + place as u64;
+        assert!(ours == theirs || at == u64::from(x), "byte {place} from {from:#x} on");
     }
 }
 
@@ -93,10 +103,10 @@ fn same_lines_but(x: u32, one: &Setup, other: &Setup) {
 #[test]
 fn one_byte_stays_at_its_address() {
     let mut rng = Rng::new(80);
-    // A byte that is written is soon the same in both.
-    let mix = Mix { write: 40, ..Mix::ALL };
-    let mut parted = 0;
-    for turn in 0..60 {
+    // A byte that is written, by the CPU or by a transfer in, is soon the same in both.
+    let mix = Mix { write: 40, transfer: 20, ..Mix::ALL };
+    let (mut parted, mut buffers) = (0, 0);
+    for turn in 0..150 {
         let mut one = setup(&mut rng, LEGAL_MODES[turn % LEGAL_MODES.len()]);
         let mut lines = hot_for(&mut rng, &one.record);
         let offset = rng.below(one.record.e) as usize;
@@ -106,6 +116,18 @@ fn one_byte_stays_at_its_address() {
         other.ext[offset] ^= 1 + rng.below(255) as u8;
         for _ in 0..200 {
             let call = single(&mut rng, &lines, &mix);
+            if let Single::Transfer(transfer) = call {
+                // "each in transfer's buffer being the same in both"; that of one out is an answer.
+                let ((ours, out), (theirs, other_out)) =
+                    (one.transfer(&transfer), other.transfer(&transfer));
+                assert_eq!(ours, theirs, "{call:?}");
+                buffers += u32::from(out != other_out);
+                same_but(x, transfer.address, &out, &other_out);
+                assert!(one.record == other.record, "{call:?}");
+                same_but(x, EXTERNAL_BASE, &one.ext, &other.ext);
+                same_lines_but(x, &one, &other);
+                continue;
+            }
             let (ours, theirs) = (one.single(&call).answer, other.single(&call).answer);
             parted += u32::from(ours.value != theirs.value);
             let (at, size) = match call {
@@ -126,4 +148,5 @@ fn one_byte_stays_at_its_address() {
         }
     }
     assert!(parted > 100, "the byte was hardly seen: {parted}");
+    assert!(buffers > 10, "a transfer hardly saw it: {buffers}");
 }
