@@ -16,8 +16,8 @@ use lib.Dec.{ltb, eqb}
 use Rattle.model.specs.Basics.{each}
 use Rattle.model.specs.Bytes.{part}
 use Rattle.model.specs.Memories.{externalBase}
-use Rattle.model.specs.Lines.{l1dSetOf, l1dData, l1dLine, l2Line, upperHalf, lineOf, emptyLine, l1dPut, l2Put, l1dUse, l2Use}
-use Rattle.model.specs.Records.{State, noL1dSet, noL2Set, l1dSetAt, l2SetAt, l1dLineAt, l2LineAt, l2SetsOf, l2SetOf, mode0, withL1dSet, withL2Set, withL1dLine, withL2Line, freshL1dSets, freshL2Sets}
+use Rattle.model.specs.Lines.{l1dSetOf, l1dData, l1dLine, l2Line, upperHalf, lineOf, emptyLine, l1dUse, l2Use}
+use Rattle.model.specs.Records.{State, l1dSetAt, l2SetAt, l1dLineAt, l2LineAt, l2SetsOf, l2SetOf, mode0, withL1dSet, withL2Set, withL1dLine, withL2Line, freshL1dSets, freshL2Sets}
 use Rattle.model.specs.Ways.{l1dVictim, l1dWay, l2Way, inL1d, inL2, useL1d, useL2, emptyL1d, emptyL2}
 use Rattle.model.specs.Homes.{homeIsL2, putMemory, putL2, putHome, takeHalf, takeHalves, writeOutL2, writebackL2, evictL2, fillL2, l2WayFor, fetchL2, memoryPart}
 use Rattle.model.specs.Access.{Access, access, cacheable, useHit, readHit, writebackL1d, evictL1d, fillL1d, readFilled, readEmptied, readThawed, readFrozen, readMiss, readAccess, putL1d, writeHit, writeHome, writeMiss, writeAccess}
@@ -30,7 +30,7 @@ use Rattle.model.specs.Laws.{cond-elim}
 use Rattle.model.specs.declared.Command.{Command}
 use Rattle.model.specs.declared.Line.{Line}
 use Rattle.model.specs.declared.Record.{Record}
-use Rattle.agreement.proofs.Tables.{set-cases}
+use Rattle.agreement.proofs.Tables.{Store, l1dStore, l2Store, setIn, lineIn, withLine, set-cases, line-used}
 use Rattle.agreement.proofs.Sweeps.{each-by}
 use Rattle.agreement.proofs.Changes.{fresh-l1d-empty, fresh-l2-empty}
 
@@ -263,35 +263,32 @@ NoL1d l r = (s w : ℕ) → l1dLineAt r s w .address ≢ l
 abbrev pub NoL2 : ℕ → Record → Type 0
 NoL2 l r = (t v : ℕ) → l2LineAt r t v .address ≢ l
 
--- a line that is put into a way: each way has it, or what it had
+-- a line that is put into a way of either cache: each way has it, or what it had, whatever the lengths of the arrays
+module _ (k : Store) (l : ℕ) (xs : List (k .OneSet)) (s w : ℕ) (none : (s′ w′ : ℕ) → lineIn k xs s′ w′ .address ≢ l) where
+  put-none : (x : Line) → x .address ≢ l → (s′ w′ : ℕ) → lineIn k (withLine k xs s w x) s′ w′ .address ≢ l
+  put-none x n s′ w′ =
+      ⊎-elim
+      (λ e. let e₁ = e .1 in let p = k .put-lines (setIn k xs s) w x in
+      rw (e₁, p) (⊎-elim (λ g. let g₁ = g .1 in rw g₁ n) (λ g. rw g (none s w′)) (set-cases (k .lines (setIn k xs s)) w w′ x emptyLine)))
+      (λ e. rw e (none s′ w′))
+      (set-cases xs s s′ (k .put (setIn k xs s) w x) (k .none))
+
 put-l1d : (l : ℕ) (r : Record) (s w : ℕ) (x : Line) → x .address ≢ l → NoL1d l r → NoL1d l (withL1dLine r s w x)
-unfolding withL1dLine l1dPut
-put-l1d l r s w x n p s′ w′ =
-    ⊎-elim
-    (λ e. let e₁ = e .1 in
-    rw e₁ (⊎-elim (λ g. let g₁ = g .1 in rw g₁ n) (λ g. rw g (p s w′)) (set-cases (l1dSetAt r s .lines) w w′ x emptyLine)))
-    (λ e. rw e (p s′ w′))
-    (set-cases (r .l1d) s s′ (l1dPut (l1dSetAt r s) w x) noL1dSet)
+unfolding withL1dLine
+put-l1d l r s w x n p = put-none l1dStore l (r .l1d) s w p x n
 
 put-l2 : (l : ℕ) (r : Record) (t v : ℕ) (x : Line) → x .address ≢ l → NoL2 l r → NoL2 l (withL2Line r t v x)
-unfolding withL2Line l2Put
-put-l2 l r t v x n p t′ v′ =
-    ⊎-elim
-    (λ e. let e₁ = e .1 in
-    rw e₁ (⊎-elim (λ g. let g₁ = g .1 in rw g₁ n) (λ g. rw g (p t v′)) (set-cases (l2SetAt r t .lines) v v′ x emptyLine)))
-    (λ e. rw e (p t′ v′))
-    (set-cases (r .l2) t t′ (l2Put (l2SetAt r t) v x) noL2Set)
+unfolding withL2Line
+put-l2 l r t v x n p = put-none l2Store l (r .l2) t v p x n
 
 -- a way that is used: the lines are the same
 use-l1d : (l : ℕ) (r : Record) (s w : ℕ) → NoL1d l r → NoL1d l (withL1dSet r s (l1dUse (l1dSetAt r s) w))
 unfolding l1dUse
-use-l1d l r s w p s′ w′ =
-    ⊎-elim (λ e. let e₁ = e .1 in rw e₁ (p s w′)) (λ e. rw e (p s′ w′)) (set-cases (r .l1d) s s′ (l1dUse (l1dSetAt r s) w) noL1dSet)
+use-l1d l r s w p s′ w′ = let e = line-used l1dStore (r .l1d) s (l1dUse (l1dSetAt r s) w) refl s′ w′ in rw e (p s′ w′)
 
 use-l2 : (l : ℕ) (r : Record) (t v : ℕ) → NoL2 l r → NoL2 l (withL2Set r t (l2Use (l2SetAt r t) v))
 unfolding l2Use
-use-l2 l r t v p t′ v′ =
-    ⊎-elim (λ e. let e₁ = e .1 in rw e₁ (p t v′)) (λ e. rw e (p t′ v′)) (set-cases (r .l2) t t′ (l2Use (l2SetAt r t) v) noL2Set)
+use-l2 l r t v p t′ v′ = let e = line-used l2Store (r .l2) t (l2Use (l2SetAt r t) v) refl t′ v′ in rw e (p t′ v′)
 
 module _ (l : ℕ) (some : 0 < l) where
   not-empty : emptyLine .address ≢ l

@@ -32,7 +32,7 @@ use Rattle.model.specs.declared.Command.{Command}
 use Rattle.model.specs.declared.Line.{Line}
 use Rattle.model.specs.declared.Record.{Record}
 use Rattle.agreement.specs.Covered.{hasByteIn, accesses, coveredBy, since, coveredSince, lineCovered, linesCovered, stretchCovered, isAccepted, remembered, transferJoins, joins, joined}
-use Rattle.agreement.proofs.Level.{Free, same-slot}
+use Rattle.agreement.proofs.Level.{Level, Free, same-slot}
 use Rattle.agreement.proofs.Good.{l1dLevel, l2Level, Anything, Well, l2-hit, l2-miss, l2-bounds}
 use Rattle.agreement.proofs.Writeback.{evictL2-good}
 use Rattle.agreement.proofs.ReadWrite.{Uncached}
@@ -45,18 +45,18 @@ use Rattle.agreement.proofs.Comers.{Stays, Fills, at-l2, evictL2-stays,
 use Rattle.agreement.proofs.Stays.{called-well}
 
 -- ---- a line that nobody holds: no way has its address, an invalid one having 0
-module _ (z : State) (q : Well z) (l : ℕ) (some : 0 < l) where
-  free-no-l1d : l % 64 ≡ 0 → Free 64 (l1dLevel z) l → NoL1d l (z .rec)
-  free-no-l1d al f s w e =
-      bool (l1dLineAt (z .rec) s w .valid)
-      (λ k. f s w k (e ∙ omega arith))
-      (λ k. let x = ap (λ (y : Line). y .address) (q .tidy .l1d .empty s w k) in absurd (omega arith))
+free-none : (n : ℕ) (x : Level) → ((s w : ℕ) → x .line s w .valid ≡ false → x .line s w ≡ emptyLine) → (l : ℕ) → 0 < l → l / n * n ≡ l →
+    Free n x l → (s w : ℕ) → x .line s w .address ≢ l
+free-none n x empty l some al f s w e =
+    bool (x .line s w .valid)
+    (λ k. f s w k (e ∙ sym al))
+    (λ k. let i = ap (λ (y : Line). y .address) (empty s w k) in absurd (omega arith))
 
-  free-no-l2 : l % 128 ≡ 0 → Free 128 (l2Level z) l → NoL2 l (z .rec)
-  free-no-l2 al f t v e =
-      bool (l2LineAt (z .rec) t v .valid)
-      (λ k. f t v k (e ∙ omega arith))
-      (λ k. let x = ap (λ (y : Line). y .address) (q .tidy .l2 .empty t v k) in absurd (omega arith))
+free-no-l1d : (z : State) → Well z → (l : ℕ) → 0 < l → l % 64 ≡ 0 → Free 64 (l1dLevel z) l → NoL1d l (z .rec)
+free-no-l1d z q l some al = free-none 64 (l1dLevel z) (q .tidy .l1d .empty) l some (omega arith)
+
+free-no-l2 : (z : State) → Well z → (l : ℕ) → 0 < l → l % 128 ≡ 0 → Free 128 (l2Level z) l → NoL2 l (z .rec)
+free-no-l2 z q l some al = free-none 128 (l2Level z) (q .tidy .l2 .empty) l some (omega arith)
 
 -- ---- L2 block writeback-invalidate: L2 has no line that its block touches
 l2-turn-gone : (z : State) → Well z → (a : ℕ) → Free 128 (l2Level (atL2 evictL2 a z)) a
