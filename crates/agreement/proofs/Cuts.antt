@@ -14,12 +14,12 @@ use lib.Seq.{drop-append-le, drop-drop}
 use borrow.Author.Tests.{lt-ltb, le-ltb, le-leb}
 use Rattle.model.specs.Records.{State}
 use Rattle.model.specs.Trace.{Decoded, decode, Whole, none, one}
-use Rattle.model.specs.Calls.{call, runCall, commandAt, after, commands}
+use Rattle.model.specs.Calls.{call, runCall, commandAt, Call, oneCommand, after, commands}
 use Rattle.agreement.specs.Traces.{carriedFrom, carried, Piece, pieceCommands, allCommands}
 use Rattle.model.specs.declared.Command.{Command}
 use Rattle.agreement.proofs.Good.{Well}
 use Rattle.agreement.proofs.Reading.{decode-stable}
-use Rattle.agreement.proofs.Stays.{after-well}
+use Rattle.agreement.proofs.Stays.{after-well, after-append}
 use Rattle.agreement.proofs.TraceAgreement.{run-calls}
 
 whole-more : (t : List ℕ) (d : Decoded) (cs : List Command) → decode t ≡ d → d .ok ≡ true → Whole (drop (d .used) t) cs → Whole t (d .found ∷ cs)
@@ -94,10 +94,9 @@ unfolding joined
 pieces-whole no-pieces = none
 pieces-whole (piece {p} {ps} {cs} {ds} w f r) = whole-append w (joined ps) ds (pieces-whole r)
 
-after-append : (cs ds : List Command) (z : State) → after (commands (cs ++ ds)) z ≡ after (commands ds) (after (commands cs) z)
-unfolding after
-after-append [] ds z = refl
-after-append (c ∷ cs) ds z = after-append cs ds (call c z .next)
+commands-append : (cs ds : List Command) → commands (cs ++ ds) ≡ commands cs ++ commands ds
+commands-append [] ds = refl
+commands-append (c ∷ cs) ds = ap (λ (xs : List Call). oneCommand c ∷ xs) (commands-append cs ds)
 
 runs-state : (ps : List Piece) (z : State) → Well z → runAll ps z ≡ after (commands (allCommands ps)) z
 unfolding runAll allCommands after
@@ -105,7 +104,8 @@ runs-state [] z w = refl
 runs-state (p ∷ ps) z w =
     let e = run-calls (p .trace) (p .answers) z w .next in
     let h = runs-state ps (after (commands (pieceCommands p)) z) (after-well (commands (pieceCommands p)) z w) in
-    rw e (h ∙ sym (after-append (pieceCommands p) (allCommands ps) z))
+    let a = pieceCommands p in let b = allCommands ps in
+    rw e (h ∙ sym (ap (λ (xs : List Call). after xs z) (commands-append a b) ∙ after-append (commands a) (commands b) z))
 
 -- the run over the whole and the runs over the pieces leave the same record and the same memories
 pub cut-anywhere : {ps : List Piece} {cs : List Command} → WholePieces ps cs → (o : List ℕ) → length cs * 10 ≤ length o → (z : State) → Well z →

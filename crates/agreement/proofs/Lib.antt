@@ -9,6 +9,8 @@ pub mod Due
 pub mod Evict
 pub mod Fetch
 pub mod Flushes
+pub mod Frames
+pub mod FrameLists
 pub mod Good
 pub mod Invariant
 pub mod Level

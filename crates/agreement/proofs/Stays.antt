@@ -6,7 +6,7 @@
 use Prim.Native.Nat.{ℕ}
 use mathlib.Core.Bool.{true}
 use mathlib.Core.Path.{_≡_, refl}
-use mathlib.Core.List.{List, [], _∷_}
+use mathlib.Core.List.{List, [], _∷_, _++_}
 use native.Mathlib.Omega.{arith}
 use lib.ListN.{length, replicate, length-replicate}
 use borrow.Author.Tests.{eq-eqb}
@@ -63,6 +63,11 @@ called-well (readUnaligned n a) z h = read-unaligned-well n a z h
 called-well (writeUnaligned n a v) z h = write-unaligned-well n a v z h
 called-well (transferIn a bs) z h = transfer-in-well a bs z h
 called-well (transferOut a o) z h = transfer-out-well a o z h
+
+pub after-append : (cs ds : List Call) (z : State) → after (cs ++ ds) z ≡ after ds (after cs z)
+unfolding after
+after-append [] ds z = refl
+after-append (c ∷ cs) ds z = after-append cs ds (called c z .next)
 
 pub after-well : (cs : List Call) (z : State) → Well z → Well (after cs z)
 unfolding after

@@ -248,13 +248,15 @@ is-bytes f byte u n s =
         p .1 ∙ ap (λ (x : Reply). x .next) (sym (p .0)) ∙ ap (λ (x : State). call (f k) x .next) (reached k (omega arith))
 
 module _ (z : State) (q : Well z) (n a : ℕ) where
-  pub read-up-bytes : unalignedDueIn z n a 0 ≡ 0 → IsBytes (byteRead a) (λ k. readDone 1 (a + k) (readUp k a z .next)) n z (readUp n a z .next)
+  pub up-bytes : AllFit (layoutOf (z .rec)) a n → IsBytes (byteRead a) (λ k. readDone 1 (a + k) (readUp k a z .next)) n z (readUp n a z .next)
   unfolding readUp readDone
-  read-up-bytes d =
-      let f = all-fit z n a 0 d in
+  up-bytes f =
       is-bytes (byteRead a) (λ k. readDone 1 (a + k) (readUp k a z .next)) (λ k. readUp k a z .next) n
       (λ k h. let r = read-up z Anything q a k (record { fits = λ j l. f .fits j (omega arith) }) in
       (read-call (readUp k a z .next) (r .good) (a + k) (rw (r .kept .layout) (f .fits k h)), refl))
+
+  pub read-up-bytes : unalignedDueIn z n a 0 ≡ 0 → IsBytes (byteRead a) (λ k. readDone 1 (a + k) (readUp k a z .next)) n z (readUp n a z .next)
+  read-up-bytes d = up-bytes (all-fit z n a 0 d)
 
   pub write-up-bytes : (v : ℕ) → unalignedDueIn z n a v ≡ 0 →
       IsBytes (byteWrite n a v) (λ k. writeDone 1 (a + k) (getD (littleBytes v n) k 0) (writeUp k a (littleBytes v n) z .next)) n z

@@ -79,7 +79,7 @@ mode0-free : (z : State) → Well z → mode0 (z .rec) ≡ true → (a : ℕ) �
 mode0-free z q m a t v k e =
     let n = eqb-true (l2SetsOf (z .rec)) 0 (sym (mode0-sets (z .rec)) ∙ m) in let b = l2-bounds z Anything q t v k .0 in absurd (omega arith)
 
-l2-block-gone : (z : State) → Well z → (b c a : ℕ) → b < 0x100000000 → b ≤ a → a < blockEnd b c → externalBase ≤ a →
+pub l2-block-gone : (z : State) → Well z → (b c a : ℕ) → b < 0x100000000 → b ≤ a → a < blockEnd b c → externalBase ≤ a →
     NoL2 (l2Line a) (l2WritebackInvalidateBlock b c z .rec)
 unfolding l2WritebackInvalidateBlock unlessMode0 eachTouched
 l2-block-gone z q b c a low from to high =

@@ -14,25 +14,28 @@ use Rattle.model.specs.Calls.{Reply, freshOk, freshCall, viewCall, viewDone, Ca
 use Rattle.model.specs.declared.Command.{Command}
 use Rattle.tags.specs.Words.{recordIn}
 use Rattle.agreement.specs.Covered.{joined}
-use Rattle.agreement.specs.Demand.{Settled, Agree, next}
+use Rattle.agreement.specs.Demand.{Settled, AgreesAt, Agree, next}
 use Rattle.agreement.proofs.Agreement.{demand3}
 use Rattle.c_answers.specs.Told.{Tells}
 use Rattle.c_answers.specs.declared.CAnswer.{CAnswer}
-use Rattle.c_calls.specs.FromC.{Held, stateOf, Answered, Gives, Chain, done, made, FromC, AgreeFromC, whole, also, Demand3FromC}
+use Rattle.c_calls.specs.FromC.{Held, stateOf, Answered, Gives, Chain, done, made, FromC, SameAt, AgreeFromC, whole, also, Demand3FromC}
 
-number-of : {r : Reply} {x : Answered} {k : Held} → Gives r x k → x .number ≡ r .number
+pub number-of : {r : Reply} {x : Answered} {k : Held} → Gives r x k → x .number ≡ r .number
 number-of g = ap (λ (y : Answered). y .number) (g .answer)
 
-along : (cs : List Call) (h : Held) (r : Chain cs h) (f : Flat) → Agree cs (stateOf h) f → AgreeFromC cs h r f
-along [] h done f a = whole
-along (c ∷ cs) h (made x k p r) f (next a b) =
-    also
-    (record {
+pub same-at : (c : Call) (h : Held) (x : Answered) (k : Held) (f : Flat) → FromC c h x k → AgreesAt c (stateOf h) f → SameAt c x k f
+same-at c h x k f p a =
+    record {
       number = λ t. number-of p ∙ a .number t;
       value = λ t. ap (λ (y : Answered). y .value) (p .answer) ∙ a .value t;
       bytes = λ t. ap (λ (y : Answered). y .bytes) (p .answer) ∙ a .bytes t;
       settled = λ g n. subst (λ (y : State). Settled y (flatCalled c f .next)) (sym (p .next)) (a .settled g (sym (number-of p) ∙ n));
-    })
+    }
+
+along : (cs : List Call) (h : Held) (r : Chain cs h) (f : Flat) → Agree cs (stateOf h) f → AgreeFromC cs h r f
+along [] h done f a = whole
+along (c ∷ cs) h (made x k p r) f (next a b) =
+    also (same-at c h x k f p a)
     (along cs k r (flatCalled c f .next) (subst (λ (y : State). Agree cs y (flatCalled c f .next)) (sym (p .next)) b))
 
 pub demand3-from-c : Demand3FromC

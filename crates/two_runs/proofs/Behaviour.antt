@@ -188,13 +188,13 @@ any : {b p n : ℕ} {m m′ : List ℕ} → Area Any b p n m m′
 any = record { byte = λ _ _. refl }
 
 -- what two calls share, and what the next two need
-record Same (x x′ : Reply) : Type 0 where
-  number : x .number ≡ x′ .number
-  server : x .server ≡ x′ .server
-  report : x .report ≡ x′ .report
-  next : SameButStored (x .next) (x′ .next)
+pub record Same (x x′ : Reply) : Type 0 where
+  pub number : x .number ≡ x′ .number
+  pub server : x .server ≡ x′ .server
+  pub report : x .report ≡ x′ .report
+  pub next : SameButStored (x .next) (x′ .next)
 
-shared : {x x′ : Reply} → Same x x′ → Shared x x′
+pub shared : {x x′ : Reply} → Same x x′ → Shared x x′
 shared r = record { number = r .number; server = r .server; report = r .report; rec = r .next .rec }
 
 any-pair : (z z′ : State) → SameButStored z z′ → lentDue z ≡ 0 → Pair Any (layoutOf (z .rec)) z z′
@@ -242,7 +242,7 @@ look-same : (z z′ : State) → SameButStored z z′ → (a : ℕ) → Same (ca
 unfolding viewDone
 look-same z z′ s a = record { number = view-due z z′ s a; server = refl; report = refl; next = s }
 
-called-same : (c c′ : Call) → SameButWritten c c′ → (z z′ : State) → SameButStored z z′ → Same (called c z) (called c′ z′)
+pub called-same : (c c′ : Call) → SameButWritten c c′ → (z z′ : State) → SameButStored z z′ → Same (called c z) (called c′ z′)
 called-same (oneCommand c) (oneCommand c′) (sameCommand {k} {a} {b} {v} {v′} f) z z′ s = command-same z z′ s k a b v v′ f
 called-same freshStart freshStart sameStart z z′ s = fresh-same z z′ s
 called-same (look a) (look a′) (sameLook {a = y}) z z′ s = look-same z z′ s y

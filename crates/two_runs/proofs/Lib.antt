@@ -1,4 +1,5 @@
 pub mod Areas
+pub mod Frames
 pub mod Held
 pub mod Pair
 pub mod Leaving
