@@ -64,7 +64,7 @@ pub fn carry_out(
     let c = command_of(code, first, second, value);
     let none = [0u8; 1];
     let mut answer = [0u8; 10];
-    let q = run::run(tags, true, c, &none, l1d, l2, ext, &mut answer);
+    let q = run::run(tags, 1, c, &none, l1d, l2, ext, &mut answer);
     q.last
 }
 
@@ -233,7 +233,7 @@ pub fn run_trace(
     }
     // the commands come from the trace, and the loop does not look at this one
     let unused = command_of(0, 0, 0, 0);
-    let q = run::run(tags, false, unused, trace, l1d, l2, ext, answers);
+    let q = run::run(tags, 0, unused, trace, l1d, l2, ext, answers);
     Ran {
         consumed: q.consumed,
         count: q.count,

@@ -1,5 +1,5 @@
--- What the loop makes of its commands: the run of paper 01 (`runFrom`) over a source of commands that is a trace; or the
--- one given command.
+-- What the loop makes of its commands: the run of paper 01 (`runFrom`) over a source of commands that is a trace; or
+-- given commands, n of them, each with its second number one higher than the one in front of it.
 use Prim.Native.Nat.{ℕ, zero, suc, _+_, _*_, _-_, _≤_, _<_}
 use mathlib.Core.Bool.{Bool, true, false, cond}
 use mathlib.Core.List.{List, _∷_}
@@ -11,7 +11,7 @@ use lib.ListN.{length, drop, set, length-set}
 use lib.Dec.{ltb, leb, eqb}
 use borrow.Author.Tests.{lt-ltb, le-ltb, le-leb, leb-true, eq-eqb, ne-eqb}
 use Rattle.model.specs.Records.{State}
-use Rattle.model.specs.Trace.{Decoded, decoded, decode}
+use Rattle.model.specs.Trace.{Decoded, decoded, decode, command}
 use Rattle.model.specs.Calls.{Reply, step, Run, ran, putAnswer, commandAt, putReply, runFrom}
 use Rattle.model.specs.Bytes.{stored, littleBytes}
 use Rattle.model.specs.Laws.{bool, length-littleBytes}
@@ -24,16 +24,20 @@ use Rattle.access.specs.Serving.{plainAnswer}
 use Rattle.access.specs.declared.Answer.{Answer}
 
 -- ---- where commands come from
-abbrev pub sourceOf : Bool → Command → List ℕ → ℕ → Decoded
-sourceOf single c t i = cond single (decoded c 1) (decode (drop i t))
+-- given command i
+abbrev pub raised : Command → ℕ → Command
+raised c i = command (c .code) (c .first) (c .second + i) (c .value)
 
-unfoldable pub endOf : Bool → List ℕ → ℕ
-endOf single t = cond single 1 (length t)
+abbrev pub sourceOf : ℕ → Command → List ℕ → ℕ → Decoded
+sourceOf n c t i = cond (eqb n 0) (decode (drop i t)) (decoded (raised c i) 1)
+
+unfoldable pub endOf : ℕ → List ℕ → ℕ
+endOf n t = cond (eqb n 0) (length t) n
 
 -- the command at a place; one that lies before the end takes a byte at least and ends before it
-pub record NextAt (single : Bool) (c : Command) (t : List ℕ) (at : ℕ) (r : Next) : Type 0 where
-  pub same : told r ≡ sourceOf single c t at
-  pub within : r .ok ≡ true → at < endOf single t → (1 ≤ r .used) × (at + r .used ≤ endOf single t)
+pub record NextAt (n : ℕ) (c : Command) (t : List ℕ) (at : ℕ) (r : Next) : Type 0 where
+  pub same : told r ≡ sourceOf n c t at
+  pub within : r .ok ≡ true → at < endOf n t → (1 ≤ r .used) × (at + r .used ≤ endOf n t)
 
 -- why a run stops before a command: 11, then 12
 unfoldable pub stopOf : Bool → ℕ → ℕ → ℕ
@@ -67,37 +71,39 @@ executes-run t (suc turns) i z k o =
     (λ c. rw (b, c) refl))
     (λ b. rw b refl)
 
-pub told-all : (single : Bool) (c : Command) (t : List ℕ) (z : State) (o : List ℕ) (x : Run) →
-    x ≡ executes (sourceOf single c t) (endOf single t) (endOf single t) 0 z 0 o → single ≡ false → x ≡ runFrom t (length t) 0 z 0 o
+pub told-all : (n : ℕ) (c : Command) (t : List ℕ) (z : State) (o : List ℕ) (x : Run) →
+    x ≡ executes (sourceOf n c t) (endOf n t) (endOf n t) 0 z 0 o → n ≡ 0 → x ≡ runFrom t (length t) 0 z 0 o
 unfolding endOf
-told-all single c t z o x e s =
+told-all n c t z o x e s =
     let f : x ≡ executes (commandAt t) (length t) (length t) 0 z 0 o = rw s at e in f ∙ executes-run t (length t) 0 z 0 o
 
 -- ---- one given command is the first and the last of its loop: where the loop stands before it, nothing was done yet
-pub record Start (single : Bool) (ws₀ ws : List ℕ) (z₀ z : State) (at : ℕ) : Type 0 where
-  pub first : single ≡ true → at ≡ 0
+pub record Start (n : ℕ) (ws₀ ws : List ℕ) (z₀ z : State) (at : ℕ) : Type 0 where
+  pub first : n ≡ 1 → at ≡ 0
   pub words : at ≡ 0 → ws ≡ ws₀
   pub before : at ≡ 0 → z ≡ z₀
 
 -- .. and it is taken, where its answer has room
-module _ (single : Bool) (c : Command) (t : List ℕ) (s : single ≡ true) where
-  sourced : (at : ℕ) → sourceOf single c t at ≡ decoded c 1
+module _ (n : ℕ) (c : Command) (t : List ℕ) (s : n ≡ 1) where
+  sourced : (at : ℕ) → sourceOf n c t at ≡ decoded (raised c at) 1
   sourced at = rw s refl
 
-  given-is : (at : ℕ) (d : Next) → told d ≡ sourceOf single c t at → d .command ≡ c
-  given-is at d e = ap (λ (y : Decoded). y .found) (e ∙ sourced at)
+  given-is : (at : ℕ) (d : Next) → told d ≡ sourceOf n c t at → at ≡ 0 → d .command ≡ c
+  given-is at d e z =
+      let o : c .second + at ≡ c .second = omega arith in
+      ap (λ (y : Decoded). y .found) (e ∙ sourced at) ∙ ap (λ (i : ℕ). command (c .code) (c .first) i (c .value)) o
 
-  pub given-done : (ws₀ ws : List ℕ) (z₀ z : State) (at : ℕ) (d : Next) (x : Reply) → Start single ws₀ ws z₀ z at → told d ≡ sourceOf single c t at →
+  pub given-done : (ws₀ ws : List ℕ) (z₀ z : State) (at : ℕ) (d : Next) (x : Reply) → Start n ws₀ ws z₀ z at → told d ≡ sourceOf n c t at →
       x ≡ step (d .command) z → x ≡ step c z₀
-  given-done ws₀ ws z₀ z at d x h e ex = ex ∙ (λ i. step (given-is at d e i) (h .before (h .first s) i))
+  given-done ws₀ ws z₀ z at d x h e ex = ex ∙ (λ i. step (given-is at d e (h .first s) i) (h .before (h .first s) i))
 
-  pub given-goes : (at k n : ℕ) (d : Next) (o : List ℕ) → told d ≡ sourceOf single c t at → k ≤ at → at ≡ 0 → n ≡ stopOf (d .ok) (length o) k → 10 ≤ length o → n ≡ 0
+  pub given-goes : (at k m : ℕ) (d : Next) (o : List ℕ) → told d ≡ sourceOf n c t at → k ≤ at → at ≡ 0 → m ≡ stopOf (d .ok) (length o) k → 10 ≤ length o → m ≡ 0
   unfolding stopOf
-  given-goes at k n d o e le z en h =
+  given-goes at k m d o e le z en h =
       let y : d .ok ≡ true = ap (λ (q : Decoded). q .ok) (e ∙ sourced at) in let k0 : k ≡ 0 = omega arith in
       en ∙ rw (y, k0, le-leb 10 (length o) h) refl
 
-  pub given-turns : (end at : ℕ) → end ≡ endOf single t → at ≡ 0 → end ≤ at → ⊥
+  pub given-turns : (end at : ℕ) → end ≡ endOf n t → at ≡ 0 → end ≤ at → ⊥
   unfolding endOf
   given-turns end at e z h = let one : end ≡ 1 = e ∙ rw s refl in absurd (omega arith)
 
@@ -141,15 +147,16 @@ pub stop-ok : (ok : Bool) (len k : ℕ) → stopOf ok len k ≡ 0 → ok ≡ tru
 unfolding stopOf
 stop-ok ok len k e = bool ok (λ t. t) (λ t. let f : _≡_ {A = ℕ} 11 0 = rw t at e in absurd (omega arith))
 
--- ---- the two sources
-pub next-given : (single : Bool) (c : Command) (t : List ℕ) (at : ℕ) → single ≡ true → NextAt single c t at (record { ok = true; command = c; used = 1 })
+-- ---- both sources
+pub next-given : (n : ℕ) (c : Command) (t : List ℕ) (at : ℕ) → n ≢ 0 → NextAt n c t at (record { ok = true; command = raised c at; used = 1 })
 unfolding endOf
-next-given single c t at s =
-    record { same = rw s refl; within = λ _ h. let h′ : at < 1 = rw s at h in rw s (omega arith, omega arith) }
+next-given n c t at s =
+    let f = ne-eqb n 0 s in
+    record { same = rw f refl; within = λ _ h. let h′ : at < n = rw f at h in rw f (omega arith, omega arith) }
 
-pub next-trace : (single : Bool) (c : Command) (t : List ℕ) (at : ℕ) (r : Next) → single ≡ false → DecodedAt t at r → NextAt single c t at r
+pub next-trace : (n : ℕ) (c : Command) (t : List ℕ) (at : ℕ) (r : Next) → n ≡ 0 → DecodedAt t at r → NextAt n c t at r
 unfolding endOf
-next-trace single c t at r s d = record { same = rw s (d .same); within = λ k _. rw s (d .within k) }
+next-trace n c t at r s d = record { same = rw s (d .same); within = λ k _. rw s (d .within k) }
 
 -- the two ways to a place where arms meet
 abbrev pub First : {A B : Type 0} → A ⊎ B → Type 0
@@ -167,12 +174,12 @@ pub record Going (end at k : ℕ) (d : Next) (o : List ℕ) : Type 0 where
   pub up : k + 1 ≤ at + d .used
   pub room : k * 10 + 10 ≤ length o
 
-pub goes-on : (single : Bool) (c : Command) (t : List ℕ) (end at k : ℕ) (d : Next) (o : List ℕ) (s : ℕ) → end ≡ endOf single t →
-    NextAt single c t at d → at < end → k ≤ at →
+pub goes-on : (n : ℕ) (c : Command) (t : List ℕ) (end at k : ℕ) (d : Next) (o : List ℕ) (s : ℕ) → end ≡ endOf n t →
+    NextAt n c t at d → at < end → k ≤ at →
     s ≡ stopOf (d .ok) (length o) k → s ≡ 0 → Going end at k d o
-goes-on single c t end at k d o s ee n h le es z =
+goes-on n c t end at k d o s ee m h le es z =
     let none : stopOf (d .ok) (length o) k ≡ 0 = sym es ∙ z in
-    let w = n .within (stop-ok (d .ok) (length o) k none) (rw ee at h) in
+    let w = m .within (stop-ok (d .ok) (length o) k none) (rw ee at h) in
     let w0 = w .0 in let w1 = w .1 in
     record { none = none; more = w0; to = omega arith; up = omega arith; room = stop-none (d .ok) (length o) k none }
 

@@ -1,15 +1,15 @@
-// The run over a trace, or of one given command: a loop that takes a command, carries it out as a call of its own,
-// and puts down its answer. One function for both, so that the steps of an access have one caller and the compiler
+// The run over a trace, or of given commands: a loop that takes a command, carries it out as a call of its own, and
+// puts down its answer. One function for all of them, so that the steps of an access have one caller and the compiler
 // makes one loop of them.
-ghost use mathlib.Core.Bool.{true, false};
 ghost use mathlib.Core.Logic.{_≢_};
 ghost use mathlib.Core.Path.{_≡_};
-ghost use Prim.Native.Nat.{_+_, _*_, _≤_};
+ghost use Prim.Native.Nat.{_+_, _*_, _≤_, _<_};
 ghost use lib.ListN.{length};
 ghost use Rattle.model.specs.Calls.{step, ran, runFrom, putAnswer};
 ghost use Rattle.access.specs.Serving.{answerOf};
 ghost use Rattle.tags.specs.Words.{recordWords, stateIn};
 ghost use Rattle.run.specs.Executed.{NextAt, endOf, stopOf, noAnswer};
+ghost use Rattle.run.specs.Upwards.{allUp};
 use access::Answer;
 use decode::Decoded;
 use geometry::L2;
@@ -29,23 +29,31 @@ fn no_answer() -> Answer
     access::plain(0, 0, 0)
 }
 
-fn end_of(single: bool, trace: &[u8]) -> usize
-    ensures { λ r. ⌜ r ≡ endOf single (now (trace .entry)) ⌝ }
+// Where the commands end: behind the given ones, or the trace.
+fn end_of(times: usize, trace: &[u8]) -> usize
+    ensures { λ r. ⌜ r ≡ endOf times (now (trace .entry)) ⌝ }
 {
-    if single {
-        return 1;
+    if times != 0 {
+        return times;
     }
     trace.len()
 }
 
-// The command at a place: the given one, or that of the trace.
-fn next(single: bool, given: Command, trace: &[u8], at: usize) -> Decoded
-    ensures { λ r. ⌜ NextAt single given (now (trace .entry)) at r ⌝ }
+// The command at a place: a given one, or that of the trace.
+fn next(times: usize, given: Command, trace: &[u8], at: usize) -> Decoded
+    requires { ⌜ (times ≢ 0 → given .second + at < 4294967296) ⌝ }
+    ensures { λ r. ⌜ NextAt times given (now (trace .entry)) at r ⌝ }
 {
-    if single {
+    if times != 0 {
+        let up = Command {
+            code: given.code,
+            first: given.first,
+            second: given.second + at as u32,
+            value: given.value,
+        };
         return Decoded {
             ok: true,
-            command: given,
+            command: up,
             used: 1,
         };
     }
@@ -76,12 +84,13 @@ fn put_answer(answers: &mut [u8], count: usize, number: u8, server: u8, value: u
     memory::store8(answers, at + 2, value);
 }
 
-// One given command (`single`), or all of a trace. Who gives one command has room for its answer; the trace is then
-// not looked at. The loop is left with the answer of a given command, and carries none from turn to turn: what an
-// access reports (02, U2) is not asked for in a trace, and a run pays nothing for it.
+// All of a trace (`times` 0), or so many given commands, the second number of each one higher than that of the one in
+// front of it. Who gives commands has room for their answers; the trace is then not looked at. The loop is left with
+// the answer of one given command, and carries none from turn to turn: what an access reports (02, U2) is not asked for
+// in a trace, and a run pays nothing for it.
 pub fn run(
     tags: &mut [u32],
-    single: bool,
+    times: usize,
     given: Command,
     trace: &[u8],
     l1d: &mut [u8],
@@ -90,22 +99,26 @@ pub fn run(
     answers: &mut [u8],
 ) -> Ended
     requires { ⌜ length (now tags) ≡ recordWords ⌝ }
-    ensures one { λ q. ⌜ (single ≡ true → 10 ≤ length (now (answers .entry)) →
+    requires { ⌜ given .second + times ≤ 4294967296 ⌝ }
+    ensures one { λ q. ⌜ (times ≡ 1 → 10 ≤ length (now (answers .entry)) →
         answerOf (q .last) (stateIn (now (tags .exit)) (now (l1d .exit)) (now (l2 .exit)) (now (ext .exit)))
         ≡ step given (stateIn (now (tags .entry)) (now (l1d .entry)) (now (l2 .entry)) (now (ext .entry)))) ⌝ }
-    ensures refused { λ q. ⌜ (single ≡ true → q .last .number ≢ 0 → now (tags .exit) ≡ now (tags .entry)) ⌝ }
-    ensures all { λ q. ⌜ (single ≡ false →
+    ensures refused { λ q. ⌜ (times ≡ 1 → q .last .number ≢ 0 → now (tags .exit) ≡ now (tags .entry)) ⌝ }
+    ensures all { λ q. ⌜ (times ≡ 0 →
         ran (stateIn (now (tags .exit)) (now (l1d .exit)) (now (l2 .exit)) (now (ext .exit))) (q .consumed) (q .count) (q .stop) (now (answers .exit))
         ≡ runFrom (now (trace .entry)) (length (now (trace .entry))) 0
         (stateIn (now (tags .entry)) (now (l1d .entry)) (now (l2 .entry)) (now (ext .entry))) 0 (now (answers .entry))) ⌝ }
+    ensures up { λ q. ⌜ (2 ≤ times → times * 10 ≤ length (now (answers .entry)) →
+        ran (stateIn (now (tags .exit)) (now (l1d .exit)) (now (l2 .exit)) (now (ext .exit))) (q .consumed) (q .count) (q .stop) (now (answers .exit))
+        ≡ allUp given times (stateIn (now (tags .entry)) (now (l1d .entry)) (now (l2 .entry)) (now (ext .entry))) (now (answers .entry))) ⌝ }
 {
     let mut at: usize = 0;
     let mut count: usize = 0;
     let mut sets = L2::sets(tags::mode_of(tags));
     let mut sram = L2::sram(tags::l2len_of(tags), tags::mode_of(tags));
-    let end = end_of(single, trace);
+    let end = end_of(times, trace);
     while at < end {
-        let d = next(single, given, trace, at);
+        let d = next(times, given, trace, at);
         let stop = stop_of(d.ok, answers.len(), count);
         if stop != 0 {
             return Ended {
@@ -118,7 +131,7 @@ pub fn run(
         let c = d.command;
         if 2 <= c.code {
             let n = commands::execute(tags, sram, sets, c, l1d, l2, ext);
-            if single {
+            if times == 1 {
                 return Ended {
                     consumed: 1,
                     count: 1,
@@ -134,7 +147,7 @@ pub fn run(
             continue;
         }
         let a = access::access(tags, sram, sets, c, l1d, l2, ext);
-        if single {
+        if times == 1 {
             return Ended {
                 consumed: 1,
                 count: 1,

@@ -41,7 +41,7 @@ fn one(
     };
     let none = [0u8; 1];
     let mut answer = [0u8; 10];
-    let q = run::run(tags, true, c, &none, l1d, l2, ext, &mut answer);
+    let q = run::run(tags, 1, c, &none, l1d, l2, ext, &mut answer);
     q.last
 }
 

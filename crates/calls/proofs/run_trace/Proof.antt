@@ -58,7 +58,7 @@ returns-2 c =
     let a = p-start .args in let z = state (recordIn (a .tags .now)) (a .l1d .now) (a .l2 .now) (a .ext .now) in
     let q = (p-run .run) .result in let y = state (recordIn ((p-run .run) .last .0)) ((p-run .run) .last .1 .1 .1 .1 .0) ((p-run .run) .last .1 .1 .1 .1 .1 .0) ((p-run .run) .last .1 .1 .1 .1 .1 .1 .0) in (
       run-done z ((p-lent-due .lent-due) .result) ((p-lent-due .lent-due) .ensures) (a .trace .now) (a .answers .now) (ran y (q .consumed) (q .count) (q .stop) ((p-run .run) .last .1 .1 .1 .1 .1 .1 .1 .0)) ((p-if1 .if1) .left)
-          ((p-run .run) .ensures .1 .1 refl),
+          ((p-run .run) .ensures .1 .1 .0 refl),
       λ n. absurd (n (sym ((p-lent-due .lent-due) .ensures) ∙ (p-if1 .if1) .left)),
     )
 

@@ -1,6 +1,8 @@
 -- `run::run` meets its contract: what is left to do gives the whole. Each command is one step of the model, by what
--- its function ensures; one given command is the first and the last of its loop, and leaves it.
+-- its function ensures; one given command is the first and the last of its loop, and leaves it. The whole over a trace
+-- is paper 01's run (`told-all`), over several given commands their steps (`told-up`).
 use Rattle.run.specs.Executed.{sourceOf, endOf, noAnswer, executes, turn, stopped, at-end, Going, goes-on, told-all, Start, given-done, given-goes, given-turns}
+use Rattle.run.specs.Upwards.{told-up, given-alone}
 use Rattle.tags.specs.Words.{recordWords, recordIn}
 use Rattle.access.specs.Serving.{answerOf, plainAnswer}
 use Rattle.access.specs.declared.Answer.{Answer}
@@ -8,7 +10,6 @@ use Rattle.decode.specs.declared.Decoded.{Decoded as Next}
 use Rattle.model.specs.Memories.{sramLength}
 use Rattle.model.specs.Lines.{l2Sets}
 use Rattle.model.specs.Records.{State, state, l2SetsOf, sramOf}
-use Rattle.model.specs.Laws.{false-true}
 use Rattle.model.specs.Trace.{Decoded}
 use Rattle.model.specs.Calls.{Reply, reply, step, Run, ran, putAnswer}
 use lib.ListN.{length}
@@ -16,7 +17,7 @@ use mir.Syntax.{w64}
 use mir.Val.{Fits}
 use Prim.Native.Nat.{ℕ, _+_, _-_, _≤_, _<_}
 use mathlib.Core.List.{List}
-use mathlib.Core.Bool.{Bool, true, false}
+use borrow.Author.Tests.{ne-eqb}
 use mathlib.Core.Path.{_≡_, refl, sym, ap, _∙_}
 use native.Mathlib.Omega.{arith}
 use Rattle.tags.specs.Sizes.{Lent, lent-next, same-step}
@@ -24,7 +25,7 @@ use borrow.Author.Needs.{needs}
 use Rattle.run.proofs.run.Statement.{statement}
 use Rattle.run.proofs.run.Tie as tie
 
-record Kept (single : Bool) (source : ℕ → Decoded) (whole : Run) (tags₀ l1d₀ l2₀ ext₀ answers₀ : List ℕ) (end : ℕ)
+record Kept (times : ℕ) (source : ℕ → Decoded) (whole : Run) (tags₀ l1d₀ l2₀ ext₀ answers₀ : List ℕ) (end : ℕ)
     (tags l1d l2 ext answers : List ℕ) (at count sets sram : ℕ) : Type 0 where
   counted : count ≤ at
   l1dLong : length l1d ≡ length l1d₀
@@ -32,16 +33,16 @@ record Kept (single : Bool) (source : ℕ → Decoded) (whole : Run) (tags₀ l1
   extLong : length ext ≡ length ext₀
   answersLong : length answers ≡ length answers₀
   lent : Lent sram sets tags
-  start : Start single tags₀ tags (state (recordIn tags₀) l1d₀ l2₀ ext₀) (state (recordIn tags) l1d l2 ext) at
+  start : Start times tags₀ tags (state (recordIn tags₀) l1d₀ l2₀ ext₀) (state (recordIn tags) l1d l2 ext) at
   rest : executes source end (end - count) at (state (recordIn tags) l1d l2 ext) count answers ≡ whole
 
 abbrev Inv-loop : tie.InvT-loop
-Inv-loop tags₀ single given trace l1d₀ l2₀ ext₀ answers₀ at₀ count₀ sets₀ sram₀ end tags l1d l2 ext answers at count sets sram =
-    Kept single (sourceOf single given trace) (executes (sourceOf single given trace) end end 0 (state (recordIn tags₀) l1d₀ l2₀ ext₀) 0 answers₀)
+Inv-loop tags₀ times given trace l1d₀ l2₀ ext₀ answers₀ at₀ count₀ sets₀ sram₀ end tags l1d l2 ext answers at count sets sram =
+    Kept times (sourceOf times given trace) (executes (sourceOf times given trace) end end 0 (state (recordIn tags₀) l1d₀ l2₀ ext₀) 0 answers₀)
     tags₀ l1d₀ l2₀ ext₀ answers₀ end tags l1d l2 ext answers at count sets sram
 
 abbrev μ-loop : tie.MeasureT-loop
-μ-loop tags₀ single given trace l1d₀ l2₀ ext₀ answers₀ at₀ count₀ sets₀ sram₀ end tags l1d l2 ext answers at count sets sram =
+μ-loop tags₀ times given trace l1d₀ l2₀ ext₀ answers₀ at₀ count₀ sets₀ sram₀ end tags l1d l2 ext answers at count sets sram =
     end - at
 
 -- ---- places, and what stands there
@@ -61,7 +62,7 @@ abbrev here : tie.At-loop Inv-loop μ-loop → State
 here c = state (recordIn (c .loop .tags)) (c .loop .l1d) (c .loop .l2) (c .loop .ext)
 
 abbrev source : tie.At-loop Inv-loop μ-loop → ℕ → Decoded
-source c = let a = at-start c .args in sourceOf (a .single) (a .given) (a .trace .now)
+source c = let a = at-start c .args in sourceOf (a .times) (a .given) (a .trace .now)
 
 abbrev initial : tie.At-loop Inv-loop μ-loop → State
 initial c = let a = at-start c .args in state (recordIn (a .tags .now)) (a .l1d .now) (a .l2 .now) (a .ext .now)
@@ -70,7 +71,7 @@ abbrev whole : tie.At-loop Inv-loop μ-loop → Run
 whole c = executes (source c) (endAt c) (endAt c) 0 (initial c) 0 (at-start c .args .answers .now)
 
 whole-is : (c : tie.At-loop Inv-loop μ-loop) →
-    let a = at-start c .args in let end = endOf (a .single) (a .trace .now) in
+    let a = at-start c .args in let end = endOf (a .times) (a .trace .now) in
     whole c ≡ executes (source c) end end 0 (initial c) 0 (a .answers .now)
 whole-is c = let e = c .before .end-of .ensures in λ j. executes (source c) (e j) (e j) 0 (initial c) 0 (at-start c .args .answers .now)
 
@@ -80,7 +81,7 @@ going : (c : tie.Else1 Inv-loop μ-loop) →
 going c =
     let p-stop-of = c .before in let p-next = p-stop-of .before in let p-loop = at-loop c in
     let l = p-loop .loop in let a = at-start p-loop .args in
-    goes-on (a .single) (a .given) (a .trace .now) (endAt p-loop) (l .at) (l .count) (found c) (l .answers) (p-stop-of .stop-of .result)
+    goes-on (a .times) (a .given) (a .trace .now) (endAt p-loop) (l .at) (l .count) (found c) (l .answers) (p-stop-of .stop-of .result)
     (p-loop .before .end-of .ensures) (p-next .next .ensures)
     (p-next .before .loop-test .taken) (l .inv .counted) (p-stop-of .stop-of .ensures) (c .if1 .left)
 
@@ -108,21 +109,21 @@ onward c x ex o eo =
 -- behind a command of a trace the loop stands at its start no more
 started : (c : tie.Else1 Inv-loop μ-loop) →
     let p-loop = at-loop c in let l = p-loop .loop in let a = at-start p-loop .args in
-    a .single ≡ false → (vs : List ℕ) (z : State) → Start (a .single) (a .tags .now) vs (initial p-loop) z (l .at + found c .used)
+    (a .times ≡ 1 → ⊥) → (vs : List ℕ) (z : State) → Start (a .times) (a .tags .now) vs (initial p-loop) z (l .at + found c .used)
 started c s vs z =
     let more = going c .more in
-    record { first = λ t. false-true (sym s ∙ t); words = λ k. absurd (omega arith); before = λ k. absurd (omega arith) }
+    record { first = λ t. absurd (s t); words = λ k. absurd (omega arith); before = λ k. absurd (omega arith) }
 
 -- the given command is carried out in the state that the loop began with
 given : (c : tie.Else1 Inv-loop μ-loop) →
     let p-loop = at-loop c in let a = at-start p-loop .args in
-    a .single ≡ true → (x : Reply) → x ≡ step (found c .command) (here p-loop) → x ≡ step (a .given) (initial p-loop)
+    a .times ≡ 1 → (x : Reply) → x ≡ step (found c .command) (here p-loop) → x ≡ step (a .given) (initial p-loop)
 given c s x e =
     let p-loop = at-loop c in let a = at-start p-loop .args in let l = p-loop .loop in
-    given-done (a .single) (a .given) (a .trace .now) s (a .tags .now) (l .tags) (initial p-loop) (here p-loop) (l .at) (found c) x (l .inv .start) (c .before .before .next .ensures .same) e
+    given-done (a .times) (a .given) (a .trace .now) s (a .tags .now) (l .tags) (initial p-loop) (here p-loop) (l .at) (found c) x (l .inv .start) (c .before .before .next .ensures .same) e
 
 -- the words that it was given
-same-words : (c : tie.Else1 Inv-loop μ-loop) → let p-loop = at-loop c in let a = at-start p-loop .args in a .single ≡ true → p-loop .loop .tags ≡ a .tags .now
+same-words : (c : tie.Else1 Inv-loop μ-loop) → let p-loop = at-loop c in let a = at-start p-loop .args in a .times ≡ 1 → p-loop .loop .tags ≡ a .tags .now
 same-words c s = let i = at-loop c .loop .inv .start in i .words (i .first s)
 
 mode-of-requires : tie.Need-mode-of-requires Inv-loop μ-loop
@@ -156,7 +157,7 @@ loop-holds c =
       extLong = refl;
       answersLong = refl;
       lent = (
-        p-start .pre,
+        p-start .pre .0,
         (
           ((p-sram .sram) .ensures .1, (p-sets .sets) .ensures .1),
           (
@@ -169,8 +170,13 @@ loop-holds c =
       rest = rw e refl;
     }
 
+-- a given command's second number fits
 next-requires : tie.Need-next-requires Inv-loop μ-loop
-next-requires c κs = search needs
+unfolding endOf
+next-requires c κs n =
+    let p-loop = c .before in let a = at-start p-loop .args in let t = c .loop-test .taken in let fits = at-start p-loop .pre .1 in
+    let e : endAt p-loop ≡ a .times = p-loop .before .end-of .ensures ∙ rw (ne-eqb (a .times) 0 n) refl in
+    omega arith
 
 stop-of-requires : tie.Need-stop-of-requires Inv-loop μ-loop
 stop-of-requires c κs = search needs
@@ -179,7 +185,7 @@ no-answer-requires : tie.Need-no-answer-requires Inv-loop μ-loop
 no-answer-requires c κs = search needs
 
 same-length : tie.Need-same-length Inv-loop μ-loop
-same-length c = let p-loop = c .before .before .before .before .before in p-loop .loop .inv .lent .0 ∙ sym (at-start p-loop .pre)
+same-length c = let p-loop = c .before .before .before .before .before in p-loop .loop .inv .lent .0 ∙ sym (at-start p-loop .pre .0)
 
 same-length-2 : tie.Need-same-length-2 Inv-loop μ-loop
 same-length-2 c = let p-loop = c .before .before .before .before .before in p-loop .loop .inv .l1dLong
@@ -201,11 +207,14 @@ returns c =
     let e = stopped (source p-loop) (endAt p-loop) (l .at) (l .count) (here p-loop) (l .answers) (whole p-loop) (p-loop-test .loop-test .taken)
     (l .inv .counted) (p-next .next .result) (p-next .next .ensures .same) (s .result) (s .ensures) (p-if1 .if1 .taken) (l .inv .rest)
     ∙ whole-is p-loop in (
-      λ t h. absurd (p-if1 .if1 .taken (given-goes (a .single) (a .given) (a .trace .now) t (l .at) (l .count) (s .result) (p-next .next .result) (l .answers)
+      λ t h. absurd (p-if1 .if1 .taken (given-goes (a .times) (a .given) (a .trace .now) t (l .at) (l .count) (s .result) (p-next .next .result) (l .answers)
           (p-next .next .ensures .same) (l .inv .counted) (i .first t) (s .ensures) (rw (l .inv .answersLong) h))),
       (
         λ t _. i .words (i .first t),
-        told-all (a .single) (a .given) (a .trace .now) (initial p-loop) (a .answers .now) (ran (here p-loop) (l .at) (l .count) (s .result) (l .answers)) e,
+        (
+          told-all (a .times) (a .given) (a .trace .now) (initial p-loop) (a .answers .now) (ran (here p-loop) (l .at) (l .count) (s .result) (l .answers)) e,
+          told-up (a .times) (a .given) (a .trace .now) (initial p-loop) (a .answers .now) (ran (here p-loop) (l .at) (l .count) (s .result) (l .answers)) e,
+        ),
       ),
     )
 
@@ -221,7 +230,7 @@ same-length-6 : tie.Need-same-length-6 Inv-loop μ-loop
 same-length-6 c =
     let p-execute = c .before .before .before .before .before .before .before .before in
     let p-loop = at-loop (p-execute .before .before .before .before .before .before .before .before) in
-    (p-execute .execute) .kept .0 ∙ p-loop .loop .inv .lent .0 ∙ sym (at-start p-loop .pre)
+    (p-execute .execute) .kept .0 ∙ p-loop .loop .inv .lent .0 ∙ sym (at-start p-loop .pre .0)
 
 same-length-7 : tie.Need-same-length-7 Inv-loop μ-loop
 same-length-7 c =
@@ -251,11 +260,11 @@ returns-2 : tie.Need-returns-2 Inv-loop μ-loop
 returns-2 c =
     let p-if3 = c .before in let p-execute = p-if3 .before .before .before .before .before .before .before in
     let p-if2 = p-execute .before .before .before .before .before in let p-if1 = p-if2 .before .before .before in
-    let p-loop = at-loop p-if1 in let l = p-loop .loop in let o = (p-execute .execute) in let t = p-if3 .if3 .taken in
+    let p-loop = at-loop p-if1 in let a = at-start p-loop .args in let l = p-loop .loop in let o = (p-execute .execute) in let t = p-if3 .if3 .taken in
     let y = state (recordIn (o .last .0)) (l .l1d) (o .last .1 .1 .1 .1 .1 .0) (o .last .1 .1 .1 .1 .1 .1 .0) in
     let e = (c .plain) .ensures in (
       λ _ _. ap (λ (q : Answer). answerOf q y) e ∙ given p-if1 t (reply (o .result) 0 0 y) (o .ensures .0),
-      (λ _ n. o .ensures .1 (λ z. n (ap (λ (q : Answer). q .number) e ∙ z)) ∙ same-words p-if1 t, λ f. false-true (sym f ∙ t)),
+      (λ _ n. o .ensures .1 (λ z. n (ap (λ (q : Answer). q .number) e ∙ z)) ∙ same-words p-if1 t, given-alone (a .times) (a .given) (a .trace .now) (initial p-loop) (a .answers .now) (ran y 1 1 0 (l .answers)) t),
     )
 
 put-answer-requires : tie.Need-put-answer-requires Inv-loop μ-loop
@@ -357,7 +366,7 @@ same-length-11 : tie.Need-same-length-11 Inv-loop μ-loop
 same-length-11 c =
     let p-access = c .before .before .before .before .before .before .before .before .before in
     let p-loop = at-loop (p-access .before .before .before .before .before .before .before .before) in
-    (p-access .access) .kept .0 ∙ p-loop .loop .inv .lent .0 ∙ sym (at-start p-loop .pre)
+    (p-access .access) .kept .0 ∙ p-loop .loop .inv .lent .0 ∙ sym (at-start p-loop .pre .0)
 
 same-length-12 : tie.Need-same-length-12 Inv-loop μ-loop
 same-length-12 c =
@@ -387,9 +396,9 @@ returns-3 : tie.Need-returns-3 Inv-loop μ-loop
 returns-3 c =
     let p-access = c .before .before .before .before .before .before .before .before .before in
     let p-if2 = p-access .before .before .before .before .before in let p-if1 = p-if2 .before .before .before in
-    let x = (p-access .access) in let t = c .if4 .taken in
+    let p-loop = at-loop p-if1 in let a = at-start p-loop .args in let l = p-loop .loop in let x = (p-access .access) in let t = c .if4 .taken in
     let y = state (recordIn (x .last .0)) (x .last .1 .1 .1 .1 .0) (x .last .1 .1 .1 .1 .1 .0) (x .last .1 .1 .1 .1 .1 .1 .0) in
-    (λ _ _. given p-if1 t (answerOf (x .result) y) (x .ensures .0), (λ _ n. x .ensures .1 n ∙ same-words p-if1 t, λ f. false-true (sym f ∙ t)))
+    (λ _ _. given p-if1 t (answerOf (x .result) y) (x .ensures .0), (λ _ n. x .ensures .1 n ∙ same-words p-if1 t, given-alone (a .times) (a .given) (a .trace .now) (initial p-loop) (a .answers .now) (ran y 1 1 0 (l .answers)) t))
 
 put-answer-requires-2 : tie.Need-put-answer-requires-2 Inv-loop μ-loop
 put-answer-requires-2 c κs =
@@ -442,7 +451,7 @@ no-answer-requires-2 : tie.Need-no-answer-requires-2 Inv-loop μ-loop
 no-answer-requires-2 c κs = search needs
 
 same-length-16 : tie.Need-same-length-16 Inv-loop μ-loop
-same-length-16 c = let p-loop = c .before .before in p-loop .loop .inv .lent .0 ∙ sym (at-start p-loop .pre)
+same-length-16 c = let p-loop = c .before .before in p-loop .loop .inv .lent .0 ∙ sym (at-start p-loop .pre .0)
 
 same-length-17 : tie.Need-same-length-17 Inv-loop μ-loop
 same-length-17 c = let p-loop = c .before .before in p-loop .loop .inv .l1dLong
@@ -463,11 +472,14 @@ returns-4 c =
     let e = at-end (source p-loop) (endAt p-loop) (l .at) (l .count) (here p-loop) (l .answers) (whole p-loop) (endAt p-loop - l .count)
     (p-loop-test .loop-test .left) (l .inv .rest)
     ∙ whole-is p-loop in
-    let none : a .single ≡ true → ⊥ = λ t. given-turns (a .single) (a .given) (a .trace .now) t (endAt p-loop) (l .at) (p-loop .before .end-of .ensures) (i .first t) (p-loop-test .loop-test .left) in (
+    let none : a .times ≡ 1 → ⊥ = λ t. given-turns (a .times) (a .given) (a .trace .now) t (endAt p-loop) (l .at) (p-loop .before .end-of .ensures) (i .first t) (p-loop-test .loop-test .left) in (
       λ t _. absurd (none t),
       (
         λ t _. absurd (none t),
-        told-all (a .single) (a .given) (a .trace .now) (initial p-loop) (a .answers .now) (ran (here p-loop) (l .at) (l .count) 0 (l .answers)) e,
+        (
+          told-all (a .times) (a .given) (a .trace .now) (initial p-loop) (a .answers .now) (ran (here p-loop) (l .at) (l .count) 0 (l .answers)) e,
+          told-up (a .times) (a .given) (a .trace .now) (initial p-loop) (a .answers .now) (ran (here p-loop) (l .at) (l .count) 0 (l .answers)) e,
+        ),
       ),
     )
 
