@@ -14,7 +14,7 @@ use lib.Seq.{drop-append-le, drop-drop}
 use borrow.Author.Tests.{lt-ltb, le-ltb, le-leb}
 use Rattle.model.specs.Records.{State}
 use Rattle.model.specs.Trace.{Decoded, decode, Whole, none, one}
-use Rattle.model.specs.Calls.{call, runCall, commandAt, Call, oneCommand, after, commands}
+use Rattle.model.specs.Calls.{runCall, commandAt, Call, oneCommand, after, commands}
 use Rattle.agreement.specs.Traces.{carriedFrom, carried, Piece, pieceCommands, allCommands}
 use Rattle.model.specs.declared.Command.{Command}
 use Rattle.agreement.proofs.Good.{Well}

@@ -1,6 +1,7 @@
 -- Demand 3 for lists that hold frames (`items-demand3`): such a list is the list of its calls (`frame-is-calls`), to
--- which demand 3 applies. Why: a frame's own two commands stand right in front of its transfer, with no CPU access between, so that
--- each of its lines is covered (`place-covered`); its other calls are commands, which join anyway (`frame-joined`).
+-- which demand 3 applies. Why: a frame's own two commands stand right in front of its transfer, with no CPU access
+-- between, so that each of its lines is covered (`place-covered`); its other calls are commands, which join anyway
+-- (`frame-joined`).
 use Prim.Native.Nat.{ℕ, zero, suc, _+_, _*_, _%_, _≤_, _<_}
 use mathlib.Core.Bool.{Bool, true, false, not, cond, _&&_, _||_}
 use mathlib.Core.Path.{_≡_, refl, sym, ap, _∙_, subst}

@@ -20,7 +20,7 @@ use Rattle.model.specs.Refusals.{unless, lentDue, blockDue, placeOk}
 use Rattle.model.specs.Transfers.{transferredIn, transferLength, transferDue}
 use Rattle.model.specs.Unaligned.{readUp}
 use Rattle.model.specs.Trace.{command}
-use Rattle.model.specs.Calls.{Reply, refused, carriedOut, commandDue, commandState, accepted, readDone, step, call, transferDueIn, transferInStep, transferInCall, after}
+use Rattle.model.specs.Calls.{Reply, carriedOut, commandDue, commandState, accepted, readDone, step, call, transferDueIn, transferInStep, transferInCall, after}
 use Rattle.agreement.specs.Frames.{frameLength, turnOf, framePlace, placingCalls, frameRead, columnSum, columnSums, Framed, framed, refusedFrame, frameDue, frameDueIn, frameStep, frameCall}
 use Rattle.model.specs.Laws.{bool, cond-elim, lowestDue-none, unless-none, transfer-block}
 use Rattle.agreement.specs.FrameSums.{pixelSums, FrameAt, FramesAdd, FramesAddUp, FramesWorked, end, next}

@@ -73,8 +73,8 @@ framed t px z =
       next = callsTo (byteRead (framePlace t)) frameLength (after (placingCalls t px) z);
     }
 
--- ---- "Each refused frame, whatever the number, is refused by itself and doesn't change whose turn it is. .. Sums are 0
--- with a refusal."
+-- ---- "Each refused frame, whatever the number, is refused by itself and doesn't change whose turn it is. .. Sums are
+-- 0 with a refusal."
 abbrev pub refusedFrame : ℕ → ℕ → State → Framed
 refusedFrame n t z = record { number = n; turn = turnOf t; sums = replicate frameColumns 0; next = z }
 

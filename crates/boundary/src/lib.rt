@@ -7,6 +7,7 @@ ghost use mathlib.Core.Path.{_≡_};
 ghost use Rattle.model.specs.Refusals.{lentDue, viewDue};
 ghost use Rattle.model.specs.Trace.{command};
 ghost use Rattle.model.specs.Calls.{oneCommand, freshStart, readUnaligned, writeUnaligned, transferIn, transferOut, called, ran, runCall};
+ghost use Rattle.agreement.specs.Frames.{frameCall};
 ghost use Rattle.traces.specs.ShortRuns.{shortRunOf, shortRunNumber};
 ghost use Rattle.traces.specs.Writing.{writeCommand};
 ghost use Rattle.traces.specs.Load.{loadTrace};
@@ -14,10 +15,12 @@ ghost use Rattle.trace_writer.specs.Told.{told};
 ghost use Rattle.load.specs.Told.{toldLoad};
 ghost use Rattle.short_runs.specs.Told.{toldRun, toldNumber};
 ghost use Rattle.tags.specs.Words.{recordIn, stateIn};
+ghost use Rattle.frames.specs.Told.{toldFramed};
 ghost use Rattle.c_answers.specs.Told.{Tells};
 ghost use Rattle.view.specs.Into.{seenAs, viewInto};
 use c_answers::CAnswer;
 use calls::Ran;
+use frames::Framed;
 use load::Load;
 use short_runs::RunNumber;
 use short_runs::ShortRun;
@@ -124,6 +127,23 @@ pub extern "C" fn c64x_transfer_out(
     ensures refused { λ x. ⌜ (x .number ≢ 0 → now (words .exit) ≡ now (words .entry)) ⌝ }
 {
     c_answers::transfer_out(words, address, buffer, l1d, l2, ext)
+}
+
+// A camera frame (02, U14): to the place of its turn, and added up by columns.
+#[no_mangle]
+pub extern "C" fn c64x_frame(
+    words: &mut [u32; WORDS],
+    turn: u8,
+    pixels: &[u8],
+    l1d: &mut [u8],
+    l2: &mut [u8],
+    ext: &mut [u8],
+) -> Framed
+    ensures { λ x. ⌜ toldFramed x (stateIn (now (words .exit)) (now (l1d .exit)) (now (l2 .exit)) (now (ext .exit)))
+        ≡ frameCall turn (now (pixels .entry)) (stateIn (now (words .entry)) (now (l1d .entry)) (now (l2 .entry)) (now (ext .entry))) ⌝ }
+    ensures refused { λ x. ⌜ (x .number ≢ 0 → now (words .exit) ≡ now (words .entry)) ⌝ }
+{
+    calls::frame(words, turn, pixels, l1d, l2, ext)
 }
 
 #[no_mangle]

@@ -1,7 +1,7 @@
-// The exported calls of paper 01 in Rattle, with the non-aligned accesses and the transfers of 02. The record goes in
-// and comes back by value, with its sets in arrays of set structs; each call puts it into words, makes the call on the
-// words, and takes it out again. None requires anything. The contracts equate the answer, the record and every lent
-// byte with the definitions (model/specs/Calls).
+// The exported calls of paper 01 in Rattle, with the non-aligned accesses, the transfers and the frames of 02. The
+// record goes in and comes back by value, with its sets in arrays of set structs; each call puts it into words, makes
+// the call on the words, and takes it out again. None requires anything. The contracts equate the answer, the record
+// and every lent byte with the definitions (model/specs/Calls, agreement/specs/Frames).
 ghost use mathlib.Core.List.{List};
 ghost use mathlib.Core.Path.{_≡_};
 ghost use Prim.Native.Nat.{ℕ};
@@ -10,11 +10,13 @@ ghost use Rattle.model.specs.Records.{state};
 ghost use Rattle.model.specs.Refusals.{viewDue};
 ghost use Rattle.model.specs.Trace.{command};
 ghost use Rattle.model.specs.Calls.{oneCommand, readUnaligned, writeUnaligned, transferIn, transferOut, called, freshCall, runCall, viewCall};
+ghost use Rattle.agreement.specs.Frames.{frameCall};
 ghost use Rattle.access.specs.Serving.{answerOf};
 ghost use Rattle.calls.specs.Handed.{withBytes};
 ghost use Rattle.tags.specs.Words.{recordWords, stateIn};
-ghost use Rattle.by_value.specs.Called.{calledAs, ranAs};
+ghost use Rattle.by_value.specs.Called.{calledAs, framedAs, ranAs};
 use access::Answer;
+use frames::COLUMNS;
 use model::Left;
 use model::Record;
 use tags::WORDS;
@@ -29,6 +31,15 @@ pub struct Called {
     pub l2_left: Left,
     pub external_read: u32,
     pub external_written: u32,
+    pub record: Record,
+}
+
+// What a frame returns: the number of its refusal (0: accepted), whose turn is next, the sums of the columns, and the
+// record after it.
+pub struct FrameResult {
+    pub number: u8,
+    pub turn: u8,
+    pub sums: [u32; COLUMNS],
     pub record: Record,
 }
 
@@ -150,6 +161,31 @@ pub fn transfer_out(
     packing::pack(r, &mut tags);
     let x = calls::transfer_out(&mut tags, address, buffer, l1d, l2, ext);
     answered(x, &tags)
+}
+
+// A camera frame (02, U14).
+pub fn frame(
+    r: Record,
+    turn: u8,
+    pixels: &[u8],
+    l1d: &mut [u8],
+    l2: &mut [u8],
+    ext: &mut [u8],
+) -> FrameResult
+    ensures { λ x. ⌜ framedAs x (now (l1d .exit)) (now (l2 .exit)) (now (ext .exit))
+        ≡ frameCall turn (now (pixels .entry)) (state r (now (l1d .entry)) (now (l2 .entry)) (now (ext .entry))) ⌝ }
+{
+    let mut tags = [0u32; WORDS];
+    packing::pack(r, &mut tags);
+    let x = calls::frame(&mut tags, turn, pixels, l1d, l2, ext);
+    let after = packing::unpack(&tags);
+    let sums = x.sums;
+    FrameResult {
+        number: x.number,
+        turn: x.turn,
+        sums: sums,
+        record: after,
+    }
 }
 
 // A fresh start: L and E are the lengths that are lent.

@@ -2,7 +2,6 @@
 -- states that C's words and bytes stand for: demand 3 for that list (crate agreement) carries over, at a single call as
 -- in Along, behind a frame where its calls have come to. The sums of an accepted frame are the camera's by agreement's
 -- theorem, the state of a list from a fresh start being well formed.
-use Prim.Native.Nat.{ℕ}
 use mathlib.Core.Bool.{true}
 use mathlib.Core.Path.{_≡_, sym, ap, _∙_, subst}
 use mathlib.Core.List.{List, [], _∷_, _++_}
@@ -11,15 +10,14 @@ use Rattle.model.specs.Records.{State}
 use Rattle.model.specs.Flat.{Flat, freshFlat, flatCalled, flatAfter}
 use Rattle.model.specs.Calls.{freshCall, Call, called, after}
 use Rattle.agreement.specs.Demand.{Agree, next}
-use Rattle.agreement.specs.Frames.{frameCall}
-use Rattle.agreement.specs.FrameSums.{pixelSums, Item, single, frame, itemCalls, expanded, itemsJoined}
+use Rattle.agreement.specs.FrameSums.{Item, single, frame, itemCalls, expanded, itemsJoined}
 use Rattle.agreement.proofs.Good.{Well}
 use Rattle.agreement.proofs.Agreement.{fresh-accepted}
 use Rattle.agreement.proofs.Stays.{fresh-well, after-well}
 use Rattle.agreement.proofs.Frames.{frame-adds}
 use Rattle.agreement.proofs.FrameLists.{frame-is-calls, items-demand3}
 use Rattle.c_calls.specs.FromC.{Held, stateOf}
-use Rattle.c_calls.specs.FramesFromC.{FrameAnswered, framedBy, ItemChain, done, made, added, ItemsAgreeFromC, whole, also, sums, ItemsDemand3FromC}
+use Rattle.c_calls.specs.FramesFromC.{FrameAnswered, ItemChain, done, made, added, ItemsAgreeFromC, whole, also, sums, ItemsDemand3FromC}
 use Rattle.c_calls.proofs.Along.{number-of, same-at}
 
 -- ---- what is left of a list behind its front

@@ -1,6 +1,6 @@
 -- Demand 3 for lists of calls from C that hold frames (02, U14), what it says; proofs/Frames shows it. A frame is given
--- to C with its number, whose turn is next and 64 sums, and leaves what C holds for the next call; it joins as the calls
--- that it is made of (agreement/specs/FrameSums), which flat memory carries out too.
+-- to C with its number, whose turn is next and 64 sums, and leaves what C holds for the next call; it joins as the
+-- calls that it is made of (agreement/specs/FrameSums), which flat memory carries out too.
 use Prim.Native.Nat.{ℕ}
 use mathlib.Core.Bool.{true}
 use mathlib.Core.Path.{_≡_}

@@ -1,5 +1,5 @@
 -- The checks followed by the loop are the calls of paper 01: refused by check 1 or 2 with all as it was, or the step
--- of the one command, or the run; a non-aligned access and a transfer likewise (02, U6, U1).
+-- of the one command, or the run; a non-aligned access, a transfer and a frame likewise (02, U6, U1, U14).
 use Prim.Native.Nat.{ℕ}
 use mathlib.Core.Bool.{cond}
 use mathlib.Core.List.{List}
@@ -12,6 +12,7 @@ use Rattle.model.specs.Records.{State}
 use Rattle.model.specs.Refusals.{lentDue}
 use Rattle.model.specs.Calls.{Reply, refused, step, call, readUnalignedStep, readUnalignedCall, writeUnalignedStep, writeUnalignedCall, handedBack, transferInStep, transferInCall, transferOutStep, transferOutCall, Run, ran, runFrom, runCall}
 use Rattle.model.specs.Laws.{cond-true}
+use Rattle.agreement.specs.Frames.{Framed, refusedFrame, frameStep, frameCall}
 use Rattle.model.specs.declared.Command.{Command}
 
 -- ---- what checks 1 and 2 decide: the call is refused by their number, or goes on
@@ -69,3 +70,11 @@ module _ (z : State) (due : ℕ) (ed : due ≡ lentDue z) where
   pub out-done : (a : ℕ) (o : List ℕ) (x : Reply) → due ≡ 0 → x ≡ transferOutStep a o z → x ≡ transferOutCall a o z
   unfolding transferOutCall
   out-done a o x = passed x (transferOutStep a o z) (handedBack (lentDue z) o z)
+
+  pub frame-refused : (t : ℕ) (px : List ℕ) → due ≢ 0 → refusedFrame due t z ≡ frameCall t px z
+  unfolding frameCall
+  frame-refused t px = stopped (frameStep t px z) (λ k. refusedFrame k t z)
+
+  pub frame-done : (t : ℕ) (px : List ℕ) (x : Framed) → due ≡ 0 → x ≡ frameStep t px z → x ≡ frameCall t px z
+  unfolding frameCall
+  frame-done t px x = passed x (frameStep t px z) (refusedFrame (lentDue z) t z)

@@ -1,7 +1,8 @@
 // The calls of paper 01 on a record that is lent as words: the fresh start, any command, the run over a trace; the
-// non-aligned accesses of 02, U6, and its transfers, U1. Every content of the words, every number that a caller can
-// pass and every length of a lent buffer meets a check, and a refused call leaves every word and every byte as it was.
-// The contracts equate the answer, the record and every lent byte with the definitions (model/specs/Calls).
+// non-aligned accesses of 02, U6, its transfers, U1, and its frames, U14. Every content of the words, every number that
+// a caller can pass and every length of a lent buffer meets a check, and a refused call leaves every word and every
+// byte as it was. The contracts equate the answer, the record and every lent byte with the definitions
+// (model/specs/Calls, agreement/specs/Frames).
 ghost use mathlib.Core.Logic.{_≢_};
 ghost use mathlib.Core.Path.{_≡_};
 ghost use Prim.Native.Nat.{_<_};
@@ -10,9 +11,12 @@ ghost use Rattle.model.specs.Refusals.{lentDue};
 ghost use Rattle.model.specs.Trace.{command};
 ghost use Rattle.access.specs.Serving.{answerOf, plainAnswer};
 ghost use Rattle.model.specs.Calls.{oneCommand, freshStart, readUnaligned, writeUnaligned, transferIn, transferOut, called, freshOk, ran, runCall};
+ghost use Rattle.agreement.specs.Frames.{frameCall};
 ghost use Rattle.tags.specs.Words.{recordWords, stateIn};
+ghost use Rattle.frames.specs.Told.{toldFramed};
 ghost use Rattle.calls.specs.Handed.{withBytes};
 use access::Answer;
+use frames::Framed;
 use geometry::L1d;
 use geometry::L2;
 use model::Command;
@@ -167,6 +171,27 @@ pub fn transfer_out(
     }
     let number = transfers::transfer_out(tags, address, buffer, l1d, l2, ext);
     numbered(number)
+}
+
+// A frame (02, U14): the checks of lengths and record, then the frame.
+pub fn frame(
+    tags: &mut [u32],
+    turn: u8,
+    pixels: &[u8],
+    l1d: &mut [u8],
+    l2: &mut [u8],
+    ext: &mut [u8],
+) -> Framed
+    requires { ⌜ length (now tags) ≡ recordWords ⌝ }
+    ensures { λ x. ⌜ toldFramed x (stateIn (now (tags .exit)) (now (l1d .exit)) (now (l2 .exit)) (now (ext .exit)))
+        ≡ frameCall turn (now (pixels .entry)) (stateIn (now (tags .entry)) (now (l1d .entry)) (now (l2 .entry)) (now (ext .entry))) ⌝ }
+    ensures refused { λ x. ⌜ (x .number ≢ 0 → now (tags .exit) ≡ now (tags .entry)) ⌝ }
+{
+    let lent = record_check::lent_due(tags, l1d, l2, ext);
+    if lent != 0 {
+        return frames::refused(lent, turn);
+    }
+    frames::frame(tags, turn, pixels, l1d, l2, ext)
 }
 
 fn fresh_ok(l1d: &[u8], l2: &[u8], ext: &[u8]) -> bool

@@ -1,8 +1,8 @@
 // Executes every exported call of crate by_value: a list of calls from a fresh start with L = E = 65,536 and external
 // memory zero, then a run over a trace. It prints what each answers: number, server and value; of a view its number,
-// how many bytes it has, and two of them; of a transfer out its number and two bytes of the buffer; of the run bytes
-// consumed, count and stop number, then each answer. What it has to print is told by the reference model
-// (compare/examples/each_call.rs).
+// how many bytes it has, and two of them; of a transfer out its number and two bytes of the buffer; of a frame its
+// number, whose turn is next and sum 0, then sums 1, 47 and 63; of the run bytes consumed, count and stop number, then
+// each answer. What it has to print is told by the reference model (compare/examples/each_call.rs).
 ghost use Prim.Native.Nat.{_≤_};
 use by_value::Called;
 use model::Record;
@@ -42,14 +42,15 @@ fn seen<'a>(r: Record, l2: &'a [u8], ext: &'a [u8], address: u32) {
     show(part.len() as u64, wide(part[0]), wide(part[2]));
 }
 
-// How many bytes of the buffer for a transfer are lent: those that are asked for, and at most all.
-fn front(n: u32) -> usize
-    ensures { λ r. ⌜ r ≤ 128 ⌝ }
+// How many bytes of a buffer are lent: those that are asked for, and at most all.
+fn front(n: u32, all: usize) -> usize
+    ensures { λ r. ⌜ r ≤ all ⌝ }
 {
-    if n < 128 {
-        return n as usize;
+    let k = n as usize;
+    if k < all {
+        return k;
     }
-    128
+    all
 }
 
 // A transfer of the front of a buffer whose bytes are all v. Of one out the first and the last byte are told.
@@ -64,7 +65,7 @@ fn transferred_in(
 ) -> Record {
     let v8 = (v % 256) as u8;
     let buffer = [v8; 128];
-    let k = front(n);
+    let k = front(n, 128);
     told(by_value::transfer_in(r, address, &buffer[..k], l1d, l2, ext))
 }
 
@@ -79,14 +80,43 @@ fn transferred_out(
 ) -> Record {
     let v8 = (v % 256) as u8;
     let mut buffer = [v8; 128];
-    let k = front(n);
+    let k = front(n, 128);
     let x = by_value::transfer_out(r, address, &mut buffer[..k], l1d, l2, ext);
     show(wide(x.number), wide(buffer[0]), wide(buffer[127]));
     x.record
 }
 
+// The pixels of a frame, and some more: all of them v, but in row k the one of column k is k.
+fn pixels(v: u8) -> [u8; 3076] {
+    let mut buffer = [v; 3076];
+    let mut k: u8 = 0;
+    while k < 48 {
+        let at = k as usize * 65;
+        buffer[at] = k;
+        k += 1;
+    }
+    buffer
+}
+
+fn framed(
+    r: Record,
+    n: u32,
+    turn: u32,
+    v: u32,
+    l1d: &mut [u8; 16384],
+    l2: &mut [u8; 65536],
+    ext: &mut [u8; 65536],
+) -> Record {
+    let buffer = pixels((v % 256) as u8);
+    let k = front(n, 3076);
+    let x = by_value::frame(r, (turn % 256) as u8, &buffer[..k], l1d, l2, ext);
+    show(wide(x.number), wide(x.turn), wide32(x.sums[0]));
+    show(wide32(x.sums[1]), wide32(x.sums[47]), wide32(x.sums[63]));
+    x.record
+}
+
 // The call of one row: its code (13: a view; 14 and 15: a non-aligned read and write; 16 and 17: a transfer in and out,
-// of so many bytes, at an address) and its numbers.
+// of so many bytes, at an address; 18: a frame of so many bytes, and its turn) and its numbers.
 fn one(
     r: Record,
     code: u32,
@@ -147,6 +177,9 @@ fn one(
     }
     if code == 17 {
         return transferred_out(r, a, b, v, l1d, l2, ext);
+    }
+    if code == 18 {
+        return framed(r, a, b, v, l1d, l2, ext);
     }
     seen(r, l2, ext, a);
     r
@@ -541,8 +574,44 @@ fn main() {
         8,
         2147549180,
         1,
+        18,
+        3072,
+        0,
+        3,
+        0,
+        1,
+        2147483648,
+        0,
+        1,
+        1,
+        2147486785,
+        9,
+        18,
+        3072,
+        1,
+        5,
+        0,
+        1,
+        2147486785,
+        0,
+        18,
+        3071,
+        1,
+        7,
+        18,
+        3076,
+        0,
+        7,
+        18,
+        3072,
+        6,
+        255,
+        0,
+        1,
+        2147483713,
+        0,
     ];
-    for k in 0..84 {
+    for k in 0..93 {
         let p = k * 4;
         r = one(
             r,

@@ -1,6 +1,6 @@
 // The L2 cache commands on lent words: what is done to one line, to the lines of a block, to all lines. `code` is the
-// trace's for a block; 10 and 11 are writeback and writeback-invalidate where L1D holds nothing, as behind a mode change
-// or a command over all lines, which empty L1D first. Each contract is the definition that the code asks for
+// trace's for a block; 10 and 11 are writeback and writeback-invalidate where L1D holds nothing, as behind a mode
+// change or a command over all lines, which empty L1D first. Each contract is the definition that the code asks for
 // (`l2Operation`), at one way, at the line of an address, at each line.
 ghost use mathlib.Core.Path.{_≡_};
 ghost use mathlib.Core.Logic.{_≢_};

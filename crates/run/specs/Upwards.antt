@@ -1,18 +1,16 @@
 -- Given commands, n of them, where their answers have room: each is the step of the state that those in front of it
 -- left, and its answer is put down behind theirs (`allUp`). The loop over them is this (`told-up`).
-use Prim.Native.Nat.{ℕ, zero, suc, _+_, _*_, _-_, _≤_, _<_}
-use mathlib.Core.Path.{_≡_, refl, sym, _∙_}
+use Prim.Native.Nat.{ℕ, zero, suc, _+_, _*_, _≤_, _<_}
+use mathlib.Core.Path.{_≡_, refl, _∙_}
 use mathlib.Core.List.{List}
 use mathlib.Core.Logic.{_≢_}
 use native.Mathlib.Omega.{arith}
 use native.Mathlib.Numerals.{add-one}
 use lib.ListN.{length}
-use lib.Dec.{ltb, leb, eqb}
-use borrow.Author.Tests.{lt-ltb, le-ltb, le-leb, ne-eqb}
+use borrow.Author.Tests.{lt-ltb, le-leb, ne-eqb}
 use Rattle.model.specs.Basics.{each}
 use Rattle.model.specs.Records.{State}
 use Rattle.model.specs.Laws.{length-stored}
-use Rattle.model.specs.Trace.{Decoded}
 use Rattle.model.specs.Calls.{step, Run, ran, putAnswer, putReply, runFrom}
 use Rattle.model.specs.declared.Command.{Command}
 use Rattle.run.specs.Executed.{raised, sourceOf, endOf, stopOf, executes}
@@ -30,7 +28,7 @@ abbrev pub allUp : Command → ℕ → State → List ℕ → Run
 allUp c n z o = ran (upState c n z) n n 0 (upAnswers c n z o)
 
 -- ---- their answers take the room that was there
-up-long : (c : Command) (k : ℕ) (z : State) (o : List ℕ) → length (upAnswers c k z o) ≡ length o
+pub up-long : (c : Command) (k : ℕ) (z : State) (o : List ℕ) → length (upAnswers c k z o) ≡ length o
 unfolding upAnswers putAnswer
 up-long c zero z o = refl
 up-long c (suc k) z o = simp length-stored refl ∙ up-long c k z o

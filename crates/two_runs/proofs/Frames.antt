@@ -1,28 +1,26 @@
 -- U8 for lists that hold frames (`same-frame-behaviour`, `same-sums`, `one-byte-in-frames`). Why: a frame's number goes
--- by the record and by lengths alone (`frame-number`), so that two such frames are lists of calls that differ in what is
--- written alone, and what is shown of lists of calls applies. The sums of an accepted frame are its pixels' and those of
--- a refused one 0 (crate agreement).
-use Prim.Native.Nat.{ℕ, zero, suc}
+-- by the record and by lengths alone (`frame-number`), so that two such frames are lists of calls that differ in what
+-- is written alone, and what is shown of lists of calls applies. The sums of an accepted frame are its pixels' and
+-- those of a refused one 0 (crate agreement).
+use Prim.Native.Nat.{ℕ}
 use mathlib.Core.Bool.{cond}
 use mathlib.Core.Path.{_≡_, refl, sym, ap, _∙_}
-use mathlib.Core.Logic.{_≢_}
 use mathlib.Core.List.{List, [], _∷_, _++_}
 use lib.ListN.{length}
 use lib.Dec.{eqb}
 use borrow.Author.Tests.{eqb-true, eqb-false}
-use Rattle.model.specs.Records.{State, Shape}
+use Rattle.model.specs.Records.{State}
 use Rattle.model.specs.Refusals.{lentDue}
 use Rattle.model.specs.Calls.{Call, oneCommand, freshStart, look, readUnaligned, writeUnaligned, transferIn, transferOut, called, after}
-use Rattle.model.specs.Bytewise.{byteRead}
 use Rattle.model.specs.Laws.{bool}
-use Rattle.agreement.specs.Frames.{frameLength, turnOf, framePlace, nextTurn, placingCalls, frameDue, frameDueIn, framed, frameStep, frameCall}
+use Rattle.agreement.specs.Frames.{frameLength, turnOf, framePlace, nextTurn, frameDueIn, framed, frameStep, frameCall}
 use Rattle.agreement.specs.FrameSums.{FramesAdd, Item, single, frame, readsFrom, frameCalls, itemCalls, expanded}
 use Rattle.agreement.specs.FrameSums as Sums
 use Rattle.agreement.proofs.Frames.{frames-add-up}
 use Rattle.agreement.proofs.FrameLists.{frame-is-calls}
 use Rattle.two_runs.specs.TwoRuns.{SameButStored, SameButWritten, sameCommand, sameStart, sameLook, sameRead, sameWrite, sameIn, sameOut, ListsSameButWritten}
 use Rattle.two_runs.specs.TwoRuns as Says
-use Rattle.two_runs.specs.Frames.{SameItem, sameSingle, sameFrame, FramesShared, ItemsShared, SameFrameBehaviour, SameSums, OneByteInFrames}
+use Rattle.two_runs.specs.Frames.{sameSingle, sameFrame, FramesShared, ItemsShared, SameFrameBehaviour, SameSums, OneByteInFrames}
 use Rattle.two_runs.specs.Frames as Tells
 use Rattle.two_runs.proofs.Along.{along-start}
 use Rattle.two_runs.proofs.Behaviour.{lent-due, shared, called-same, same-behaviour}

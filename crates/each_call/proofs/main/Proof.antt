@@ -12,10 +12,10 @@ use Rattle.each_call.proofs.told.Reads as told-reads
 use Rattle.io.proofs.large_buffer.Reads as large-buffer-reads
 
 abbrev Inv-loop : tie.InvT-loop
-Inv-loop l1d₀ l2₀ ext₀ r₀ list k₀ l1d l2 ext r k = k ≤ 84
+Inv-loop l1d₀ l2₀ ext₀ r₀ list k₀ l1d l2 ext r k = k ≤ 93
 
 abbrev μ-loop : tie.MeasureT-loop
-μ-loop l1d₀ l2₀ ext₀ r₀ list k₀ l1d l2 ext r k = 84 - k
+μ-loop l1d₀ l2₀ ext₀ r₀ list k₀ l1d l2 ext r k = 93 - k
 
 large-buffer-requires : tie.Need-large-buffer-requires Inv-loop μ-loop
 large-buffer-requires c κs = search needs

@@ -1,15 +1,15 @@
 -- `run::run` meets its contract: what is left to do gives the whole. Each command is one step of the model, by what
 -- its function ensures; one given command is the first and the last of its loop, and leaves it. The whole over a trace
 -- is paper 01's run (`told-all`), over several given commands their steps (`told-up`).
-use Rattle.run.specs.Executed.{sourceOf, endOf, noAnswer, executes, turn, stopped, at-end, Going, goes-on, told-all, Start, given-done, given-goes, given-turns}
+use Rattle.run.specs.Executed.{sourceOf, endOf, executes, turn, stopped, at-end, Going, goes-on, told-all, Start, given-done, given-goes, given-turns}
 use Rattle.run.specs.Upwards.{told-up, given-alone}
-use Rattle.tags.specs.Words.{recordWords, recordIn}
-use Rattle.access.specs.Serving.{answerOf, plainAnswer}
+use Rattle.tags.specs.Words.{recordIn}
+use Rattle.access.specs.Serving.{answerOf}
 use Rattle.access.specs.declared.Answer.{Answer}
 use Rattle.decode.specs.declared.Decoded.{Decoded as Next}
 use Rattle.model.specs.Memories.{sramLength}
 use Rattle.model.specs.Lines.{l2Sets}
-use Rattle.model.specs.Records.{State, state, l2SetsOf, sramOf}
+use Rattle.model.specs.Records.{State, state}
 use Rattle.model.specs.Trace.{Decoded}
 use Rattle.model.specs.Calls.{Reply, reply, step, Run, ran, putAnswer}
 use lib.ListN.{length}

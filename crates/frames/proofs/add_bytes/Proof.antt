@@ -1,0 +1,82 @@
+-- `frames::add_bytes` meets its contract: before column c those in front of it are done (specs/Sums). No sum wraps:
+-- what is added is a byte.
+use Rattle.frames.specs.Sums.{Adding, adding-none, column-added, adding-all}
+use Prim.Native.Nat.{_+_, _-_}
+use mathlib.Core.Path.{refl, sym, _∙_}
+use native.Mathlib.Omega.{arith}
+use lib.ListN.{getD}
+use borrow.Author.Needs.{needs}
+use Rattle.frames.proofs.add_bytes.Statement.{statement}
+use Rattle.frames.proofs.add_bytes.Tie as tie
+
+abbrev Inv-loop : tie.InvT-loop
+Inv-loop sums₀ from bytes at c₀ sums c = Adding from (λ k. getD bytes (at + k) 0) sums₀ sums c
+
+abbrev μ-loop : tie.MeasureT-loop
+μ-loop sums₀ from bytes at c₀ sums c = 64 - c
+
+loop-holds : tie.Need-loop-holds Inv-loop μ-loop
+loop-holds c = let a = c .args in adding-none (a .from) (λ k. getD (a .bytes .now) (a .at + k) 0) (a .sums .now) (c .pre .0 .1 .0) (c .pre .0 .0)
+
+add-sums : tie.Need-add-sums Inv-loop μ-loop
+add-sums c = let l = c .before .before .pre .0 .1 .1 in let t = c .loop-test .taken in omega arith
+
+shared-slice-read-sums : tie.Need-shared-slice-read-sums Inv-loop μ-loop
+shared-slice-read-sums c = let l = c .before .before .before .pre .0 .1 .1 in let t = c .before .loop-test .taken in omega arith
+
+cast-sums : tie.Need-cast-sums Inv-loop μ-loop
+cast-sums c = let l = c .before .before .loop in omega (arith, c .shared-slice-known .given (c .before .before .before .args .at + l .c))
+
+mul-sums : tie.Need-mul-sums Inv-loop μ-loop
+mul-sums c = search needs
+
+slice-read-sums : tie.Need-slice-read-sums Inv-loop μ-loop
+slice-read-sums c = let l = c .before .before .before .loop .inv .long in let t = c .before .before .loop-test .taken in omega arith
+
+add-sums-2 : tie.Need-add-sums-2 Inv-loop μ-loop
+add-sums-2 c =
+    let p-test = c .before .before in let l = p-test .before .loop in let t = p-test .loop-test .taken in
+    let r = l .inv .rest (l .c) (omega arith) in let h = p-test .before .before .pre .1 (l .c) (l .inv .from) t in
+    omega (arith, c .before .shared-slice-known .given (p-test .before .before .args .at + l .c))
+
+slice-write-sums : tie.Need-slice-write-sums Inv-loop μ-loop
+slice-write-sums c = let l = c .before .before .before .loop .inv .long in let t = c .before .before .loop-test .taken in omega arith
+
+add-c : tie.Need-add-c Inv-loop μ-loop
+add-c c = search needs
+
+loop-less : tie.Need-loop-less Inv-loop μ-loop
+loop-less c = search needs
+
+loop-again : tie.Need-loop-again Inv-loop μ-loop
+loop-again c =
+    let p-test = c .before .before in let l = p-test .before .loop in let a = p-test .before .before .args in
+    column-added (a .from) (λ k. getD (a .bytes .now) (a .at + k) 0) (a .sums .now) (l .sums) (l .c) (getD (a .bytes .now) (a .at + l .c) 0) (l .inv) (p-test .loop-test .taken) refl
+
+same-length : tie.Need-same-length Inv-loop μ-loop
+same-length c = c .before .loop .inv .long ∙ sym (c .before .before .pre .0 .0)
+
+returns : tie.Need-returns Inv-loop μ-loop
+returns c =
+    let l = c .before .loop in let a = c .before .before .args in
+    adding-all (a .from) (λ k. getD (a .bytes .now) (a .at + k) 0) (a .sums .now) (l .sums) (l .c) (l .inv) (c .loop-test .left)
+
+pub add-bytes-spec : {M : Type 1} → statement M
+add-bytes-spec =
+    tie.close
+    (tie.spec
+    Inv-loop
+    μ-loop
+    loop-holds
+    add-sums
+    shared-slice-read-sums
+    cast-sums
+    mul-sums
+    slice-read-sums
+    add-sums-2
+    slice-write-sums
+    add-c
+    loop-less
+    loop-again
+    same-length
+    returns)
