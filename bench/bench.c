@@ -382,6 +382,25 @@ static uint8_t same_transfer(const struct transfer *f)
     return y.number;
 }
 
+/* One frame on both sides, of pixels that stand in both buffers; the number. */
+static uint8_t same_frame(const char *where, uint8_t turn, size_t length)
+{
+    c64x_framed x = c64x_frame(&lib.r.library, turn, buffer, length, LENT(lib.m));
+    struct framed y = model_frame(&c.r.model, &c.m, turn, buffer_by_c, length);
+    if (x.number != y.number || x.turn != y.turn) differ(where, "number or turn");
+    if (memcmp(x.sums, y.sums, sizeof x.sums) != 0) differ(where, "sums");
+    return y.number;
+}
+
+/* A frame at any turn; most of them have as many pixels as one has. */
+static uint8_t some_frame(void)
+{
+    static const size_t lengths[6] = { 0, 3071, 3073, 6144, ((size_t)1 << 32) + 3072, SIZE_MAX };
+    for (size_t i = 0; i < C64X_FRAME_BYTES; i++) buffer[i] = buffer_by_c[i] = (uint8_t)below(256);
+    if (below(2)) same_dirty_word(EXTERNAL + 4 * below(1536));
+    return same_frame("frame", (uint8_t)below(below(2) ? 2 : 256), below(8) ? C64X_FRAME_BYTES : lengths[below(6)]);
+}
+
 /* Writes the counts of dirty lines into a record. */
 static void count_dirty(struct record *r)
 {
@@ -438,6 +457,7 @@ static void same_checks(size_t *refused, size_t *passed)
 static void same_calls(struct trace *t)
 {
     size_t refused = 0, passed = 0, put_out[2][4] = { { 0 } }, unaligned = 0, two = 0, moved = 0, sent = 0;
+    size_t framed = 0, unframed = 0;
     static const size_t ext[6] = { 128, 4096, 65536, 262144, 16777216 + 65536, 131072 };
     for (int round = 0; round < 160; round++) {
         fresh("random", 32768 * (1 + below(8)), ext[below(round % 16 ? 4 : 6)]);
@@ -486,6 +506,7 @@ static void same_calls(struct trace *t)
             uint32_t dirty = c.r.model.dirty_l1d;
             moved += same_transfer(&f) == 0;
             sent += c.r.model.dirty_l1d < dirty;
+            if (below(20) == 0) *(some_frame() == 0 ? &framed : &unframed) += 1;
             uint32_t seen_at = some_address() & ~(below(8) ? 63u : 0);
             size_t length = 63 + below(3);
             uint8_t seen[65] = { 0 }, seen_by_c[65] = { 0 };
@@ -506,6 +527,7 @@ static void same_calls(struct trace *t)
            put_out[0][2], put_out[0][3], put_out[1][2], put_out[1][3]);
     printf("%zu non-aligned accesses, %zu of which had L2 fetch two lines: also the same\n", unaligned, two);
     printf("%zu transfers, %zu of which sent lines of L1D home: also the same\n", moved, sent);
+    printf("%zu frames, and %zu that were refused: also the same\n", framed, unframed);
 }
 
 /* ---- the classes of a trace run */
@@ -895,6 +917,33 @@ static void transfer(const char *name, int in, uint32_t address, size_t length, 
     row(name, &library_ns, &c_ns, 1);
 }
 
+/* Frames, to both places in turn. Where the record is put back each time they all go to the first, and meet the same
+   lines; else each meets what the one before has left. */
+static void frame(const char *name, size_t length, int put_back, uint8_t expected)
+{
+    static union both kept;
+    struct times library_ns = NO_TIME, c_ns = NO_TIME;
+    uint8_t turn = 0;
+    for (size_t i = 0; i < C64X_FRAME_BYTES; i++) buffer[i] = buffer_by_c[i] = (uint8_t)(i * 7 + i / 64);
+    kept = c.r;
+    for (int i = 0; i < CALLS; i++) {
+        if (put_back) lib.r = c.r = kept;
+        double at = now();
+        c64x_framed x = c64x_frame(&lib.r.library, turn, buffer, length, LENT(lib.m));
+        took(&library_ns, at);
+        at = now();
+        struct framed y = model_frame(&c.r.model, &c.m, turn, buffer_by_c, length);
+        took(&c_ns, at);
+        if (x.number != y.number || x.turn != y.turn || memcmp(x.sums, y.sums, sizeof x.sums) != 0)
+            differ(name, "number, turn or sums");
+        if (y.number != expected) differ(name, "not the number that is expected");
+        if (i == 0 || i == CALLS - 1) compare(name);
+        if (!put_back) turn = y.turn;
+    }
+    lib.r = c.r = kept;
+    row(name, &library_ns, &c_ns, 1);
+}
+
 /* The technician's call. */
 static void view(const char *name, uint32_t address, uint8_t expected)
 {
@@ -971,6 +1020,37 @@ static void transfers(struct trace *t)
     fill(t, 262144, 1 << 20, 7);
     lib.answers_len = c.answers_len = 0;
     each_transfer("external memory", EXTERNAL);
+}
+
+/* Frames in modes 0 and 1 with either MAR bit, each after the other; then over 48 lines that the CPU has written; and
+   with L1D frozen, and refused. */
+static void frames(struct trace *t)
+{
+    char text[100];
+    head("a frame of the camera, 3,072 pixels (L = 65,536)");
+    for (uint32_t mode = 0; mode < 2; mode++)
+        for (uint32_t bit = 2; bit-- > 0;) {
+            start(t, bit, mode);
+            play("frames", t);
+            lib.answers_len = c.answers_len = 0;
+            snprintf(text, sizeof text, "frame after frame, mode %u, MAR bit %u", mode, bit);
+            frame(text, C64X_FRAME_BYTES, 0, 0);
+        }
+    for (uint32_t mode = 0; mode < 2; mode++) {
+        start(t, 1, mode);
+        for (uint32_t a = 0; a < C64X_FRAME_BYTES; a += 64)
+            put(t, 0, 4, EXTERNAL + a, 0), put(t, 1, 4, EXTERNAL + a, a);
+        play("frames", t);
+        lib.answers_len = c.answers_len = 0;
+        snprintf(text, sizeof text, "frame over 48 dirty lines of L1D, mode %u", mode);
+        frame(text, C64X_FRAME_BYTES, 1, 0);
+    }
+    start(t, 1, 1);
+    put(t, 12, 1, 0, 0);
+    play("frames", t);
+    lib.answers_len = c.answers_len = 0;
+    frame("frame after frame, mode 1, MAR bit 1, L1D frozen", C64X_FRAME_BYTES, 0, 0);
+    frame("frame refused with 20 (the check and little more)", C64X_FRAME_BYTES - 1, 0, 20);
 }
 
 static void each_call(uint32_t count)
@@ -1089,6 +1169,7 @@ static void directs(struct trace *t)
 
     putting_out(t);
     transfers(t);
+    frames(t);
 
     head("the check of the whole record, and little more");
     static const uint32_t modes[5] = { 0, 1, 2, 3, 7 };

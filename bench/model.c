@@ -724,6 +724,27 @@ uint8_t model_transfer_out(struct record *r, const struct lent *m, uint32_t addr
     return number;
 }
 
+/* A frame (02, U14): both block writeback-invalidates over its place, the transfer in, then each pixel is read. */
+struct framed model_frame(struct record *r, const struct lent *m, uint8_t turn, const uint8_t *pixels, size_t length)
+{
+    struct framed f = { lent_due(r, m), turn & 1, { 0 } };
+    if (f.number) return f;
+    f.number = r->extlen < 6144 ? 19 : length != 3072 ? 20 : 0;
+    if (f.number) return f;
+    struct machine k = machine_of(r, m);
+    uint32_t place = EXTERNAL + (f.turn ? 0xC00 : 0);
+    l2_block(&k, 5, place, 768);
+    l1d_block(&k, 7, place, 768);
+    memcpy(transferred(&k, place, length), pixels, length);
+    for (uint32_t i = 0; i < 3072; i++) {
+        struct answer q;
+        read(&k, 1, place + i, &q, NULL);
+        f.sums[i % 64] += (uint32_t)q.value;
+    }
+    f.turn ^= 1;
+    return f;
+}
+
 /* ---- the trace */
 
 /* A number of at most `bits` bits; the place after it, or NULL. */

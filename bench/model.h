@@ -106,6 +106,16 @@ uint8_t model_transfer_in(struct record *r, const struct lent *m, uint32_t addre
                           size_t length);
 uint8_t model_transfer_out(struct record *r, const struct lent *m, uint32_t address, uint8_t *buffer, size_t length);
 
+/* A frame of the camera (paper 02, U14), which no trace has either: its number, the next one's turn, and each column
+   added up. */
+struct framed {
+    uint8_t number;
+    uint8_t turn;
+    uint32_t sums[64];
+};
+
+struct framed model_frame(struct record *r, const struct lent *m, uint8_t turn, const uint8_t *pixels, size_t length);
+
 struct run_result model_run(struct record *r, const struct lent *m, const uint8_t *trace, size_t trace_len,
                             uint8_t *answers, size_t answers_len);
 

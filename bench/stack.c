@@ -16,7 +16,7 @@
 
 /* The calls, in the order of the codes of a trace; then the others. */
 enum {
-    FRESH = 13, READ_UNALIGNED, WRITE_UNALIGNED, TRANSFER_IN, TRANSFER_OUT, RUN, VIEW, VIEW_NUMBER, SHORT_RUN_OF,
+    FRESH = 13, READ_UNALIGNED, WRITE_UNALIGNED, TRANSFER_IN, TRANSFER_OUT, FRAME, RUN, VIEW, VIEW_NUMBER, SHORT_RUN_OF,
     SHORT_RUN_NUMBER, PUT, LOAD, KINDS
 };
 
@@ -39,6 +39,7 @@ static const char *const names[KINDS] = {
     "c64x_write_unaligned",
     "c64x_transfer_in",
     "c64x_transfer_out",
+    "c64x_frame",
     "c64x_run",
     "c64x_view",
     "c64x_view_number",
@@ -80,6 +81,12 @@ static uint32_t below(uint32_t bound)
 
 #define LENT l1d, sizeof l1d, l2, l2_len, ext, sizeof ext
 
+/* By itself, so that the 260 bytes that come back have their place in the frame of this call and of no other. */
+static void __attribute__((noinline)) frame(uint32_t turn, uint32_t length)
+{
+    c64x_frame(&record, (uint8_t)turn, buffer, length, LENT);
+}
+
 static void call(void)
 {
     c64x_record *r = &record;
@@ -103,6 +110,7 @@ static void call(void)
     case WRITE_UNALIGNED: c64x_write_unaligned(r, first, second, now.value, LENT); break;
     case TRANSFER_IN: c64x_transfer_in(r, first, buffer, second, LENT); break;
     case TRANSFER_OUT: c64x_transfer_out(r, first, buffer, second, LENT); break;
+    case FRAME: frame(first, second); break;
     case RUN: c64x_run(r, trace, trace_len, LENT, answers, sizeof answers); break;
     case VIEW: c64x_view(r, first, l2, l2_len, ext, sizeof ext, seen, sizeof seen); break;
     case VIEW_NUMBER: c64x_view_number(r, first, l2, l2_len, ext, sizeof ext); break;
@@ -212,6 +220,7 @@ static void every_call(void)
         { TRANSFER_IN, 0, C64X_TRANSFER_BYTES, 0 }, { TRANSFER_IN, 0, 0, 0 }, { TRANSFER_IN, EXTERNAL - 4, 8, 0 },
         { TRANSFER_OUT, EXTERNAL, 65536, 0 }, { TRANSFER_OUT, 60, 8, 0 }, { TRANSFER_OUT, 0, 32768, 0 },
         { TRANSFER_OUT, 0, C64X_TRANSFER_BYTES, 0 }, { TRANSFER_OUT, 2, 4, 0 }, { TRANSFER_OUT, EXTERNAL, 262144, 0 },
+        { FRAME, 0, C64X_FRAME_BYTES, 0 }, { FRAME, 1, C64X_FRAME_BYTES, 0 }, { FRAME, 0, 0, 0 },
         { FRESH, 0, 0, 0 }, { VIEW, EXTERNAL + 64, 0, 0 }, { VIEW, 64, 0, 0 }, { VIEW, 4, 0, 0 },
         { VIEW_NUMBER, EXTERNAL + 64, 0, 0 }, { VIEW_NUMBER, 4, 0, 0 },
         { PUT, 4, EXTERNAL, 5 }, { PUT, UINT32_MAX, UINT32_MAX, UINT64_MAX },
@@ -288,6 +297,7 @@ int main(void)
             measure(below(2) ? TRANSFER_IN : TRANSFER_OUT, to & ~3u, 4 * below(300), 0);
             measure(VIEW, q.second & ~63u, 0, 0);
         }
+        for (uint32_t turn = 0; turn < 2; turn++) measure(FRAME, turn, C64X_FRAME_BYTES, 0);
         trace_len = 0;
         while (trace_len < 2000) {
             struct call q = some_command();

@@ -51,6 +51,8 @@
  *   16  fewer bytes of the output are left than the command, or the whole load, has
  *   17  L1D is to be frozen or thawed by a number above 1
  *   18  no short run: its number is above 4,680, it has more than four digits, or a digit is above 7
+ *   19  external memory has fewer than 6,144 bytes: there is no room for two frames
+ *   20  the frame does not have 3,072 bytes
  *
  * Where several are due, the lowest counts (only in a trace 11, then 12, come before 3 to 10 and 17). A refused call
  * changes nothing: no byte of the record, of a memory or of a buffer. (The one exception is c64x_fresh; see there. A
@@ -63,7 +65,7 @@
  * same time on different threads. Calls on one chip may not: give each chip to one thread, or guard it by a lock.
  *
  * STACK. A call needs at most C64X_STACK_BYTES of stack. That leaves room to grow: no call was measured to take more
- * than 1,176 bytes. `sh bench/stack` measures each of them, and fails where one takes more than is said here.
+ * than 2,248 bytes. `sh bench/stack` measures each of them, and fails where one takes more than is said here.
  *
  * LINKING. The functions stand in target/staticlib/libboundary.a (64-bit x86), which `rt staticlib boundary` writes.
  * They call nothing but memcpy and memset of the C library: no allocation, no files, no signals.
@@ -88,10 +90,10 @@ extern "C" {
  * record by value; since 2.4 the L2 commands reach all of L1D; since 2.5 L1D can be frozen, and a byte of the record
  * that was padding says whether it is; since 3.0 two counts of dirty lines stand in front of the record's sets; since
  * 4.0 an answer also tells which lines an access put out and how many bytes of external memory it moved; since 4.1
- * there are non-aligned accesses; since 4.2 there are transfers.
+ * there are non-aligned accesses; since 4.2 there are transfers; since 4.3 there are frames.
  */
 #define C64X_VERSION_MAJOR 4
-#define C64X_VERSION_MINOR 2
+#define C64X_VERSION_MINOR 3
 
 /* The stack that a call needs at most, in bytes. */
 #define C64X_STACK_BYTES 4096
@@ -117,6 +119,10 @@ extern "C" {
 #define C64X_LOAD_ACCESS_BYTES 12
 /* The longest transfer. */
 #define C64X_TRANSFER_BYTES 262140
+/* A frame of the camera: one byte for each pixel. */
+#define C64X_FRAME_ROWS 48
+#define C64X_FRAME_COLUMNS 64
+#define C64X_FRAME_BYTES 3072
 
 /*
  * One line of a cache. `valid`: it holds something; `dirty`: what it holds is not yet in the memory behind; `address`
@@ -266,6 +272,18 @@ typedef struct {
     uint8_t number;
 } c64x_load;
 
+/*
+ * What c64x_frame returns.
+ *   number  0, or why the frame was refused: 1, 2, 19 or 20
+ *   turn    the next frame's turn, 0 or 1: the other one where this frame was accepted, the same where it was refused
+ *   sums    of each column its 48 pixels added up, the leftmost column first; all 0 where the frame was refused
+ */
+typedef struct {
+    uint8_t number;
+    uint8_t turn;
+    uint32_t sums[C64X_FRAME_COLUMNS];
+} c64x_framed;
+
 C64X_ASSERT(sizeof(size_t) == 8, "the library is for 64 bits");
 C64X_ASSERT(sizeof(c64x_line) == 8, "c64x_line");
 C64X_ASSERT(offsetof(c64x_line, valid) == 0, "c64x_line");
@@ -320,6 +338,11 @@ C64X_ASSERT(offsetof(c64x_put, number) == 8, "c64x_put");
 C64X_ASSERT(sizeof(c64x_load) == 16, "c64x_load");
 C64X_ASSERT(offsetof(c64x_load, length) == 0, "c64x_load");
 C64X_ASSERT(offsetof(c64x_load, number) == 8, "c64x_load");
+C64X_ASSERT(sizeof(c64x_framed) == 260, "c64x_framed");
+C64X_ASSERT(offsetof(c64x_framed, number) == 0, "c64x_framed");
+C64X_ASSERT(offsetof(c64x_framed, turn) == 1, "c64x_framed");
+C64X_ASSERT(offsetof(c64x_framed, sums) == 4, "c64x_framed");
+C64X_ASSERT(C64X_FRAME_BYTES == C64X_FRAME_ROWS * C64X_FRAME_COLUMNS, "a frame has a byte for each pixel");
 
 /* The three memories, as every call but the view is lent them. */
 #define C64X_LENT \
@@ -426,6 +449,31 @@ c64x_answer c64x_freeze(c64x_record *record, uint32_t frozen, C64X_LENT);
  */
 c64x_answer c64x_transfer_in(c64x_record *record, uint32_t address, const uint8_t *buffer, size_t length, C64X_LENT);
 c64x_answer c64x_transfer_out(c64x_record *record, uint32_t address, uint8_t *buffer, size_t length, C64X_LENT);
+
+/*
+ * One frame of the camera, added up as the splicer does. A frame is 48 rows of 64 pixels, a byte each, row by row.
+ * Frames go to two places in turn: turn 0 to 80000000h, turn 1 to 80000C00h. The call makes the place ready, moves the
+ * frame there and adds it up, by these calls:
+ *
+ *   c64x_l2_writeback_invalidate_block, then c64x_l1d_writeback_invalidate_block, over the 768 words of the place
+ *   c64x_transfer_in, of all 3,072 bytes
+ *   c64x_read of one byte for each pixel, from the first to the last
+ *
+ * So it leaves the chip as these do, with the frame in external memory and, where its MAR bit is 1, in the caches. In
+ * any mode, with either MAR bit, with L1D frozen or not, and whatever the caches held, the sums are those of `pixels`.
+ *
+ * Begin with turn 0 and hand on the `turn` that comes back. A turn other than 0 and 1 is taken by its last bit, also
+ * where the frame is refused: 7 comes back as 1. A refused frame is refused by itself: the next one has its turn, and
+ * nothing else is changed.
+ *
+ *   uint8_t turn = 0;
+ *   c64x_framed framed = c64x_frame(&record, turn, pixels, sizeof pixels, l1d, .., ext, ext_len);
+ *   turn = framed.turn;
+ *
+ * The pixels overlap nothing else that is lent. `length` is their number, C64X_FRAME_BYTES; every other one gets 20,
+ * however large it is, and then the pixels are not looked at. A trace has no frames. Refused: 1, 2, 19, 20.
+ */
+c64x_framed c64x_frame(c64x_record *record, uint8_t turn, const uint8_t *pixels, size_t length, C64X_LENT);
 
 /*
  * Many calls at once: a trace is a list of commands in bytes. A command is one byte, its code, and its numbers:

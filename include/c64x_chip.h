@@ -37,7 +37,9 @@ enum {
     C64X_REFUSED_TRANSFER_PLACE = 14,
     C64X_REFUSED_ROOM = 16,
     C64X_REFUSED_FREEZE = 17,
-    C64X_REFUSED_SHORT_RUN = 18
+    C64X_REFUSED_SHORT_RUN = 18,
+    C64X_REFUSED_FRAME_ROOM = 19,
+    C64X_REFUSED_FRAME_LENGTH = 20
 };
 
 /* Who served an access. */
@@ -79,6 +81,8 @@ static inline const char *c64x_number_text(unsigned number)
     case C64X_REFUSED_ROOM: return "refused: too few bytes of the output are left";
     case C64X_REFUSED_FREEZE: return "refused: neither 1, which freezes L1D, nor 0, which thaws it";
     case C64X_REFUSED_SHORT_RUN: return "refused: no short run has this number or these digits";
+    case C64X_REFUSED_FRAME_ROOM: return "refused: external memory has fewer than 6144 bytes";
+    case C64X_REFUSED_FRAME_LENGTH: return "refused: the frame does not have 3072 bytes";
     default: return "unknown number";
     }
 }
@@ -224,6 +228,11 @@ static inline c64x_answer c64x_chip_transfer_in(c64x_chip *chip, uint32_t addres
 static inline c64x_answer c64x_chip_transfer_out(c64x_chip *chip, uint32_t address, uint8_t *buffer, size_t length)
 {
     return c64x_transfer_out(&chip->record, address, buffer, length, C64X_CHIP_LENT(chip));
+}
+
+static inline c64x_framed c64x_chip_frame(c64x_chip *chip, uint8_t turn, const uint8_t *pixels, size_t length)
+{
+    return c64x_frame(&chip->record, turn, pixels, length, C64X_CHIP_LENT(chip));
 }
 
 static inline c64x_ran c64x_chip_run(c64x_chip *chip, const uint8_t *trace, size_t trace_len, uint8_t *answers,

@@ -3,9 +3,9 @@
  * C10, what each cache command does to a dirty line and L2's to lines that L1D alone holds, each number of the refusal
  * table with nothing changed, and short runs at the ends of each length; a frozen L1D; which lines accesses put out,
  * and the bytes of external memory that they move; non-aligned accesses; transfers of SRAM and of external memory, and
- * a frame; the trace of the worked example, C3 and C4 are written through c64x_put_command; a load by hand; after these
- * the counts of dirty lines. It is compiled as C and as C++. Prints how many checks passed; exit status 1 where one
- * failed.
+ * of a place that the CPU shares; frames of the camera; the trace of the worked example, C3 and C4 are written through
+ * c64x_put_command; a load by hand; after these the counts of dirty lines. It is compiled as C and as C++. Prints how
+ * many checks passed; exit status 1 where one failed.
  */
 #include <stdio.h>
 #include <string.h>
@@ -730,9 +730,9 @@ static void transfers_of_external_memory(void)
     CHECK(done(transfer_out(EXT + 65528, 8)) && buffer[4] == 7 && buffer[5] == 0 && buffer[8] == 9);
 }
 
-/* A frame: both block writeback-invalidates over the place, in either order, then a transfer: the CPU's words go out,
-   and the camera's bytes are what it reads. */
-static void frames(void)
+/* A place that the CPU and the EDMA share: both block writeback-invalidates over it, in either order, then a transfer:
+   the CPU's words go out, and the camera's bytes are what it reads. */
+static void shared_place(void)
 {
     for (unsigned mode = 0; mode < 3; mode++)
         for (unsigned bit = 0; bit < 2; bit++)
@@ -799,6 +799,123 @@ static void transfer_refusals(void)
 }
 
 /* Runs, views and calls of each number from 1 on: nothing changes. */
+/* A frame: pixel number i of those that are lent from the fifth byte of the buffer on. */
+static c64x_framed frame(unsigned turn, size_t length, unsigned seed)
+{
+    for (size_t i = 0; i < sizeof buffer; i++)
+        buffer[i] = (uint8_t)(i * 7 + i / 256 * seed + seed);
+    return c64x_chip_frame(&chip, (uint8_t)turn, buffer + 4, length);
+}
+
+/* The sums of the columns, by hand. */
+static int sums_are_the_pixels(const c64x_framed *framed)
+{
+    for (size_t column = 0; column < C64X_FRAME_COLUMNS; column++) {
+        uint32_t sum = 0;
+        for (size_t row = 0; row < C64X_FRAME_ROWS; row++)
+            sum += buffer[4 + row * C64X_FRAME_COLUMNS + column];
+        if (framed->sums[column] != sum)
+            return 0;
+    }
+    return 1;
+}
+
+static int frame_refused(c64x_framed framed, unsigned number, unsigned turn)
+{
+    for (size_t column = 0; column < C64X_FRAME_COLUMNS; column++)
+        if (framed.sums[column] != 0)
+            return 0;
+    return framed.number == number && framed.turn == turn && kept();
+}
+
+/* Frames in a row, in each mode, with either MAR bit, with L1D frozen or not, over what the CPU has written at both
+   places: the sums are the camera's, and the places come in turn. */
+static void frames(void)
+{
+    CHECK(C64X_VERSION_MAJOR == 4 && C64X_VERSION_MINOR >= 3);
+    CHECK(C64X_FRAME_ROWS == 48 && C64X_FRAME_COLUMNS == 64 && C64X_FRAME_BYTES == 3072);
+    for (unsigned mode = 0; mode < 3; mode++)
+        for (unsigned bit = 0; bit < 2; bit++)
+            for (unsigned freeze = 0; freeze < 2; freeze++) {
+                uint8_t turn = 0;
+                start(sizeof l2);
+                CHECK(done(c64x_chip_change_mar(&chip, 128, bit)));
+                CHECK(done(c64x_chip_change_mode(&chip, mode)));
+                for (unsigned i = 0; i < 4; i++) {
+                    const uint32_t place = turn ? 0xC00 : 0;
+                    /* dirty in L1D, and in L2 alone; one byte before the place and one behind it too */
+                    for (uint32_t a = place ? place - 64 : 0; a < place + 3200; a += 64) {
+                        CHECK(read_word(EXT + a).number == C64X_ACCEPTED);
+                        CHECK(write_word(EXT + a + a % 128 / 2).number == C64X_ACCEPTED);
+                    }
+                    CHECK(done(c64x_chip_freeze(&chip, freeze)));
+                    c64x_framed framed = frame(turn, C64X_FRAME_BYTES, 3 + i);
+                    CHECK(framed.number == C64X_ACCEPTED && framed.turn == 1 - turn && sums_are_the_pixels(&framed));
+                    CHECK(memcmp(ext + place, buffer + 4, C64X_FRAME_BYTES) == 0);
+                    CHECK(l1d_line(EXT + place) == NULL || clean(l1d_line(EXT + place)));
+                    CHECK((l1d_line(EXT + place) != NULL) == (bit == 1 && freeze == 0));
+                    CHECK((l2_line(EXT + place) != NULL) == (bit == 1 && mode > 0));
+                    CHECK(c64x_chip_read(&chip, 1, EXT + place + 65).value == buffer[4 + 65]);
+                    /* what stands behind the place is the CPU's */
+                    CHECK(read_word(EXT + place + 3072).value == 7);
+                    CHECK(done(c64x_chip_freeze(&chip, 0)));
+                    turn = framed.turn;
+                }
+                CHECK(turn == 0);
+            }
+    /* 48 times 255 in each column, and every pixel in its own */
+    start(sizeof l2);
+    memset(buffer, 255, sizeof buffer);
+    c64x_framed white = c64x_chip_frame(&chip, 0, buffer, C64X_FRAME_BYTES);
+    CHECK(white.number == C64X_ACCEPTED && white.sums[0] == 12240 && white.sums[63] == 12240);
+    memset(buffer, 0, sizeof buffer);
+    buffer[47 * 64 + 5] = 200;
+    c64x_framed dot = c64x_chip_frame(&chip, 1, buffer, C64X_FRAME_BYTES);
+    CHECK(dot.number == C64X_ACCEPTED && dot.turn == 0 && dot.sums[4] == 0 && dot.sums[5] == 200 && dot.sums[6] == 0);
+    CHECK(all_are(ext, 3072, 255) && ext[0xC00 + 47 * 64 + 5] == 200 && all_are(ext + 6144, 128, 0));
+}
+
+/* 1, 2, 19, then 20, the turn as it was, by its last bit, with no byte changed. A length that is refused may be any
+   number, and nothing has to stand at the pointer then. */
+static void frame_refusals(void)
+{
+    static const size_t lengths[] = {0, 1, 64, 3068, 3071, 3073, 3076, 6144, 3072 + 65536, 1 << 20,
+                                     ((size_t)1 << 32) + 3072, (size_t)1 << 63, SIZE_MAX};
+    uint8_t one = 0xEE;
+    cached(1);
+    dirty_line(EXT);
+    dirty_line(EXT + 0xC00);
+    keep();
+    for (size_t i = 0; i < sizeof lengths / sizeof lengths[0]; i++)
+        for (unsigned turn = 0; turn < 256; turn += 51)
+            CHECK(frame_refused(c64x_chip_frame(&chip, (uint8_t)turn, &one, lengths[i]), C64X_REFUSED_FRAME_LENGTH,
+                                turn % 2));
+    CHECK(frame_refused(frame(7, 3071, 1), C64X_REFUSED_FRAME_LENGTH, 1));
+    for (unsigned turn = 0; turn < 256; turn += 17) {
+        c64x_framed framed = frame(turn, C64X_FRAME_BYTES, turn);
+        CHECK(framed.number == C64X_ACCEPTED && framed.turn == 1 - turn % 2 && sums_are_the_pixels(&framed));
+        CHECK(memcmp(ext + (turn % 2 ? 0xC00 : 0), buffer + 4, C64X_FRAME_BYTES) == 0);
+    }
+    chip.record.l1d[5].order.first = 1;
+    chip.record.l1d[5].order.second = 1;
+    keep();
+    CHECK(frame_refused(frame(1, C64X_FRAME_BYTES, 1), C64X_REFUSED_RECORD, 1));
+    CHECK(frame_refused(c64x_chip_frame(&chip, 6, &one, SIZE_MAX), C64X_REFUSED_RECORD, 0));
+    chip.ext_len = 6144;
+    keep();
+    CHECK(frame_refused(frame(1, C64X_FRAME_BYTES, 1), C64X_REFUSED_LENGTH, 1));
+    CHECK(frame_refused(c64x_chip_frame(&chip, 6, &one, SIZE_MAX), C64X_REFUSED_LENGTH, 0));
+    /* 6,144 bytes are enough, 128 less are not, whatever the length */
+    memset(ext, 0, sizeof ext);
+    CHECK(done(c64x_chip_start(&chip, l1d, sizeof l1d, l2, sizeof l2, ext, 6144)));
+    c64x_framed first = frame(0, C64X_FRAME_BYTES, 9), second = frame(first.turn, C64X_FRAME_BYTES, 9);
+    CHECK(first.number == C64X_ACCEPTED && first.turn == 1 && second.number == C64X_ACCEPTED && second.turn == 0);
+    CHECK(done(c64x_chip_start(&chip, l1d, sizeof l1d, l2, sizeof l2, ext, 6016)));
+    keep();
+    CHECK(frame_refused(frame(0, C64X_FRAME_BYTES, 1), C64X_REFUSED_FRAME_ROOM, 0));
+    CHECK(frame_refused(c64x_chip_frame(&chip, 255, &one, 1), C64X_REFUSED_FRAME_ROOM, 1));
+}
+
 static void refusals(void)
 {
     static const uint8_t damaged[] = {13};
@@ -1022,6 +1139,9 @@ static void texts(void)
         CHECK(strcmp(c64x_number_text(C64X_REFUSED_FREEZE), c64x_number_text(a)) != 0);
     for (unsigned a = 0; a < C64X_REFUSED_SHORT_RUN; a++)
         CHECK(strcmp(c64x_number_text(C64X_REFUSED_SHORT_RUN), c64x_number_text(a)) != 0);
+    for (unsigned number = C64X_REFUSED_FRAME_ROOM; number <= C64X_REFUSED_FRAME_LENGTH; number++)
+        for (unsigned a = 0; a < number; a++)
+            CHECK(strcmp(c64x_number_text(number), c64x_number_text(a)) != 0);
     for (unsigned a = 0; a <= 5; a++)
         for (unsigned b = 0; b < a; b++)
             CHECK(strcmp(c64x_server_text(a), c64x_server_text(b)) != 0);
@@ -1031,6 +1151,7 @@ static void texts(void)
     for (unsigned a = 0; a <= 15; a++)
         CHECK(strcmp(c64x_number_text(a), c64x_number_text(C64X_REFUSED_ROOM)) != 0);
     CHECK(strcmp(c64x_number_text(15), c64x_number_text(255)) == 0);
+    CHECK(strcmp(c64x_number_text(21), c64x_number_text(255)) == 0);
     CHECK(strcmp(c64x_server_text(5), c64x_server_text(255)) == 0);
     CHECK(strcmp(c64x_left_text(4), c64x_left_text(255)) == 0);
 }
@@ -1051,8 +1172,10 @@ int main(void)
     unaligned_refusals();
     transfers_of_sram();
     transfers_of_external_memory();
-    frames();
+    shared_place();
     transfer_refusals();
+    frames();
+    frame_refusals();
     refusals();
     short_runs();
     writing();

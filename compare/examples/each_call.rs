@@ -1,18 +1,21 @@
 //! What the program each_call has to print, told by the reference model alone:
 //! every call once or more, from a fresh start with L = E = 65,536.
 
+use oracle::calls::frame;
 use oracle::gen::Setup;
 use oracle::trace::ANSWER_BYTES;
 use oracle::{Command, Unaligned};
 
 /// What comes next: a command, a non-aligned access, a transfer of so many bytes at an address (in:
-/// bytes that are all `value`; out: into a buffer of 128 such bytes, whose front is lent), a view of
-/// an address, or a run over a trace.
+/// bytes that are all `value`; out: into a buffer of 128 such bytes, whose front is lent), a frame of
+/// so many bytes (of a buffer of 3,076, all `value`, but in row k of 48 the pixel of column k is k),
+/// a view of an address, or a run over a trace.
 enum Next {
     Call(Command),
     Access(Unaligned),
     In { length: usize, address: u32, value: u8 },
     Out { length: usize, address: u32, value: u8 },
+    Frame { length: usize, turn: u8, value: u8 },
     View(u32),
     Run(&'static [u8]),
 }
@@ -105,6 +108,15 @@ const LIST: &[Next] = &[
     Out { length: 6, address: 0x8000, value: 1 },
     Out { length: 8, address: 0x7FFC, value: 1 },
     In { length: 8, address: 0x8000FFFC, value: 1 },
+    Frame { length: 3072, turn: 0, value: 3 },
+    Call(Read { size: 1, address: 0x80000000 }),
+    Call(Write { size: 1, address: 0x80000C41, value: 9 }),
+    Frame { length: 3072, turn: 1, value: 5 },
+    Call(Read { size: 1, address: 0x80000C41 }),
+    Frame { length: 3071, turn: 1, value: 7 },
+    Frame { length: 3076, turn: 0, value: 7 },
+    Frame { length: 3072, turn: 6, value: 255 },
+    Call(Read { size: 1, address: 0x80000041 }),
     Run(&[
         11, 129, 1, 1, 0, 1, 128, 129, 128, 128, 8, 1, 1, 128, 129, 128, 128, 8, 4, 10, 2, 0, 1,
         128, 129, 128, 128, 8, 12, 2,
@@ -132,6 +144,16 @@ fn main() {
                 let mut buffer = [*value; 128];
                 let answer = setup.transfer_out(*address, &mut buffer[..*length]).answer;
                 println!("{} {} {}", answer.number, buffer[0], buffer[127]);
+            }
+            Frame { length, turn, value } => {
+                let mut pixels = [*value; 3_076];
+                for row in 0..48 {
+                    pixels[usize::from(row) * 65] = row;
+                }
+                let Setup { record, l1d, l2, ext } = &mut setup;
+                let framed = frame(record, l1d, l2, ext, *turn, &pixels[..*length]);
+                println!("{} {} {}", framed.number, framed.turn, framed.sums[0]);
+                println!("{} {} {}", framed.sums[1], framed.sums[47], framed.sums[63]);
             }
             View(address) => {
                 let bytes = setup.look(*address);

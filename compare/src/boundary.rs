@@ -6,9 +6,11 @@ use std::mem::{align_of, offset_of, size_of};
 use std::ops::{Deref, DerefMut};
 use std::ptr;
 
-use oracle::gen::{Rng, Transfer};
+use oracle::frames::{place_of, COLUMNS, FRAME_BYTES};
+use oracle::gen::{encode, Frame, Rng, Transfer};
 use oracle::geometry::{L1d, L2};
 use oracle::record::{L1dSet, L2Set, Line, Record};
+use oracle::trace::ANSWER_BYTES;
 use oracle::{Command, Direction, Left, Report, Unaligned};
 
 /// The structs name their padding, so that it can be filled and compared.
@@ -175,6 +177,15 @@ pub struct CRunNumber {
     pub run: u32,
 }
 
+/// What a frame gives back.
+#[repr(C)]
+#[derive(Clone, Copy, PartialEq, Eq, Debug)]
+pub struct CFramed {
+    pub number: u8,
+    pub turn: u8,
+    pub sums: [u32; COLUMNS],
+}
+
 const _: () = {
     assert!(size_of::<CLine>() == 8 && offset_of!(CLine, dirty) == 1);
     assert!(offset_of!(CLine, padding) == 2 && offset_of!(CLine, address) == 4);
@@ -199,6 +210,9 @@ const _: () = {
     assert!(size_of::<CShortRun>() == 6 && offset_of!(CShortRun, length) == 1);
     assert!(offset_of!(CShortRun, digits) == 2);
     assert!(size_of::<CRunNumber>() == 8 && offset_of!(CRunNumber, run) == 4);
+    assert!(size_of::<CFramed>() == 260 && align_of::<CFramed>() == 4);
+    assert!(offset_of!(CFramed, number) == 0 && offset_of!(CFramed, turn) == 1);
+    assert!(offset_of!(CFramed, sums) == 4);
 };
 
 pub const RECORD_BYTES: usize = 21_012;
@@ -349,6 +363,19 @@ calls! {
 }
 
 extern "C" {
+    fn c64x_frame(
+        record: *mut CRecord,
+        turn: u8,
+        pixels: *const u8,
+        length: usize,
+        l1d: *mut u8,
+        l1d_len: usize,
+        l2: *mut u8,
+        l2_len: usize,
+        ext: *mut u8,
+        ext_len: usize,
+    ) -> CFramed;
+
     fn c64x_run(
         record: *mut CRecord,
         trace: *const u8,
@@ -393,6 +420,13 @@ pub struct Lent<'a> {
     pub l1d: &'a mut [u8],
     pub l2: &'a mut [u8],
     pub ext: &'a mut [u8],
+}
+
+impl Lent<'_> {
+    /// The same memories, lent once more.
+    pub fn again(&mut self) -> Lent<'_> {
+        Lent { l1d: &mut *self.l1d, l2: &mut *self.l2, ext: &mut *self.ext }
+    }
 }
 
 /// A call that is lent the record and the three memories. Each is a place of its
@@ -454,8 +488,9 @@ pub fn unaligned(record: &mut CRecord, access: &Unaligned, lent: Lent) -> CAnswe
     }
 }
 
-/// The buffer of a transfer, between bytes that no call may change. Where there is none of that
-/// length, and for half of those of no byte, the call is given an address at which nothing stands.
+/// The buffer of a transfer, or the pixels of a frame, between bytes that no call may change. Where
+/// there is none of that length, and for half of those of no byte, the call is given an address at
+/// which nothing stands.
 #[derive(Clone)]
 pub struct Buffer {
     whole: Vec<u8>,
@@ -469,10 +504,18 @@ impl Buffer {
 
     /// The buffer before the transfer.
     pub fn of(transfer: &Transfer) -> Buffer {
-        let bytes = transfer.buffer();
-        let empty = transfer.length == 0 && transfer.filling % 2 == 1;
+        Buffer::drawn(transfer.buffer(), transfer.length, transfer.filling)
+    }
+
+    /// The pixels of a frame.
+    pub fn of_frame(frame: &Frame) -> Buffer {
+        Buffer::drawn(frame.pixels(), frame.length, frame.filling)
+    }
+
+    fn drawn(bytes: Option<Vec<u8>>, length: usize, filling: u64) -> Buffer {
+        let empty = length == 0 && filling % 2 == 1;
         let nowhere = bytes.is_none() || empty;
-        Buffer::around(&bytes.unwrap_or_default(), transfer.length, nowhere)
+        Buffer::around(&bytes.unwrap_or_default(), length, nowhere)
     }
 
     /// One that holds these bytes.
@@ -529,6 +572,82 @@ pub fn transfer(
         }
         Direction::Out => call_lent!(c64x_transfer_out, record, lent, address, pointer, length),
     }
+}
+
+/// A frame, by way of its pixels.
+pub fn frame(record: &mut CRecord, frame: &Frame, pixels: &mut Buffer, lent: Lent) -> CFramed {
+    let (turn, length, pointer) = (frame.turn, pixels.length, pixels.pointer().cast_const());
+    call_lent!(c64x_frame, record, lent, turn, pointer, length)
+}
+
+/// The calls that a frame is made of; a mistaken one is made of others.
+#[derive(Clone, Copy)]
+pub struct FrameCalls {
+    pub place: u32,
+    pub l2_command: bool,
+    pub l1d_command: bool,
+    pub transfer: bool,
+    /// From the last pixel to the first.
+    pub downwards: bool,
+}
+
+impl FrameCalls {
+    /// Those that it should be made of.
+    pub fn of(frame: &Frame) -> FrameCalls {
+        FrameCalls {
+            place: place_of(frame.turn),
+            l2_command: true,
+            l1d_command: true,
+            transfer: true,
+            downwards: false,
+        }
+    }
+
+    /// The commands over its place.
+    pub fn commands(&self) -> Vec<Command> {
+        let (base, count) = (self.place, FRAME_BYTES as u32 / 4);
+        let l2 = self.l2_command.then_some(Command::L2BlockWritebackInvalidate { base, count });
+        let l1d = self.l1d_command.then_some(Command::L1dBlockWritebackInvalidate { base, count });
+        l2.into_iter().chain(l1d).collect()
+    }
+
+    /// Makes the commands.
+    pub fn cover(&self, record: &mut CRecord, lent: &mut Lent) {
+        for command in self.commands() {
+            direct(record, &command, lent.again());
+        }
+    }
+
+    /// Makes them all, the reads as a run over a trace; what each pixel was read as, in the frame's
+    /// order.
+    pub fn make(&self, record: &mut CRecord, pixels: &[u8], mut lent: Lent) -> Vec<u8> {
+        let base = self.place;
+        self.cover(record, &mut lent);
+        if self.transfer {
+            call_lent!(c64x_transfer_in, record, lent, base, pixels.as_ptr(), pixels.len());
+        }
+        let mut trace = Vec::new();
+        for place in 0..FRAME_BYTES as u32 {
+            let place = if self.downwards { FRAME_BYTES as u32 - 1 - place } else { place };
+            encode(&Command::Read { size: 1, address: base + place }, &mut trace);
+        }
+        let mut answers = vec![0; FRAME_BYTES * ANSWER_BYTES];
+        run(record, &trace, lent, &mut answers);
+        let mut read: Vec<u8> = answers.chunks(ANSWER_BYTES).map(|answer| answer[2]).collect();
+        if self.downwards {
+            read.reverse();
+        }
+        read
+    }
+}
+
+/// The columns of so many rows of pixels added up.
+pub fn column_sums(pixels: &[u8]) -> [u32; COLUMNS] {
+    let mut sums = [0; COLUMNS];
+    for (place, &pixel) in pixels.iter().enumerate() {
+        sums[place % COLUMNS] += u32::from(pixel);
+    }
+    sums
 }
 
 /// The bytes of a non-aligned access as single calls, from the lowest address up or from the
@@ -826,10 +945,11 @@ pub fn record_difference(ours: &CRecord, theirs: &CRecord) -> String {
 #[cfg(test)]
 mod tests {
     use super::{
-        by_bytes, byte_difference, dirty_line, dirty_marks, l1d_holds, l2_holds, left_by_records,
-        padding_of, record_of, report_of, transfer, Buffer, CAnswer, CLeft, CReport, Held, Lent,
+        by_bytes, byte_difference, column_sums, dirty_line, dirty_marks, frame, l1d_holds,
+        l2_holds, left_by_records, padding_of, record_of, report_of, transfer, Buffer, CAnswer,
+        CFramed, CLeft, CReport, FrameCalls, Held, Lent,
     };
-    use oracle::gen::{Setup, Transfer};
+    use oracle::gen::{Frame, Setup, Transfer};
     use oracle::{Direction, Left, Line, Record, Report, Unaligned};
 
     /// 2 for each of 128 sets of L1D, 2 for each line.
@@ -975,6 +1095,49 @@ mod tests {
                     }
                 }
             }
+        }
+    }
+
+    /// A frame by its calls is the frame, and one without the commands is not where a line of the
+    /// place is dirty. Whatever the length, the call is made.
+    #[test]
+    fn frames_and_their_calls() {
+        const A: u32 = 0x8000_0000;
+        let mut start = Setup::fresh_over(65_536, vec![5; 8_192]);
+        start.mar(128, 1);
+        start.mode(1);
+        start.read(1, A);
+        start.write(1, A, 9);
+        for (length, number) in [(3_072, 0), (0, 20), (3_071, 20), (3_073, 20), (usize::MAX, 20)] {
+            for filling in [0, 3, Frame::WHITE] {
+                let drawn = Frame { turn: 6, length, filling };
+                let (mut setup, mut pixels) = (start.clone(), Buffer::of_frame(&drawn));
+                let mut record = record_of(&setup.record);
+                let Setup { l1d, l2, ext, .. } = &mut setup;
+                let lent = Lent { l1d, l2, ext };
+                let framed = frame(&mut record, &drawn, &mut pixels, lent);
+                assert_eq!(pixels.whole(), Buffer::of_frame(&drawn).whole());
+                let sums = if number == 0 { column_sums(pixels.bytes()) } else { [0; 64] };
+                let turn = u8::from(number == 0);
+                assert_eq!(framed, CFramed { number, turn, sums }, "{drawn:?}");
+            }
+        }
+        for (commands, first) in [(true, 7), (false, 9)] {
+            let calls = FrameCalls {
+                l2_command: commands,
+                l1d_command: commands,
+                ..FrameCalls::of(&Frame { turn: 0, length: 3_072, filling: 0 })
+            };
+            let mut setup = start.clone();
+            let mut record = record_of(&setup.record);
+            let Setup { l1d, l2, ext, .. } = &mut setup;
+            let lent = Lent { l1d, l2, ext };
+            let read = calls.make(&mut record, &[7; 3_072], lent);
+            assert_eq!(
+                (read[0], read[64], read.len()),
+                (first, if commands { 7 } else { 5 }, 3_072)
+            );
+            assert_eq!(column_sums(&read)[1], if commands { 48 * 7 } else { 46 * 7 + 2 * 5 });
         }
     }
 

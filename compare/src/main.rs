@@ -34,7 +34,7 @@ compare: the calls of the boundary against the reference model
   --bench-trace PATH   the program bench-trace, to be compared as well
   --section NAME       only this section: records, lists, traces, refusals, views,
                        short-runs, writing, two-runs, dropped, reaching, load, frozen,
-                       thrashing, transfers
+                       thrashing, transfers, frames
   --group K            only group K of that section
   --input K            nothing but input K of bench-trace
   --now PATH           a file that says which group is being run
@@ -317,6 +317,37 @@ fn run(arguments: &Arguments) -> Result<bool, String> {
         transfers.history,
         transfers.in_parts
     );
+    let frames = &met.frames;
+    println!(
+        "frames by number: {:?}; accepted by mode, with MAR bit 0 and 1: {:?}, thawed and frozen: {:?}, by \
+         place: {:?}; turns above 1, accepted and refused: {:?}; over lines of the place that are clean and \
+         dirty in L1D: {:?}, in L2: {:?}, with dirty ones of the other place: {}; that put lines out of L1D \
+         and L2: {:?}",
+        frames.numbers,
+        frames.modes,
+        frames.frozen,
+        frames.places,
+        frames.turns,
+        frames.l1d_lines,
+        frames.l2_lines,
+        frames.other_place,
+        frames.put_out
+    );
+    println!(
+        "frames: refused of no pixel, 3,071, 3,073, 3,072 in their last 16 bits, no buffer's {:?}; with \
+         6,144 bytes of external memory and 128 less {:?}, 19 before 20 {}; with the turn that one before \
+         left, accepted and refused {:?}; by flat memory {:?}, over dirty lines {}; in other lists {}, left \
+         out {}; by their calls {}",
+        frames.lengths,
+        frames.least,
+        frames.several,
+        frames.in_a_row,
+        frames.flat,
+        frames.flat_dirty,
+        frames.other_lists,
+        frames.left_out,
+        frames.by_calls
+    );
     let faults = met.possible_faults();
     println!(
         "ill-formed records made: {}; of each fault in each mode: {} at least",
@@ -459,6 +490,7 @@ fn met_everything(met: &Met) -> bool {
         && met.put_out.met_everything()
         && met.unaligned.met_everything()
         && met.transfers.met_everything()
+        && met.frames.met_everything()
         && met.loads.iter().all(|&count| count > 500)
         && met.long_runs > 0
         && met.short_runs == 4_681

@@ -8,7 +8,10 @@ use oracle::calls::{fresh_start, look, look_number};
 use oracle::covered::Covered;
 use oracle::dropped::History;
 use oracle::flat::Flat;
-use oracle::gen::{code, Fault, Setup, Transfer, FAULTS, LEGAL_MODES, LONGEST_BUFFER, RANGE_BYTES};
+use oracle::frames::{place_of, FRAME_BYTES, LEAST_EXTERNAL};
+use oracle::gen::{
+    code, Fault, Frame, Setup, Transfer, FAULTS, LEGAL_MODES, LONGEST_BUFFER, RANGE_BYTES,
+};
 use oracle::geometry::{
     external_length_is_legal, l2_length_is_legal, sram_size, L1d, EXTERNAL_BASE, L1D_BYTES, L2,
 };
@@ -17,12 +20,13 @@ use oracle::short_runs;
 use oracle::trace::{decode, ANSWER_BYTES};
 use oracle::transfers::LONGEST_TRANSFER;
 use oracle::wellformed::is_well_formed;
-use oracle::{Answer, Command, Direction, Record, Reply, RunResult, Unaligned};
+use oracle::{Answer, Command, Direction, Framed, Record, Reply, RunResult, Unaligned};
 
 use crate::boundary::{
-    self, byte_difference, dirty_line, dirty_marks, l1d_holds, l1d_is_dirty, l2_holds, l2_is_dirty,
-    left_by_records, padding_of, record_difference, record_of, report_of, same_record, Buffer,
-    CAnswer, CLeft, CLine, CRecord, CReport, CRunNumber, CShortRun, Held, Lent,
+    self, byte_difference, column_sums, dirty_line, dirty_marks, l1d_holds, l1d_is_dirty, l2_holds,
+    l2_is_dirty, left_by_records, padding_of, record_difference, record_of, report_of, same_record,
+    Buffer, CAnswer, CFramed, CLeft, CLine, CRecord, CReport, CRunNumber, CShortRun, FrameCalls,
+    Held, Lent,
 };
 use crate::now;
 use crate::plant;
@@ -58,7 +62,7 @@ pub struct Start {
     /// From fresh, with lines dropped: each byte read keeps to its history.
     pub history: bool,
     /// Accesses are made a second time over other bytes, to see which of them move; transfers are
-    /// made a second time in their parts.
+    /// made a second time in their parts, and frames by their calls.
     pub moves: bool,
 }
 
@@ -72,6 +76,7 @@ pub enum Op {
     Direct(Command),
     Unaligned(Unaligned),
     Transfer(Transfer),
+    Frame(Frame),
     Run { trace: Vec<u8>, answer_bytes: usize },
     RunAndSingleCalls { trace: Vec<u8>, answer_bytes: usize },
     View { address: u32, buffer: usize },
@@ -80,7 +85,7 @@ pub enum Op {
 }
 
 /// The numbers that calls give back.
-pub const NUMBERS: [usize; 17] = [0, 1, 2, 3, 4, 5, 6, 7, 8, 9, 10, 11, 12, 13, 14, 17, 18];
+pub const NUMBERS: [usize; 19] = [0, 1, 2, 3, 4, 5, 6, 7, 8, 9, 10, 11, 12, 13, 14, 17, 18, 19, 20];
 
 /// What was met, to see that a comparison was worth running.
 #[derive(Clone, Default, Debug)]
@@ -88,7 +93,7 @@ pub struct Met {
     /// Calls through the boundary.
     pub calls: u64,
     /// By number; those that no call gives back stay 0.
-    pub numbers: [u64; 19],
+    pub numbers: [u64; 21],
     /// Commands that were written, and those refused with 11 and with 16.
     pub puts: [u64; 3],
     pub two_runs: TwoRuns,
@@ -131,6 +136,127 @@ pub struct Met {
     pub put_out: PutOut,
     pub unaligned: UnalignedMet,
     pub transfers: TransfersMet,
+    pub frames: FramesMet,
+}
+
+/// What frames met.
+#[derive(Clone, Default, Debug)]
+pub struct FramesMet {
+    /// By their number.
+    pub numbers: [u64; 21],
+    /// Accepted ones by the mode, with MAR bit 0 and 1; thawed and frozen; by the place.
+    pub modes: [[u64; 2]; 8],
+    pub frozen: [u64; 2],
+    pub places: [u64; 2],
+    /// With a turn above 1: accepted and refused ones, in each case an even and an odd one.
+    pub turns: [[u64; 2]; 2],
+    /// Accepted ones over a line of the place that was clean in L1D, dirty there, clean in L2 and
+    /// not in L1D, dirty in L2; with a dirty line of the other place.
+    pub l1d_lines: [u64; 2],
+    pub l2_lines: [u64; 2],
+    pub other_place: u64,
+    /// Those that put a line of other memory out of L1D, and of L2.
+    pub put_out: [u64; 2],
+    /// Refused by 20: no pixel, one less and one more than 3,072, as many in their last 16 bits, and
+    /// a length that no buffer has.
+    pub lengths: [u64; 5],
+    /// Accepted with 6,144 bytes of external memory, refused by 19 with 6,016; 19 where 20 is due too.
+    pub least: [u64; 2],
+    pub several: u64,
+    /// With the turn that the frame before gave back, that one being accepted, or refused.
+    pub in_a_row: [u64; 2],
+    /// Set against flat memory: accepted and refused ones; accepted over a dirty line of the place.
+    pub flat: [u64; 2],
+    pub flat_dirty: u64,
+    /// Accepted in lists that flat memory has no part in; left out where bytes are set against their
+    /// history.
+    pub other_lists: u64,
+    pub left_out: u64,
+    /// Set against their calls.
+    pub by_calls: u64,
+}
+
+impl FramesMet {
+    /// Whether everything came up that should.
+    pub fn met_everything(&self) -> bool {
+        let numbers = [0, 1, 2, 19, 20].map(|number| self.numbers[number]);
+        let modes = [0, 1, 2, 3, 7].map(|mode| self.modes[mode]);
+        let lines = self.l1d_lines.iter().chain(&self.l2_lines).chain([&self.other_place]);
+        let turns = self.turns.iter().flatten().chain(&self.frozen).chain(&self.places);
+        let lists = self.flat.iter().chain([&self.flat_dirty, &self.other_lists, &self.left_out]);
+        let rare = self.lengths.iter().chain(&self.least).chain([&self.several, &self.by_calls]);
+        numbers.iter().chain(lines).chain(turns).all(|&count| count > 50)
+            && lists.chain(&self.in_a_row).chain(&self.put_out).all(|&count| count > 30)
+            && rare.into_iter().all(|&count| count > 10)
+            && modes.iter().flatten().all(|&count| count > 3)
+            && self.numbers.iter().sum::<u64>() == numbers.iter().sum::<u64>()
+    }
+
+    /// A frame, its number, the records before and after it, and what the last frame of the list
+    /// gave back.
+    fn count(
+        &mut self,
+        frame: &Frame,
+        number: u8,
+        passed: &CRecord,
+        record: &CRecord,
+        last: Option<CFramed>,
+    ) {
+        self.numbers[usize::from(number) % 21] += 1;
+        let (accepted, odd) = (number == 0, frame.turn % 2);
+        if frame.turn > 1 {
+            self.turns[usize::from(!accepted)][usize::from(odd)] += 1;
+        }
+        let wrong = frame.length != FRAME_BYTES;
+        if number == 19 {
+            self.least[1] += u64::from(passed.extlen == LEAST_EXTERNAL - 128);
+            self.several += u64::from(wrong);
+        }
+        if number == 20 {
+            let lengths = [0, FRAME_BYTES - 1, FRAME_BYTES + 1];
+            for (count, length) in self.lengths.iter_mut().zip(lengths) {
+                *count += u64::from(frame.length == length);
+            }
+            self.lengths[3] += u64::from(frame.length as u16 == FRAME_BYTES as u16);
+            self.lengths[4] += u64::from(frame.length > LONGEST_BUFFER);
+        }
+        if !accepted {
+            return;
+        }
+        let mode = usize::from(passed.mode);
+        self.modes[mode][usize::from(passed.mar128)] += 1;
+        self.frozen[usize::from(passed.frozen)] += 1;
+        self.places[usize::from(odd)] += 1;
+        self.least[0] += u64::from(passed.extlen == LEAST_EXTERNAL);
+        if let Some(last) = last.filter(|last| last.turn == frame.turn) {
+            self.in_a_row[usize::from(last.number != 0)] += 1;
+        }
+        let lines = |turn| (place_of(turn)..).step_by(L1d::LINE as usize).take(FRAME_BYTES / 64);
+        let [mut clean, mut dirty, mut clean_l2, mut dirty_l2] = [false; 4];
+        for line in lines(frame.turn) {
+            let (held, is_dirty) = (l1d_holds(passed, line), l1d_is_dirty(passed, line));
+            (clean, dirty) = (clean || held && !is_dirty, dirty || is_dirty);
+            let is_dirty = l2_is_dirty(passed, line);
+            clean_l2 |= l2_holds(passed, line) && !is_dirty && !held;
+            dirty_l2 |= is_dirty;
+        }
+        for (count, met) in self.l1d_lines.iter_mut().zip([clean, dirty]) {
+            *count += u64::from(met);
+        }
+        for (count, met) in self.l2_lines.iter_mut().zip([clean_l2, dirty_l2]) {
+            *count += u64::from(met);
+        }
+        let dirty_in_either = |line| l1d_is_dirty(passed, line) || l2_is_dirty(passed, line);
+        self.other_place += u64::from(lines(1 - odd).any(dirty_in_either));
+        let beside = |line: &CLine| {
+            let offset = line.address.wrapping_sub(place_of(frame.turn));
+            line.valid == 1 && offset >= FRAME_BYTES as u32
+        };
+        let mut l1d = passed.l1d.iter().flat_map(|set| &set.lines).filter(|line| beside(line));
+        let mut l2 = passed.l2.iter().flat_map(|set| &set.lines).filter(|line| beside(line));
+        self.put_out[0] += u64::from(l1d.any(|line| !l1d_holds(record, line.address)));
+        self.put_out[1] += u64::from(l2.any(|line| !l2_holds(record, line.address)));
+    }
 }
 
 /// What transfers met; pairs of counts are those out and in, but where something else is said.
@@ -598,6 +724,9 @@ pub struct TwoRuns {
     /// Accepted transfers out and in, and buffers that have the byte.
     pub transfers: [u64; 2],
     pub transfers_parted: u64,
+    /// Accepted frames of runs that differ in data, and in one byte; those over the byte.
+    pub frames: [u64; 2],
+    pub frames_over: u64,
 }
 
 impl TwoRuns {
@@ -615,6 +744,8 @@ impl TwoRuns {
             && self.unaligned_parted > 5
             && self.transfers.iter().all(|&count| count > 100)
             && self.transfers_parted > 5
+            && self.frames.iter().all(|&count| count > 10)
+            && self.frames_over > 3
     }
 }
 
@@ -664,6 +795,8 @@ pub enum Kind {
     Number,
     Server,
     Value,
+    /// Whose turn it is after a frame.
+    Turn,
     /// What a run took in, and how many answers it gave.
     Counts,
     Record,
@@ -761,6 +894,8 @@ struct Pair<'a> {
     covered: Option<Covered>,
     history: Option<History>,
     moves: bool,
+    /// What the last frame gave back.
+    framed: Option<CFramed>,
     met: &'a mut Met,
 }
 
@@ -796,6 +931,7 @@ fn make(start: &Start, ops: &[Op], met: &mut Met, reached: &mut usize) -> Result
         covered: start.flat.then(|| Covered::fresh(start.setup.record.e)),
         history: start.history.then(|| History::fresh(&start.setup)),
         moves: start.moves,
+        framed: None,
         met,
     };
     for (op, call) in ops.iter().enumerate() {
@@ -1052,6 +1188,7 @@ impl Pair<'_> {
             Op::Direct(command) => self.direct(command),
             Op::Unaligned(access) => self.unaligned(access),
             Op::Transfer(transfer) => self.transfer(transfer),
+            Op::Frame(frame) => self.frame(frame),
             Op::Run { trace, answer_bytes } => self.run(trace, *answer_bytes).map(|_| ()),
             Op::RunAndSingleCalls { trace, answer_bytes } => {
                 self.run_and_single_calls(trace, *answer_bytes)
@@ -1208,6 +1345,111 @@ impl Pair<'_> {
         }
         self.transfer_history(transfer, &buffer, &answer_of(&called));
         self.transfer_flat(transfer, &buffer, called.number)
+    }
+
+    /// A frame (02, U14).
+    fn frame(&mut self, frame: &Frame) -> Result<(), Wrong> {
+        // "Frames hold an external transfer and are left out of these lists", but those refused.
+        if let Some(history) = &self.history {
+            if history.flat.frame_number(frame.length) == 0 {
+                self.met.frames.left_out += 1;
+                return Ok(());
+            }
+        }
+        let mut pixels = Buffer::of_frame(frame);
+        let expected = pixels.clone();
+        let theirs = if self.odd {
+            Framed::refused(self.odd_number(true), frame.turn)
+        } else {
+            self.theirs.frame(frame)
+        };
+        let accepted = theirs.number == 0;
+        let copy = (self.moves && accepted || plant::wants_copy()).then(|| self.ours());
+        let (record, lent) = self.lent();
+        let mut called = boundary::frame(record, frame, &mut pixels, lent);
+        let lent = Lent { l1d: &mut self.l1d, l2: &mut self.l2, ext: &mut self.ext };
+        let (ours, passed) = (&mut self.record, &self.passed);
+        plant::frame(frame, &mut called, ours, passed, lent, &mut pixels, copy.as_ref());
+        self.met.calls += 1;
+        self.met.numbers[usize::from(theirs.number)] += 1;
+        self.met.odd += u64::from(self.odd);
+        if accepted {
+            self.met.modes[self.theirs.record.mode as usize] += 1;
+        }
+        expect(Kind::Number, "number of a frame", called.number, theirs.number)?;
+        expect(Kind::Turn, "turn after a frame", called.turn, theirs.turn)?;
+        expect(Kind::Value, "sums", called.sums, theirs.sums)?;
+        let last = self.framed.replace(called);
+        self.met.frames.count(frame, theirs.number, &self.passed, &self.record, last);
+        self.met.frozen.refused += u64::from(self.passed.frozen > 1 && theirs.number == 2);
+        expect_bytes("pixels, with 64 bytes before them,", pixels.whole(), expected.whole())?;
+        self.expect_record(accepted)?;
+        // "the sums of each accepted frame are those of the camera's pixels": asked of them alone.
+        if accepted {
+            let mut sums = column_sums(pixels.bytes());
+            plant::pixel_sums(&mut sums);
+            expect(Kind::Value, "sums, by the pixels,", called.sums, sums)?;
+            self.met.frames.other_lists += u64::from(self.flat.is_none());
+        }
+        if let (true, true, Some(copy)) = (self.moves, accepted, copy) {
+            self.expect_by_calls(frame, &called, pixels.bytes(), copy)?;
+        }
+        self.frame_flat(frame, &called)
+    }
+
+    /// A frame is the two commands over its place, the transfer and the reads. These are made on a
+    /// copy of what was there before. This asks the library itself, and not the reference model.
+    fn expect_by_calls(
+        &mut self,
+        frame: &Frame,
+        called: &CFramed,
+        pixels: &[u8],
+        mut copy: Ours,
+    ) -> Result<(), Wrong> {
+        let (record, lent) = copy.lent();
+        let mut read = FrameCalls::of(frame).make(record, pixels, lent);
+        plant::by_calls(&mut read);
+        self.met.calls += 4;
+        expect(Kind::Value, "sums, by its calls,", called.sums, column_sums(&read))?;
+        if **self.record != **copy.record {
+            let difference = record_difference(&self.record, &copy.record);
+            let what = format!("record, by its calls: {difference}");
+            return Err(Wrong { kind: Kind::Record, what });
+        }
+        expect_bytes("L1D, by its calls,", &self.l1d, &copy.l1d)?;
+        expect_bytes("L2, by its calls,", &self.l2, &copy.l2)?;
+        expect_bytes("external memory, by its calls,", &self.ext, &copy.ext)?;
+        self.met.frames.by_calls += 1;
+        Ok(())
+    }
+
+    /// Frames join the lists that are set against flat memory as the calls they are made of.
+    fn frame_flat(&mut self, frame: &Frame, ours: &CFramed) -> Result<(), Wrong> {
+        let (Some(flat), Some(covered)) = (&mut self.flat, &mut self.covered) else {
+            return Ok(());
+        };
+        let (number, turn, sums) = match frame.pixels() {
+            Some(pixels) => flat.frame(frame.turn, &pixels),
+            None => (flat.frame_number(frame.length), frame.turn & 1, [0; 64]),
+        };
+        let mut theirs = CFramed { number, turn, sums };
+        plant::frame_flat(frame, flat, &mut theirs);
+        expect(Kind::Number, "number of a frame, by flat memory,", ours.number, theirs.number)?;
+        expect(Kind::Turn, "turn after a frame, by flat memory,", ours.turn, theirs.turn)?;
+        expect(Kind::Value, "sums, by flat memory,", ours.sums, theirs.sums)?;
+        if number != 0 || !plant::unread(frame, covered) {
+            covered.frame(frame.turn, number == 0);
+        }
+        let met = &mut self.met.frames;
+        met.flat[usize::from(number != 0)] += 1;
+        if number == 0 {
+            let lines = (place_of(frame.turn)..).step_by(L1d::LINE as usize);
+            let mut lines = lines.take(FRAME_BYTES / L1d::LINE as usize);
+            let passed = &self.passed;
+            let dirty = lines.any(|line| l1d_is_dirty(passed, line) || l2_is_dirty(passed, line));
+            met.flat_dirty += u64::from(dirty);
+        }
+        Ok(())
     }
 
     /// Whether a transfer is made in this list: external ones that are accepted are "left out" of
@@ -1786,6 +2028,10 @@ impl Pair<'_> {
             Op::Transfer(transfer) => {
                 length = transfer.length.min(LONGEST_TRANSFER);
                 transfer.address
+            }
+            Op::Frame(frame) => {
+                length = FRAME_BYTES;
+                place_of(frame.turn)
             }
             Op::Direct(
                 Command::L2BlockWriteback { base, .. }

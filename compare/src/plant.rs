@@ -8,9 +8,11 @@ use std::process::{ExitStatus, Output};
 use std::sync::OnceLock;
 
 use oracle::access::load;
+use oracle::covered::Covered;
 use oracle::dropped::History;
 use oracle::flat::Flat;
-use oracle::gen::{Transfer, RANGE_BYTES};
+use oracle::frames::{COLUMNS, FRAME_BYTES, LEAST_EXTERNAL, ROWS};
+use oracle::gen::{Frame, Transfer, RANGE_BYTES};
 use oracle::geometry::{external_offset, sram_size, L1d, EXTERNAL_BASE, L2};
 use oracle::load::Load;
 use oracle::machine::{SERVER_L1D, SERVER_L2};
@@ -20,7 +22,8 @@ use oracle::writer::Put;
 use oracle::{Answer, Command, Unaligned};
 
 use crate::boundary::{
-    self, dirty_marks, Buffer, CAnswer, CLeft, CLine, CRecord, CRun, CRunNumber, CShortRun, Lent,
+    self, column_sums, dirty_marks, Buffer, CAnswer, CFramed, CLeft, CLine, CRecord, CRun,
+    CRunNumber, CShortRun, FrameCalls, Lent,
 };
 use crate::pair::{Ours, SMALL};
 
@@ -210,6 +213,37 @@ enum Plant {
     HeldTransfer,
     DataTransfer,
     TransferNeighbour,
+    FrameUncovered,
+    FrameNoL2,
+    FrameOnePlace,
+    FrameOtherPlace,
+    FrameNoTransfer,
+    FrameDown,
+    FrameFrozen,
+    FrameLast,
+    FrameRows,
+    FrameNarrow,
+    FrameTurn,
+    FrameTurnBack,
+    FrameTurnTaken,
+    FrameTurnKept,
+    FrameCovers,
+    FrameMoves,
+    FrameAddsUp,
+    FrameOrder,
+    FrameLonger,
+    FrameLeast,
+    FramePixels,
+    FrameCount,
+    FrameByCalls,
+    FrameByPixels,
+    FlatFrame,
+    FlatFrameSums,
+    FlatFrameNumber,
+    FlatFrameTurn,
+    FlatFrameUnread,
+    DataFrame,
+    FrameBeside,
     BenchOutput,
     BenchStatus,
 }
@@ -225,7 +259,7 @@ const fn planted(plant: Plant, name: &'static str, about: &'static str) -> Plant
     Planted { plant, name, about }
 }
 
-pub const PLANTS: [Planted; 185] = [
+pub const PLANTS: [Planted; 216] = [
     planted(Plant::ReadValue, "read-value", "a 4-byte read from L2 cache gets 1 more"),
     planted(Plant::ReadOrder, "read-order", "a read hit in L1D turns its set's order around"),
     planted(Plant::WriteNumber, "write-number", "a write refused with 6 gets 5"),
@@ -282,7 +316,7 @@ pub const PLANTS: [Planted; 185] = [
     planted(Plant::DataNumber, "data-number", "one of two runs: a write of an odd value gets 6"),
     planted(Plant::DataServer, "data-server", "..: a read of an odd value has another server"),
     planted(Plant::DataVictim, "data-victim", "..: a read of an odd value turns an order around"),
-    planted(Plant::ValueBehind, "value-behind", "..: a 1-byte read answers the next byte too"),
+    planted(Plant::ValueBehind, "value-behind", "..: a read answers the byte behind it too"),
     planted(Plant::ViewNeighbour, "view-neighbour", "..: a view shows the line beside it"),
     planted(Plant::FillNeighbour, "fill-neighbour", "..: L1D is filled with the line beside it"),
     planted(Plant::FetchNeighbour, "fetch-neighbour", "..: L2 fetches the line beside it"),
@@ -456,6 +490,53 @@ pub const PLANTS: [Planted; 185] = [
         Plant::TransferNeighbour,
         "transfer-neighbour",
         "..: one out brings the word beside it, in two runs",
+    ),
+    planted(
+        Plant::FrameUncovered,
+        "frame-uncovered",
+        "a frame: neither command goes over its place",
+    ),
+    planted(Plant::FrameNoL2, "frame-no-l2", "..: the command of L2 is left out"),
+    planted(Plant::FrameOnePlace, "frame-one-place", "..: every one goes to 80000000h"),
+    planted(Plant::FrameOtherPlace, "frame-other-place", "..: the two places are exchanged"),
+    planted(Plant::FrameNoTransfer, "frame-no-transfer", "..: the pixels are not moved"),
+    planted(Plant::FrameDown, "frame-down", "..: it is read from the last pixel to the first"),
+    planted(Plant::FrameFrozen, "frame-frozen", "..: it is read into a frozen L1D"),
+    planted(Plant::FrameLast, "frame-last", "..: its last pixel is not read"),
+    planted(Plant::FrameRows, "frame-rows", "..: rows are added up"),
+    planted(Plant::FrameNarrow, "frame-narrow", "..: sums have 8 bits"),
+    planted(Plant::FrameTurn, "frame-turn", "..: a turn above 1 is taken for 1"),
+    planted(Plant::FrameTurnBack, "frame-turn-back", "..: a refused one gives its turn back whole"),
+    planted(Plant::FrameTurnTaken, "frame-turn-taken", "..: a refused one takes its turn"),
+    planted(
+        Plant::FrameTurnKept,
+        "frame-turn-kept",
+        "..: an accepted one leaves the turn as it was",
+    ),
+    planted(Plant::FrameCovers, "frame-covers", "..: one refused with 20 has made its commands"),
+    planted(Plant::FrameMoves, "frame-moves", "..: one refused with 20 has moved its pixels"),
+    planted(Plant::FrameAddsUp, "frame-adds-up", "..: one refused with 20 has sums"),
+    planted(Plant::FrameOrder, "frame-order", "..: 20 comes before 19"),
+    planted(Plant::FrameLonger, "frame-longer", "..: one with more pixels is accepted"),
+    planted(Plant::FrameLeast, "frame-least", "..: 6,144 bytes of external memory get 19"),
+    planted(Plant::FramePixels, "frame-pixels", "..: it changes its pixels"),
+    planted(Plant::FrameCount, "frame-count", "..: dirty lines that it sends home are counted on"),
+    planted(Plant::FrameByCalls, "frame-by-calls", "..: by its calls a pixel is another"),
+    planted(Plant::FrameByPixels, "frame-by-pixels", "..: by its pixels a sum is another"),
+    planted(Plant::FlatFrame, "flat-frame", "..: flat memory lacks its last pixel"),
+    planted(Plant::FlatFrameSums, "flat-frame-sums", "..: by flat memory a sum is another"),
+    planted(Plant::FlatFrameNumber, "flat-frame-number", "..: flat memory says 20 for 19"),
+    planted(Plant::FlatFrameTurn, "flat-frame-turn", "..: by flat memory the turn stays"),
+    planted(
+        Plant::FlatFrameUnread,
+        "flat-frame-unread",
+        "..: it does not count as an access to its place",
+    ),
+    planted(Plant::DataFrame, "data-frame", "..: with odd pixels it gets 20, in two runs"),
+    planted(
+        Plant::FrameBeside,
+        "frame-beside",
+        "..: all of external memory is added up, in two runs",
     ),
     planted(Plant::BenchOutput, "bench-output", "bench-trace prints a line more after an 8"),
     planted(Plant::BenchStatus, "bench-status", "bench-trace fails after a 7"),
@@ -893,7 +974,8 @@ fn marked(
     }
 }
 
-/// Whether this difference needs our side as it was before a non-aligned access or a transfer.
+/// Whether this difference needs our side as it was before a non-aligned access, a transfer or a
+/// frame.
 pub fn wants_copy() -> bool {
     matches!(
         CHOSEN.get(),
@@ -905,6 +987,14 @@ pub fn wants_copy() -> bool {
                 | Plant::UnalignedLeft
                 | Plant::TransferLost
                 | Plant::TransferLast
+                | Plant::FrameUncovered
+                | Plant::FrameNoL2
+                | Plant::FrameOnePlace
+                | Plant::FrameOtherPlace
+                | Plant::FrameNoTransfer
+                | Plant::FrameDown
+                | Plant::FrameFrozen
+                | Plant::FrameTurn
         )
     )
 }
@@ -1268,6 +1358,164 @@ pub fn steered_transfer(transfer: &Transfer, called: &mut CAnswer, buffer: &mut 
     }
 }
 
+/// What a frame gave back, its pixels, and the record and the memories after it.
+pub fn frame(
+    frame: &Frame,
+    called: &mut CFramed,
+    record: &mut CRecord,
+    passed: &CRecord,
+    mut lent: Lent,
+    pixels: &mut Buffer,
+    before: Option<&Ours>,
+) {
+    let Some(plant) = CHOSEN.get() else { return };
+    let taken = 1 - frame.turn % 2;
+    if called.number != 0 {
+        refused_frame(*plant, frame, called, &mut lent, pixels.bytes());
+        if (*plant, called.number) == (Plant::FrameCovers, 20) {
+            FrameCalls::of(frame).cover(record, &mut lent);
+        }
+        return;
+    }
+    match plant {
+        Plant::FrameTurnKept => called.turn = 1 - taken,
+        Plant::FrameLeast if passed.extlen == LEAST_EXTERNAL => called.number = 19,
+        Plant::FrameLast => {
+            called.sums[COLUMNS - 1] -= u32::from(pixels.bytes()[FRAME_BYTES - 1]);
+        }
+        Plant::FrameRows => {
+            called.sums = [0; COLUMNS];
+            for (row, sum) in pixels.bytes().chunks(COLUMNS).zip(&mut called.sums) {
+                *sum = row.iter().map(|&pixel| u32::from(pixel)).sum();
+            }
+        }
+        Plant::FrameNarrow => called.sums.iter_mut().for_each(|sum| *sum &= 0xFF),
+        Plant::FramePixels => change(pixels.bytes_mut().last_mut()),
+        Plant::FrameCount => record.dirty_l1d = passed.dirty_l1d,
+        _ => {
+            if let Some(before) = before {
+                mistaken_calls(*plant, frame, called, record, lent, pixels.bytes(), before.clone());
+            }
+        }
+    }
+}
+
+/// The same of one that was refused.
+fn refused_frame(
+    plant: Plant,
+    frame: &Frame,
+    called: &mut CFramed,
+    lent: &mut Lent,
+    pixels: &[u8],
+) {
+    match (plant, called.number) {
+        (Plant::FrameTurnBack, _) => called.turn = frame.turn,
+        (Plant::FrameTurnTaken, _) => called.turn = 1 - called.turn,
+        (Plant::FrameOrder, 19) if frame.length != FRAME_BYTES => called.number = 20,
+        (Plant::FrameLonger, 20) if frame.length > FRAME_BYTES => called.number = 0,
+        (Plant::FrameAddsUp, 20) => called.sums = column_sums(pixels),
+        (Plant::FrameMoves, 20) => {
+            for (byte, pixel) in lent.ext.iter_mut().zip(pixels) {
+                *byte = *pixel;
+            }
+        }
+        _ => {}
+    }
+}
+
+/// One that was accepted, made of other calls from what stood there before.
+fn mistaken_calls(
+    plant: Plant,
+    frame: &Frame,
+    called: &mut CFramed,
+    record: &mut CRecord,
+    lent: Lent,
+    pixels: &[u8],
+    mut before: Ours,
+) {
+    let [first, second] = [0, 1].map(|turn| FrameCalls::of(&Frame { turn, ..*frame }));
+    let right = FrameCalls::of(frame);
+    let calls = match plant {
+        Plant::FrameUncovered => FrameCalls { l2_command: false, l1d_command: false, ..right },
+        Plant::FrameNoL2 => FrameCalls { l2_command: false, ..right },
+        Plant::FrameOnePlace => first,
+        Plant::FrameOtherPlace if right.place == first.place => second,
+        Plant::FrameOtherPlace => first,
+        Plant::FrameNoTransfer => FrameCalls { transfer: false, ..right },
+        Plant::FrameDown => FrameCalls { downwards: true, ..right },
+        Plant::FrameTurn if frame.turn > 1 => {
+            called.turn = 0;
+            second
+        }
+        Plant::FrameFrozen if before.record.frozen == 1 => {
+            before.record.frozen = 0;
+            right
+        }
+        _ => return,
+    };
+    let (copy, copied) = before.lent();
+    called.sums = column_sums(&calls.make(copy, pixels, copied));
+    before.record.frozen = record.frozen;
+    *record = **before.record;
+    lent.l1d.copy_from_slice(&before.l1d);
+    lent.l2.copy_from_slice(&before.l2);
+    lent.ext.copy_from_slice(&before.ext);
+}
+
+/// What each pixel was read as, by the calls of a frame.
+pub fn by_calls(read: &mut [u8]) {
+    if CHOSEN.get() == Some(&Plant::FrameByCalls) {
+        change(read.last_mut());
+    }
+}
+
+/// The sums of a frame, by its pixels.
+pub fn pixel_sums(sums: &mut [u32; COLUMNS]) {
+    if CHOSEN.get() == Some(&Plant::FrameByPixels) {
+        sums[COLUMNS - 1] += 1;
+    }
+}
+
+/// What flat memory says of a frame.
+pub fn frame_flat(frame: &Frame, flat: &mut Flat, framed: &mut CFramed) {
+    let accepted = framed.number == 0;
+    match CHOSEN.get() {
+        Some(Plant::FlatFrame) if accepted => {
+            let last = FrameCalls::of(frame).place + FRAME_BYTES as u32 - 1;
+            let (_, byte) = flat.read(1, last);
+            flat.write(1, last, (byte + 1) & 0xFF);
+        }
+        Some(Plant::FlatFrameSums) if accepted => framed.sums[0] += ROWS as u32,
+        Some(Plant::FlatFrameNumber) if framed.number == 19 => framed.number = 20,
+        Some(Plant::FlatFrameTurn) if accepted => framed.turn = frame.turn % 2,
+        _ => {}
+    }
+}
+
+/// What an accepted frame means for the transfers behind it, where its reads count for nothing;
+/// whether they do so.
+pub fn unread(frame: &Frame, covered: &mut Covered) -> bool {
+    let planted = CHOSEN.get() == Some(&Plant::FlatFrameUnread);
+    for command in FrameCalls::of(frame).commands().iter().filter(|_| planted) {
+        covered.command(command, true);
+    }
+    planted
+}
+
+/// What a frame of one of two runs gave back: data has steered it.
+pub fn steered_frame(framed: &mut CFramed, pixels: &[u8], ext: &[u8]) {
+    if framed.number != 0 {
+        return;
+    }
+    match CHOSEN.get() {
+        Some(Plant::DataFrame) if pixels[0] % 2 == 1 => framed.number = 20,
+        Some(Plant::FrameBeside) => {
+            framed.sums[0] += ext.iter().map(|&byte| u32::from(byte)).sum::<u32>()
+        }
+        _ => {}
+    }
+}
+
 /// Whether the last command of a whole trace is a global L2 writeback.
 fn ends_globally(trace: &[u8]) -> bool {
     let (mut place, mut last) = (0, None);
@@ -1383,9 +1631,11 @@ pub fn steered(command: &Command, called: &mut CAnswer, record: &mut CRecord, le
         {
             record.l1d[L1d::set_of(address)].order.swap(0, 1);
         }
-        (Plant::ValueBehind, Command::Read { size: 1, address }) if address >= EXTERNAL_BASE => {
-            let behind = lent.ext.get(external_offset(address) + 1);
-            called.value |= u64::from(behind.copied().unwrap_or(0)) << 8;
+        (Plant::ValueBehind, Command::Read { size: size @ 1..8, address })
+            if address >= EXTERNAL_BASE =>
+        {
+            let behind = lent.ext.get(external_offset(address) + size as usize);
+            called.value |= u64::from(behind.copied().unwrap_or(0)) << (8 * size);
         }
         (Plant::FillNeighbour, Command::Read { address, .. }) if called.server != SERVER_L1D => {
             let line = L1d::line_address(address);

@@ -1,7 +1,7 @@
 //! A case in words. Numbers in hexadecimal begin with 0x, all others are
 //! decimal.
 
-use oracle::gen::Transfer;
+use oracle::gen::{Frame, Transfer};
 use oracle::record::{L1dSet, L2Set, Line, Record};
 use oracle::trace::decode;
 use oracle::{Command, Unaligned};
@@ -104,6 +104,7 @@ fn report_op(number: usize, op: &Op) {
         Op::Direct(command) => println!("{number}: {}", command_words(command)),
         Op::Unaligned(access) => println!("{number}: {}", unaligned_words(access)),
         Op::Transfer(transfer) => println!("{number}: {}", transfer_words(transfer)),
+        Op::Frame(frame) => println!("{number}: {}", frame_words(frame)),
         Op::View { address, buffer } => {
             println!("{number}: view of {address:#x}, buffer of {buffer} bytes");
         }
@@ -150,6 +151,16 @@ pub fn transfer_words(transfer: &Transfer) -> String {
     let direction = if transfer.is_in() { "in" } else { "out" };
     let bytes = if filling == 0 { "all 0" } else { "random" };
     format!("transfer {direction} of {length} bytes, address {address:#x}, buffer {bytes}")
+}
+
+pub fn frame_words(frame: &Frame) -> String {
+    let Frame { turn, length, filling } = *frame;
+    let pixels = match filling {
+        0 => "all 0",
+        Frame::WHITE => "all 255",
+        _ => "random",
+    };
+    format!("frame of {length} bytes, turn {turn}, pixels {pixels}")
 }
 
 pub fn command_words(command: &Command) -> String {

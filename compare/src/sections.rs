@@ -1,12 +1,14 @@
-//! What is compared: fourteen sections, each made of groups, each group of a few
+//! What is compared: fifteen sections, each made of groups, each group of a few
 //! lists of calls. A group is known by its section and number, and equal seeds
 //! give equal groups.
 
+use oracle::frames::{place_of, FRAME_BYTES, LEAST_EXTERNAL};
 use oracle::gen::{
-    self, call, command, crowded, crowded_e, encode, frame, hot, hot_for, huge_length,
-    ill_formed_record, l_for, look_address, make_length_wrong, senseless_record, single, transfer,
-    well_formed_record, well_formed_record_in_mode, Call, Hot, Mix, Rng, Setup, Single, TraceKind,
-    Transfer, E_BOTH_RANGES, FAULTS, LEGAL_L, LEGAL_MODES, RANGE_BYTES, TRACE_KINDS, WRONG_LENGTHS,
+    self, call, command, crowded, crowded_e, encode, frame, frame_length, frames_in_a_row, hot,
+    hot_for, huge_length, ill_formed_record, l_for, look_address, make_length_wrong,
+    senseless_record, shared_place, single, transfer, well_formed_record,
+    well_formed_record_in_mode, Call, Frame, Hot, Mix, Rng, Setup, Single, TraceKind, Transfer,
+    E_BOTH_RANGES, FAULTS, LEGAL_L, LEGAL_MODES, RANGE_BYTES, TRACE_KINDS, WRONG_LENGTHS,
 };
 use oracle::geometry::{mode_is_legal, sram_size, EXTERNAL_BASE, L2};
 use oracle::short_runs;
@@ -36,7 +38,7 @@ pub enum Group {
     Words(fn(&mut Rng, u64, &mut Met) -> Option<String>),
 }
 
-pub const SECTIONS: [Section; 14] = [
+pub const SECTIONS: [Section; 15] = [
     Section {
         name: "records",
         share: 40,
@@ -134,8 +136,15 @@ pub const SECTIONS: [Section; 14] = [
         name: "transfers",
         share: 10,
         groups: 0,
-        about: "transfers over lines that are held, and frames, set against flat memory too",
+        about: "transfers over lines that are held or shared, set against flat memory too",
         group: Group::Calls(transfers),
+    },
+    Section {
+        name: "frames",
+        share: 10,
+        groups: 0,
+        about: "frames in a row over lines that are held, set against flat memory too",
+        group: Group::Calls(frames),
     },
 ];
 
@@ -219,6 +228,7 @@ fn single_op(single: Single) -> Op {
         Single::Command(command) => Op::Direct(command),
         Single::Unaligned(access) => Op::Unaligned(access),
         Single::Transfer(transfer) => Op::Transfer(transfer),
+        Single::Frame(frame) => Op::Frame(frame),
     }
 }
 
@@ -298,6 +308,7 @@ fn op_of(call: Call, rng: &mut Rng) -> Op {
         Call::Direct(command) => Op::Direct(command),
         Call::Unaligned(access) => Op::Unaligned(access),
         Call::Transfer(transfer) => Op::Transfer(transfer),
+        Call::Frame(frame) => Op::Frame(frame),
         Call::Run { trace, answer_bytes } => Op::Run { trace, answer_bytes },
         Call::Look { address } => Op::View { address, buffer: view_buffer(rng) },
     }
@@ -390,7 +401,7 @@ fn lists(rng: &mut Rng, group: u64, met: &mut Met) -> Option<Case> {
             lines = hot(rng, l, e);
         }
         if rng.chance(1, 150) {
-            ops.extend(frame(rng, &lines).into_iter().map(single_op));
+            ops.extend(shared_place(rng, &lines).into_iter().map(single_op));
         }
         if rng.chance(1, 200) {
             let count = rng.below(30) as usize;
@@ -682,7 +693,7 @@ fn freeing_a_way(rng: &mut Rng, mode: u32, e: u32) -> Vec<Op> {
 }
 
 /// Transfers over lines that the caches hold. In turn lists from fresh that are set against flat
-/// memory, with frames and with lines of SRAM that become dirty; such lists that drop lines, each
+/// memory, with places that the CPU shares and with lines of SRAM that become dirty; such lists that drop lines, each
 /// byte that is read keeping to its history; random records; and now and then the edges.
 fn transfers(rng: &mut Rng, group: u64, met: &mut Met) -> Option<Case> {
     let mode = LEGAL_MODES[group as usize % LEGAL_MODES.len()];
@@ -723,7 +734,7 @@ fn transfers(rng: &mut Rng, group: u64, met: &mut Met) -> Option<Case> {
                 let trace = gen::trace(rng, &lines, &mix, count, TraceKind::Valid).bytes;
                 ops.push(Op::RunAndSingleCalls { trace, answer_bytes: 10 * count });
             }
-            1..=6 => ops.extend(frame(rng, &lines).into_iter().map(single_op)),
+            1..=6 => ops.extend(shared_place(rng, &lines).into_iter().map(single_op)),
             7 => ops.push(Op::View { address: look_address(rng, &lines), buffer: 64 }),
             8..=15 => ops.extend(held_line(rng, &lines)),
             16..=24 => ops.extend(over_a_held_line(rng)),
@@ -795,6 +806,148 @@ fn transfers_on_records(rng: &mut Rng, turn: u64, mode: u32, met: &mut Met) -> O
         }
     }
     check(Start { moves: !large, ..plain(rng, setup) }, ops, met)
+}
+
+/// Frames over lines that the caches hold. In turn lists from fresh with frames in a row, which are
+/// set against flat memory; such lists that drop lines, where the sums are the camera's all the same;
+/// lists with drops in which bytes are set against their history, where refused frames alone are
+/// made; random records; and the edges.
+fn frames(rng: &mut Rng, group: u64, met: &mut Met) -> Option<Case> {
+    let mode = LEGAL_MODES[group as usize % LEGAL_MODES.len()];
+    match group % 8 {
+        3 => return frame_edges(rng, group / 8, met),
+        1 | 5 => return frames_on_records(rng, group / 4, mode, met),
+        _ => {}
+    }
+    let l = l_for(rng, mode);
+    let drops = group % 8 == 2;
+    // Frames are left out of lists with histories, but where they are refused.
+    let history = drops && group % 16 == 2;
+    let e = match group / 8 % 4 {
+        _ if rng.chance(if history { 12 } else { 1 }, 16) => LEAST_EXTERNAL - 128,
+        0 => LEAST_EXTERNAL,
+        1 => 8_192,
+        2 => 65_536,
+        _ => crowded_e(mode),
+    };
+    let all = if drops { Mix::ALL } else { Mix::NO_DROPS };
+    let mix = Mix { l2_all: 4, l2_block_writeback: 10, mode: 6, frame: 60, ..all };
+    let mut ext = vec![0; e as usize];
+    rng.fill(&mut ext);
+    let setup = Setup::fresh_over(l, ext);
+    let bit = u32::from(rng.chance(3, 4));
+    let begin = [Command::Mar { number: 128, bit }, Command::Mode { mode }];
+    let mut ops = begin.map(Op::Direct).to_vec();
+    let mut lines = hot(rng, l, e);
+    // The places of frames among the others, and lines in the same sets.
+    for turn in 0..lines.lines.len() as u32 {
+        let place = place_of(rng.below(2) as u8) + 64 * rng.below(48);
+        let line = place + turn % 4 * 8_192;
+        lines.lines.push(if line < EXTERNAL_BASE + e { line } else { place });
+    }
+    for _ in 0..120 {
+        match rng.below(40) {
+            0 => {
+                let count = rng.below(12) as usize;
+                let trace = gen::trace(rng, &lines, &mix, count, TraceKind::Valid).bytes;
+                ops.push(Op::RunAndSingleCalls { trace, answer_bytes: 10 * count });
+            }
+            1 | 2 => ops.extend(frames_in_a_row(rng, e).into_iter().map(single_op)),
+            3 => ops.extend(shared_place(rng, &lines).into_iter().map(single_op)),
+            4 => ops.extend(full_sets(rng, mode)),
+            5 => ops.push(Op::View { address: look_address(rng, &lines), buffer: 64 }),
+            6..=9 => ops.extend(held_line(rng, &lines)),
+            // A frame's place is taken out behind it, by way of both commands or without them.
+            10 => {
+                let drawn = Frame { length: FRAME_BYTES, ..frame(rng) };
+                ops.push(Op::Frame(drawn));
+                let (base, count) = (place_of(drawn.turn), FRAME_BYTES as u32 / 4);
+                if rng.chance(2, 3) {
+                    ops.push(Op::Direct(Command::L2BlockWritebackInvalidate { base, count }));
+                    ops.push(Op::Direct(Command::L1dBlockWritebackInvalidate { base, count }));
+                }
+                ops.push(transfer_either(rng, base, FRAME_BYTES));
+                ops.push(Op::Direct(Command::Read { size: 4, address: base }));
+            }
+            _ => ops.push(some_single(rng, &lines, &mix)),
+        }
+    }
+    check(Start { flat: !drops, history, ..plain(rng, setup) }, ops, met)
+}
+
+/// Four lines come into the sets of one line of a frame's place, in both caches where they have room:
+/// the frame puts some of them out. Each is read, written, or both.
+fn full_sets(rng: &mut Rng, mode: u32) -> Vec<Op> {
+    let apart = crowded_e(mode) / 6;
+    let first = place_of(rng.below(2) as u8) + 64 * rng.below(48);
+    let mut ops = Vec::new();
+    for turn in 1..=4 {
+        let (size, address) = (4, first + turn * apart);
+        let read = Op::Direct(Command::Read { size, address });
+        let write = Op::Direct(Command::Write { size, address, value: rng.next_u32().into() });
+        ops.extend(match rng.below(3) {
+            0 => vec![read],
+            1 => vec![write],
+            _ => vec![read, write],
+        });
+    }
+    ops
+}
+
+/// Frames from any record, most of which hold lines of both places, each made a second time by its
+/// calls.
+fn frames_on_records(rng: &mut Rng, turn: u64, mode: u32, met: &mut Met) -> Option<Case> {
+    let l = l_for(rng, mode);
+    let e = match turn % 4 {
+        0 => LEAST_EXTERNAL,
+        1 => crowded_e(mode),
+        2 => 65_536,
+        _ => LEAST_EXTERNAL + 128 * rng.below(200),
+    };
+    let setup = Setup::random(rng, l, e);
+    let mut ops = Vec::new();
+    for _ in 0..6 {
+        let record = well_formed_record_in_mode(rng, l, e, mode);
+        let lines = hot_for(rng, &record);
+        ops.push(Op::Record(record));
+        for _ in 0..3 {
+            ops.extend(full_sets(rng, mode));
+            ops.push(Op::Frame(frame(rng)));
+            if rng.chance(1, 2) {
+                ops.extend(held_line(rng, &lines));
+            }
+        }
+    }
+    check(Start { moves: true, ..plain(rng, setup) }, ops, met)
+}
+
+/// Numbers 19 and 20 at their edges, and both due at once: every length around 3,072 and around 0,
+/// and lengths that no buffer has, with external memory around 6,144 bytes and any turn.
+fn frame_edges(rng: &mut Rng, turn: u64, met: &mut Met) -> Option<Case> {
+    let l = LEGAL_L[turn as usize % LEGAL_L.len()];
+    let e = match turn % 5 {
+        0 => LEAST_EXTERNAL - 128,
+        1 => LEAST_EXTERNAL,
+        2 => LEAST_EXTERNAL + 128,
+        3 => 128 * (1 + rng.below(47)),
+        _ => FRAME_BYTES as u32,
+    };
+    let setup = Setup::random(rng, l, e);
+    let around = (FRAME_BYTES - 4..=FRAME_BYTES + 4).chain(0..4);
+    let many = [64, 1_536, 3_008, 3_136, 6_144, 4_096, FRAME_BYTES + 256, FRAME_BYTES + 65_536];
+    let huge = [huge_length(rng), FRAME_BYTES + (1 << 32), usize::MAX];
+    let mut ops = Vec::new();
+    for length in around.chain(many).chain(huge) {
+        for turn in [0, 1, rng.next_u32() as u8] {
+            ops.push(Op::Frame(Frame { turn, length, filling: rng.next_u64() }));
+        }
+    }
+    // Whatever the turn, the place goes by its last bit.
+    for turn in [2, 3, 127, 128, 254, 255] {
+        let length = if rng.chance(1, 2) { FRAME_BYTES } else { frame_length(rng) };
+        ops.push(Op::Frame(Frame { turn, length, filling: Frame::WHITE }));
+    }
+    check(plain(rng, setup), ops, met)
 }
 
 fn global_writeback(rng: &mut Rng) -> Command {
@@ -959,7 +1112,10 @@ fn every_call() -> Vec<Op> {
         (Direction::Out, EXTERNAL_BASE - 4, 8),
     ]
     .map(|(direction, address, length)| Transfer { direction, address, length, filling: 7 });
+    let frames = [(0, FRAME_BYTES), (7, FRAME_BYTES - 1), (255, usize::MAX)]
+        .map(|(turn, length)| Frame { turn, length, filling: 7 });
     let others = accesses.map(Op::Unaligned).into_iter().chain(transfers.map(Op::Transfer));
+    let others = others.chain(frames.map(Op::Frame));
     commands.map(Op::Direct).into_iter().chain(others).collect()
 }
 
@@ -1178,7 +1334,7 @@ fn change(rng: &mut Rng, record: &mut Record) {
     }
 }
 
-/// Numbers 3 to 8, 13, 14 and 17 at their edges, and several due at once.
+/// Numbers 3 to 8, 13, 14, 17, 19 and 20 at their edges, and several due at once.
 fn edges(rng: &mut Rng, turn: u64, met: &mut Met) -> Option<Case> {
     let l = LEGAL_L[turn as usize % LEGAL_L.len()];
     let e = rng.pick(&[128, 256, 65_536, 8_192]);
@@ -1214,6 +1370,10 @@ fn edges(rng: &mut Rng, turn: u64, met: &mut Met) -> Option<Case> {
             let back = rng.pick(&[0, 2, 4, length as u32]);
             ops.push(transfer_either(rng, end.wrapping_sub(back), length));
         }
+    }
+    for length in [0, FRAME_BYTES - 1, FRAME_BYTES, FRAME_BYTES + 1, usize::MAX] {
+        let (turn, filling) = (rng.next_u32() as u8, rng.next_u64());
+        ops.push(Op::Frame(Frame { turn, length, filling }));
     }
     // All of 3 to 6 at once, and one less each time.
     let outside = EXTERNAL_BASE.wrapping_add(e);

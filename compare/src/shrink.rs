@@ -5,7 +5,7 @@
 use std::time::{Duration, Instant};
 
 use oracle::calls::fresh_start;
-use oracle::gen::Transfer;
+use oracle::gen::{Frame, Transfer};
 use oracle::record::{L1dSet, L2Set, Line, Record};
 use oracle::trace::{decode, ANSWER_BYTES};
 
@@ -72,6 +72,7 @@ pub fn shrink(case: Case) -> Case {
         shrinker.drop_ops();
         shrinker.make_calls_plain();
         shrinker.shorten_transfers();
+        shrinker.make_frames_plain();
         shrinker.shorten_traces();
         shrinker.shorten_answers();
         shrinker.drop_digits();
@@ -140,6 +141,9 @@ impl Shrinker {
                 }
                 Op::Transfer(transfer) => {
                     setup.transfer(transfer);
+                }
+                Op::Frame(frame) => {
+                    setup.frame(frame);
                 }
                 Op::Run { trace, answer_bytes } | Op::RunAndSingleCalls { trace, answer_bytes } => {
                     setup.run(trace, &mut vec![0; *answer_bytes]);
@@ -249,6 +253,32 @@ impl Shrinker {
     fn try_transfer(&mut self, op: usize, transfer: Transfer) -> bool {
         let mut ops = self.case.ops.clone();
         ops[op] = Op::Transfer(transfer);
+        self.try_ops(ops)
+    }
+
+    /// Tries frames that are black or white, and the turns 0 and 1.
+    fn make_frames_plain(&mut self) {
+        let mut op = 0;
+        while let Some(call) = self.case.ops.get(op) {
+            if let Op::Frame(frame) = *call {
+                let black = Frame { filling: 0, ..frame };
+                let white = Frame { filling: Frame::WHITE, ..frame };
+                if frame.filling != 0 && !self.try_frame(op, black) && frame != white {
+                    self.try_frame(op, white);
+                }
+            }
+            if let Some(Op::Frame(frame)) = self.case.ops.get(op).cloned() {
+                if frame.turn > 1 {
+                    self.try_frame(op, Frame { turn: frame.turn % 2, ..frame });
+                }
+            }
+            op += 1;
+        }
+    }
+
+    fn try_frame(&mut self, op: usize, frame: Frame) -> bool {
+        let mut ops = self.case.ops.clone();
+        ops[op] = Op::Frame(frame);
         self.try_ops(ops)
     }
 

@@ -10,10 +10,11 @@
 
 use std::panic::{catch_unwind, AssertUnwindSafe};
 
+use oracle::frames::{place_of, COLUMNS, FRAME_BYTES};
 use oracle::gen::{
     code, crowded, crowded_e, hot_for, ill_formed_record, l_for, look_address, make_length_wrong,
-    single, well_formed_record_in_mode, Hot, Mix, Rng, Setup, Single, Transfer, E_BOTH_RANGES,
-    FAULTS, LEGAL_MODES, WRONG_LENGTHS,
+    single, well_formed_record_in_mode, Frame, Hot, Mix, Rng, Setup, Single, Transfer,
+    E_BOTH_RANGES, FAULTS, LEGAL_MODES, WRONG_LENGTHS,
 };
 use oracle::geometry::{external_offset, sram_size, L1d, EXTERNAL_BASE, L1D_BYTES, L2};
 use oracle::record::{L1dSet, L2Set, Line, Record};
@@ -23,18 +24,22 @@ use crate::boundary::{self, record_difference, record_of, Buffer, CAnswer, CLine
 use crate::now;
 use crate::pair::Met;
 use crate::plant;
-use crate::report::{command_words, left, record_words, transfer_words, unaligned_words};
+use crate::report::{
+    command_words, frame_words, left, record_words, transfer_words, unaligned_words,
+};
 use crate::sections::in_bytes;
 use crate::shrink::{Counts, Size};
 
 /// A single call: trace runs and U7's writer are left out. Of a write, the value
-/// that the second run writes; of a transfer, the filling of its buffer there.
+/// that the second run writes; of a transfer, the filling of its buffer there, and of a frame that
+/// of its pixels.
 #[derive(Clone, PartialEq, Eq)]
 enum Step {
     Fresh,
     Direct { command: Command, other: u64 },
     Unaligned { access: Unaligned, other: u64 },
     Transfer { transfer: Transfer, other: u64 },
+    Frame { frame: Frame, other: u64 },
     View { address: u32 },
 }
 
@@ -70,6 +75,8 @@ enum Kind {
     Value,
     Viewed,
     Buffer,
+    Turn,
+    Sums,
     External,
     Sram,
     L1dLine,
@@ -159,7 +166,15 @@ fn some_case(rng: &mut Rng, turn: u64) -> Case {
 fn some_offset(rng: &mut Rng, lines: &mut Hot) -> usize {
     let external: Vec<u32> =
         lines.lines.iter().copied().filter(|&line| line >= EXTERNAL_BASE).collect();
-    let line = if external.is_empty() { EXTERNAL_BASE } else { rng.pick(&external) };
+    // Now and then one of a frame's place.
+    let frames = 2 * FRAME_BYTES as u32;
+    let line = if lines.e >= frames && rng.chance(1, 6) {
+        EXTERNAL_BASE + L1d::LINE * rng.below(frames / L1d::LINE)
+    } else if external.is_empty() {
+        EXTERNAL_BASE
+    } else {
+        rng.pick(&external)
+    };
     let offset = external_offset(line).min(lines.e as usize - 64) + rng.below(64) as usize;
     for _ in 0..lines.lines.len() {
         lines.lines.push(line ^ rng.pick(&[0, 0, 64]));
@@ -174,8 +189,8 @@ fn some_step(rng: &mut Rng, lines: &Hot, differ: &Differ) -> Step {
         _ => {
             // A byte that is written, or comes in, is soon the same in both runs.
             let mix = match differ {
-                Differ::Data { .. } => Mix::ALL,
-                Differ::OneByte { .. } => Mix { write: 40, transfer: 30, ..Mix::ALL },
+                Differ::Data { .. } => Mix { frame: 8, ..Mix::ALL },
+                Differ::OneByte { .. } => Mix { write: 40, transfer: 30, frame: 8, ..Mix::ALL },
             };
             let drawn = single(rng, lines, &mix);
             let other = match (drawn, differ) {
@@ -192,12 +207,16 @@ fn some_step(rng: &mut Rng, lines: &Hot, differ: &Differ) -> Step {
                 (Single::Transfer(_), Differ::Data { .. }) => rng.next_u64(),
                 // "each in transfer's buffer being the same in both"
                 (Single::Transfer(transfer), Differ::OneByte { .. }) => transfer.filling,
+                // Pixels are such a buffer.
+                (Single::Frame(_), Differ::Data { .. }) => rng.next_u64(),
+                (Single::Frame(frame), Differ::OneByte { .. }) => frame.filling,
                 _ => 0,
             };
             match drawn {
                 Single::Command(command) => Step::Direct { command, other },
                 Single::Unaligned(access) => Step::Unaligned { access, other },
                 Single::Transfer(transfer) => Step::Transfer { transfer, other },
+                Single::Frame(frame) => Step::Frame { frame, other },
             }
         }
     }
@@ -227,12 +246,14 @@ struct Run {
     ext: Vec<u8>,
 }
 
-/// What a call answered: number, server and value, what a view shows, and what a transfer's
-/// buffer holds after it.
+/// What a call answered: number, server and value, what a view shows, what a transfer's buffer
+/// holds after it, and the next turn and the sums of a frame.
 struct Said {
     answer: CAnswer,
     seen: [u8; L1d::LINE as usize],
     buffer: Vec<u8>,
+    turn: u8,
+    sums: [u32; COLUMNS],
 }
 
 impl Run {
@@ -252,6 +273,7 @@ impl Run {
     fn step(&mut self, step: &Step, second: bool) -> Said {
         let mut seen = [0; L1d::LINE as usize];
         let mut held = Vec::new();
+        let (mut turn, mut sums) = (0, [0; COLUMNS]);
         let lent = Lent { l1d: &mut self.l1d, l2: &mut self.l2, ext: &mut self.ext };
         let answer = match step {
             Step::Fresh => boundary::fresh(&mut self.record, lent),
@@ -288,13 +310,22 @@ impl Run {
                 held = buffer.bytes().to_vec();
                 answer
             }
+            Step::Frame { frame, other } => {
+                let filling = if second { *other } else { frame.filling };
+                let frame = Frame { filling, ..*frame };
+                let mut pixels = Buffer::of_frame(&frame);
+                let mut framed = boundary::frame(&mut self.record, &frame, &mut pixels, lent);
+                plant::steered_frame(&mut framed, pixels.bytes(), &self.ext);
+                (turn, sums) = (framed.turn, framed.sums);
+                CAnswer::refused(framed.number)
+            }
             Step::View { address } => {
                 let number = boundary::view(&self.record, *address, &self.l2, &self.ext, &mut seen);
                 plant::steered_view(*address, number, &mut seen, &self.ext);
                 CAnswer::refused(number)
             }
         };
-        Said { answer, seen, buffer: held }
+        Said { answer, seen, buffer: held, turn, sums }
     }
 }
 
@@ -351,6 +382,17 @@ fn compare(case: &Case, met: &mut Met, reached: &mut usize) -> Result<(), Wrong>
             let parted = said.buffer != other_said.buffer;
             met.two_runs.transfers_parted += u64::from(parted && one_byte);
         }
+        if let (Step::Frame { frame, .. }, 0) = (step, said.answer.number) {
+            match case.differ {
+                Differ::Data { .. } => met.two_runs.frames[0] += 1,
+                Differ::OneByte { offset, .. } => {
+                    met.two_runs.frames[1] += 1;
+                    let from = external_offset(place_of(frame.turn));
+                    let over = (from..from + FRAME_BYTES).contains(&offset);
+                    met.two_runs.frames_over += u64::from(over);
+                }
+            }
+        }
         match case.differ {
             Differ::Data { .. } => met.two_runs.data += 1,
             Differ::OneByte { offset, .. } => {
@@ -383,6 +425,9 @@ fn shared(one: &Run, said: &Said, other: &Run, other_said: &Said) -> Result<(), 
     expect(Kind::Server, ours.server == theirs.server, || {
         format!("the server is {} in one run, {} in the other", ours.server, theirs.server)
     })?;
+    expect(Kind::Turn, said.turn == other_said.turn, || {
+        format!("the turn is {} in one run, {} in the other", said.turn, other_said.turn)
+    })?;
     let (ours, theirs) = (ours.report(), theirs.report());
     expect(Kind::Report, ours == theirs, || {
         format!("the report is {ours:?} in one run, {theirs:?} in the other")
@@ -405,7 +450,8 @@ fn differs(one: &[u8], other: &[u8], from: Option<u32>, x: u32) -> Option<usize>
 
 /// "in no byte of any answer ... that doesn't stand for that address": byte k of
 /// what a read of n bytes at a answers stands for a + k, for k below n; byte k of
-/// what a view of the line at a shows, or of the buffer of a transfer at a, for a + k.
+/// what a view of the line at a shows, or of the buffer of a transfer at a, for a + k. Sums stand
+/// for no address: the pixels are the same in both runs, and so are they.
 fn same_answer_but(x: u32, step: &Step, said: &Said, other: &Said) -> Result<(), Wrong> {
     let (ours, theirs) = (said.answer.value.to_le_bytes(), other.answer.value.to_le_bytes());
     let (read, rest) = match *step {
@@ -432,6 +478,9 @@ fn same_answer_but(x: u32, step: &Step, said: &Said, other: &Said) -> Result<(),
         let place = moved.unwrap_or_default();
         let (ours, theirs) = (said.buffer[place], other.buffer[place]);
         format!("byte {place} of the buffer is another: {ours:#04x} and {theirs:#04x}")
+    })?;
+    expect(Kind::Sums, said.sums == other.sums, || {
+        format!("the sums are {:?} in one run, {:?} in the other", said.sums, other.sums)
     })?;
     let seen = differs(&said.seen, &other.seen, from, x);
     expect(Kind::Viewed, seen.is_none(), || {
@@ -553,14 +602,16 @@ fn fewer_steps(found: &mut Found) {
     }
 }
 
-/// Lets writes have the same value, and transfers the same buffer, in both runs.
+/// Lets writes have the same value, transfers the same buffer and frames the same pixels in both
+/// runs.
 fn same_values(found: &mut Found) {
     for place in 0..found.case.steps.len() {
         found.change(|case| {
             if let Some(
                 Step::Direct { command: Command::Write { value, .. }, other }
                 | Step::Unaligned { access: Unaligned::Write { value, .. }, other }
-                | Step::Transfer { transfer: Transfer { filling: value, .. }, other },
+                | Step::Transfer { transfer: Transfer { filling: value, .. }, other }
+                | Step::Frame { frame: Frame { filling: value, .. }, other },
             ) = case.steps.get_mut(place)
             {
                 *other = *value;
@@ -632,6 +683,10 @@ fn words(found: &Found) -> String {
             Step::Transfer { transfer, other } => {
                 let same = if *other == transfer.filling { "the same" } else { "another" };
                 format!("\n{place}: {}, in the other run {same}", transfer_words(transfer))
+            }
+            Step::Frame { frame, other } => {
+                let same = if *other == frame.filling { "the same" } else { "others" };
+                format!("\n{place}: {}, in the other run {same}", frame_words(frame))
             }
             Step::Direct { command, other } => match command {
                 Command::Write { .. } => {

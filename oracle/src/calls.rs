@@ -3,6 +3,7 @@
 
 use crate::access;
 use crate::commands::{self, l1d_block, l2_all, l2_block, L1dAction, L2Action};
+use crate::frames::{self, Framed};
 use crate::geometry::{
     external_length_is_legal, l2_length_is_legal, mode_is_legal, place, L1D_BYTES,
 };
@@ -504,6 +505,32 @@ pub fn transfer_number(record: &Record, lent: [usize; 3], address: u32, length: 
     let [l1d, l2, ext] = lent;
     match check_lent_and_record(record, l1d, l2, ext) {
         0 => transfers::check_transfer(record.sram_size(), record.e, address, length),
+        number => number,
+    }
+}
+
+/// A frame (02, U14): checks 1 and 2, then the rest.
+pub fn frame(
+    record: &mut Record,
+    l1d: &mut [u8],
+    l2: &mut [u8],
+    ext: &mut [u8],
+    turn: u8,
+    pixels: &[u8],
+) -> Framed {
+    let number = check_lent_and_record(record, l1d.len(), l2.len(), ext.len());
+    if number != 0 {
+        return Framed::refused(number, turn);
+    }
+    frames::carry_out_frame(&mut Machine::new(record, l1d, l2, ext), turn, pixels)
+}
+
+/// The number of a frame by itself, for lengths that no buffer has: the three lengths are those of
+/// L1D, L2 and external memory.
+pub fn frame_number(record: &Record, lent: [usize; 3], length: usize) -> u8 {
+    let [l1d, l2, ext] = lent;
+    match check_lent_and_record(record, l1d, l2, ext) {
+        0 => frames::check_frame(record.e, length),
         number => number,
     }
 }

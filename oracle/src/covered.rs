@@ -87,6 +87,19 @@ impl Covered {
         }
     }
 
+    /// A frame (02, U14) counts as the calls that it is made of: both commands cover its place, and
+    /// then the CPU reads each byte of it. Its own transfer, which is in between, is covered.
+    pub fn frame(&mut self, turn: u8, accepted: bool) {
+        let base = if turn & 1 == 1 { 0x8000_0C00 } else { 0x8000_0000 };
+        let count = 3_072 / 4;
+        self.command(&Command::L2BlockWritebackInvalidate { base, count }, accepted);
+        self.command(&Command::L1dBlockWritebackInvalidate { base, count }, accepted);
+        assert!(!accepted || self.joins(base, 3_072), "a frame's transfer is covered");
+        for address in base..base + 3_072 {
+            self.command(&Command::Read { size: 1, address }, accepted);
+        }
+    }
+
     /// An accepted CPU access to these bytes.
     fn access(&mut self, address: u32, size: u32) {
         let first = u64::from(address);

@@ -209,4 +209,33 @@ impl Flat {
             Err(number) => number,
         }
     }
+
+    /// A frame (02, U14) has the bytes moved as its transfer does, and its reads see them: "the
+    /// sums of each accepted frame are those of the camera's pixels." The number, the next turn and
+    /// the sums.
+    pub fn frame(&mut self, turn: u8, pixels: &[u8]) -> (u8, u8, [u32; 64]) {
+        let number = self.frame_number(pixels.len());
+        let mut sums = [0; 64];
+        let odd = turn & 1 == 1;
+        if number != 0 {
+            return (number, u8::from(odd), sums);
+        }
+        // "Frames go alternately to 80000000h (first) and 80000C00h"
+        let from = if odd { 0xC00 } else { 0 };
+        self.ext[from..from + 3_072].copy_from_slice(pixels);
+        for (column, sum) in sums.iter_mut().enumerate() {
+            *sum = pixels.iter().skip(column).step_by(64).map(|&pixel| u32::from(pixel)).sum();
+        }
+        (0, u8::from(!odd), sums)
+    }
+
+    /// The number of a frame with so many pixels: "19 for external memory below 6,144 bytes, ...
+    /// then 20 for a frame not of 3,072 bytes".
+    pub fn frame_number(&self, length: usize) -> u8 {
+        match (self.e, length) {
+            (0..=6_143, _) => 19,
+            (_, 3_072) => 0,
+            _ => 20,
+        }
+    }
 }

@@ -2,6 +2,7 @@
 //! here is part of the model. Equal seeds give equal things.
 
 use crate::calls;
+use crate::frames::{Framed, FRAME_BYTES};
 use crate::geometry::{cache_size, mode_is_legal, sram_size, L1d, EXTERNAL_BASE, L1D_BYTES, L2};
 use crate::record::{Line, Record};
 use crate::trace::{run, Command, RunResult};
@@ -210,12 +211,27 @@ impl Setup {
         (reply, buffer)
     }
 
-    /// Any single call.
+    /// A frame that was drawn (02, U14); where the length is one that no buffer has, its number is
+    /// asked alone.
+    pub fn frame(&mut self, frame: &Frame) -> Framed {
+        let Setup { record, l1d, l2, ext } = self;
+        match frame.pixels() {
+            Some(pixels) => calls::frame(record, l1d, l2, ext, frame.turn, &pixels),
+            None => {
+                let lent = [l1d.len(), l2.len(), ext.len()];
+                let number = calls::frame_number(record, lent, frame.length);
+                Framed::refused(number, frame.turn)
+            }
+        }
+    }
+
+    /// Any single call; of a frame the number alone.
     pub fn single(&mut self, single: &Single) -> Reply {
         match single {
             Single::Command(command) => self.reply(command),
             Single::Unaligned(access) => self.unaligned(access),
             Single::Transfer(transfer) => self.transfer(transfer).0,
+            Single::Frame(frame) => Reply::refused(self.frame(frame).number),
         }
     }
 
@@ -1264,8 +1280,8 @@ pub fn hot_for(rng: &mut Rng, record: &Record) -> Hot {
     hot
 }
 
-/// How often each kind of command comes up, in parts of the sum, and beside them transfers, which
-/// no trace has.
+/// How often each kind of command comes up, in parts of the sum, and beside them transfers and
+/// frames, which no trace has.
 #[derive(Clone, Copy, Debug)]
 pub struct Mix {
     pub read: u32,
@@ -1280,6 +1296,7 @@ pub struct Mix {
     pub mar: u32,
     pub freeze: u32,
     pub transfer: u32,
+    pub frame: u32,
 }
 
 impl Mix {
@@ -1297,6 +1314,8 @@ impl Mix {
         mar: 40,
         freeze: 20,
         transfer: 60,
+        // One is 3,072 accesses, and fills a part of the caches.
+        frame: 4,
     };
 
     /// Everything that flat memory agrees with: nothing is dropped unwritten.
@@ -1409,31 +1428,63 @@ impl Transfer {
 
     /// The buffer before the transfer, if there is one of this length.
     pub fn buffer(&self) -> Option<Vec<u8>> {
-        if self.length > LONGEST_BUFFER {
-            return None;
-        }
-        let mut bytes = vec![0; self.length];
-        if self.filling != 0 {
-            Rng::new(self.filling).fill(&mut bytes);
-        }
-        Some(bytes)
+        filled(self.length, self.filling)
     }
 }
 
-/// A single call: a command that a trace could hold as well, or an access or a transfer that none
-/// can (02, U6 and U1).
+/// So many bytes drawn from a filling, if a buffer is made of this length; with 0 they are 0.
+fn filled(length: usize, filling: u64) -> Option<Vec<u8>> {
+    if length > LONGEST_BUFFER {
+        return None;
+    }
+    let mut bytes = vec![0; length];
+    if filling != 0 {
+        Rng::new(filling).fill(&mut bytes);
+    }
+    Some(bytes)
+}
+
+/// A frame that is drawn (02, U14): whose turn it is, and how many pixels it has, which are drawn
+/// from the filling; with 0 they are black, and with `WHITE` as bright as they can be.
+#[derive(Clone, Copy, PartialEq, Eq, Debug)]
+pub struct Frame {
+    pub turn: u8,
+    pub length: usize,
+    pub filling: u64,
+}
+
+impl Frame {
+    pub const WHITE: u64 = u64::MAX;
+
+    /// The pixels, if there is a buffer of this length.
+    pub fn pixels(&self) -> Option<Vec<u8>> {
+        let mut pixels = filled(self.length, self.filling)?;
+        if self.filling == Frame::WHITE {
+            pixels.fill(255);
+        }
+        Some(pixels)
+    }
+}
+
+/// A single call: a command that a trace could hold as well, or an access, a transfer or a frame
+/// that none can (02, U6, U1 and U14).
 #[derive(Clone, Copy, PartialEq, Eq, Debug)]
 pub enum Single {
     Command(Command),
     Unaligned(Unaligned),
     Transfer(Transfer),
+    Frame(Frame),
 }
 
-/// A random single call: a transfer, or a command, but of the accesses one in six is a
+/// A random single call: a transfer, a frame, or a command, but of the accesses one in six is a
 /// non-aligned one.
 pub fn single(rng: &mut Rng, hot: &Hot, mix: &Mix) -> Single {
-    if rng.below(mix.sum() + mix.transfer) < mix.transfer {
+    let part = rng.below(mix.sum() + mix.transfer + mix.frame);
+    if part < mix.transfer {
         return Single::Transfer(transfer(rng, hot));
+    }
+    if part < mix.transfer + mix.frame {
+        return Single::Frame(frame(rng));
     }
     let drawn = command(rng, hot, mix);
     let is_write = match drawn {
@@ -1517,11 +1568,73 @@ fn transfer_address(rng: &mut Rng, hot: &Hot, length: u32) -> u32 {
     }
 }
 
-/// A frame, as the camera's EDMA and the CPU share a place of a few lines of external memory: the
-/// CPU reads and writes there, both block writeback-invalidates go over the place, whole or in two
-/// parts, in any order, a transfer moves some lines of it, and the CPU reads it again. Now and then
-/// one of the commands is left out, or the CPU comes back in between: then not all is covered.
-pub fn frame(rng: &mut Rng, hot: &Hot) -> Vec<Single> {
+/// A random frame; most of them have as many pixels as one has.
+pub fn frame(rng: &mut Rng) -> Frame {
+    let turn = if rng.chance(3, 4) { rng.below(2) as u8 } else { rng.next_u32() as u8 };
+    let length = if rng.chance(7, 8) { FRAME_BYTES } else { frame_length(rng) };
+    let filling = if rng.chance(1, 8) { Frame::WHITE } else { rng.next_u64() };
+    Frame { turn, length, filling }
+}
+
+/// How many pixels no frame has: about as many, none, one or two frames, or so many that they are
+/// 3,072 in their last 16 or 32 bits, or that no buffer has them.
+pub fn frame_length(rng: &mut Rng) -> usize {
+    let near = FRAME_BYTES - 4 + rng.pick(&[0, 1, 2, 3, 5, 6, 7, 8]);
+    let huge = huge_length(rng);
+    rng.pick(&[
+        near,
+        near,
+        near,
+        near,
+        0,
+        1,
+        FRAME_BYTES / 2,
+        FRAME_BYTES - 64,
+        FRAME_BYTES + 64,
+        2 * FRAME_BYTES,
+        FRAME_BYTES + (1 << 16),
+        FRAME_BYTES + (1 << 32),
+        huge,
+    ])
+}
+
+/// Frames in a row, each with the turn that the one before it left, and what comes between them:
+/// the CPU reads and writes pixels of either place and bytes beside it, so that lines of the place
+/// are dirty when the next frame comes; L1D is frozen and thawed, and a command goes over a part of
+/// a place. Now and then a frame has another length, and the turn stays.
+pub fn frames_in_a_row(rng: &mut Rng, e: u32) -> Vec<Single> {
+    let mut turn = rng.below(2) as u8;
+    let mut calls = Vec::new();
+    for _ in 0..2 + rng.below(4) {
+        let wrong = rng.chance(1, 8);
+        let length = if wrong { frame_length(rng) } else { FRAME_BYTES };
+        calls.push(Single::Frame(Frame { turn, length, filling: rng.next_u64() }));
+        if length == FRAME_BYTES {
+            turn = 1 - turn;
+        }
+        for _ in 0..rng.below(12) {
+            let size = rng.pick(&[1, 2, 4, 8]);
+            // Both places, and a few lines behind them.
+            let bytes = (2 * FRAME_BYTES as u32 + 512).min(e);
+            let address = EXTERNAL_BASE + rng.below(bytes / size) * size;
+            let value = rng.next_u64() >> (64 - 8 * size);
+            calls.push(Single::Command(match rng.below(16) {
+                0 => Command::Freeze { frozen: u32::from(rng.chance(3, 10)) },
+                1 => Command::L1dBlockWritebackInvalidate { base: address & !3, count: 40 },
+                2 => Command::L2BlockWriteback { base: address & !3, count: 40 },
+                3..=6 => Command::Read { size, address },
+                _ => Command::Write { size, address, value },
+            }));
+        }
+    }
+    calls
+}
+
+/// A place of a few lines of external memory that the camera's EDMA and the CPU share: the CPU reads
+/// and writes there, both block writeback-invalidates go over the place, whole or in two parts, in
+/// any order, a transfer moves some lines of it, and the CPU reads it again. Now and then one of the
+/// commands is left out, or the CPU comes back in between: then not all is covered.
+pub fn shared_place(rng: &mut Rng, hot: &Hot) -> Vec<Single> {
     let external: Vec<u32> =
         hot.lines.iter().copied().filter(|&line| line >= EXTERNAL_BASE).collect();
     let line = if external.is_empty() { EXTERNAL_BASE } else { rng.pick(&external) };
@@ -1698,6 +1811,7 @@ pub enum Call {
     Direct(Command),
     Unaligned(Unaligned),
     Transfer(Transfer),
+    Frame(Frame),
     Run { trace: Vec<u8>, answer_bytes: usize },
     Look { address: u32 },
 }
@@ -1722,6 +1836,7 @@ pub fn call(rng: &mut Rng, hot: &Hot, mix: &Mix) -> Call {
             Single::Command(command) => Call::Direct(command),
             Single::Unaligned(access) => Call::Unaligned(access),
             Single::Transfer(transfer) => Call::Transfer(transfer),
+            Single::Frame(frame) => Call::Frame(frame),
         },
     }
 }

@@ -11,6 +11,7 @@ pub mod commands;
 pub mod covered;
 pub mod dropped;
 pub mod flat;
+pub mod frames;
 pub mod gen;
 pub mod geometry;
 pub mod load;
@@ -26,6 +27,7 @@ pub mod wellformed;
 pub mod writer;
 
 pub use calls::{Answer, Reply};
+pub use frames::Framed;
 pub use machine::Report;
 pub use record::{L1dSet, L2Set, Left, Line, Record};
 pub use trace::{Command, RunResult};

@@ -274,11 +274,15 @@ fn lists_with_drops_keep_to_the_sentences() {
                 }
                 continue;
             }
+            // Frames hold an external transfer and are left out as well.
+            if let Single::Frame(_) = call {
+                continue;
+            }
             let answer = setup.single(&call).answer;
             let seen = match &call {
                 Single::Command(command) => history.call(command, &answer),
                 Single::Unaligned(access) => history.unaligned(access, &answer),
-                Single::Transfer(_) => unreachable!(),
+                Single::Transfer(_) | Single::Frame(_) => unreachable!(),
             };
             match seen {
                 Ok(read) => {

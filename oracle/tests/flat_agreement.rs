@@ -3,7 +3,10 @@
 
 use oracle::covered::Covered;
 use oracle::flat::Flat;
-use oracle::gen::{frame, hot, single, Mix, Rng, Setup, Single, Transfer, E_BOTH_RANGES, LEGAL_L};
+use oracle::gen::{
+    frames_in_a_row, hot, shared_place, single, Frame, Mix, Rng, Setup, Single, Transfer,
+    E_BOTH_RANGES, LEGAL_L,
+};
 use oracle::geometry::EXTERNAL_BASE;
 use oracle::wellformed::broken_clauses;
 use oracle::{Command, Direction, Line};
@@ -23,6 +26,41 @@ struct Met {
     unaligned: [u32; 7],
     unaligned_frozen: u32,
     transfers: Transfers,
+    frames: Frames,
+}
+
+/// What frames a list met: by the number, and accepted ones by the mode, with MAR bit 0 and of a
+/// frozen L1D.
+#[derive(Default, Debug)]
+struct Frames {
+    numbers: [u32; 21],
+    modes: [u32; 8],
+    past: u32,
+    frozen: u32,
+}
+
+/// A frame of a list (02, U14): it joins as the calls that it is made of, and its transfer is always
+/// covered. Its sums are flat memory's also where lines were dropped.
+fn run_frame(
+    setup: &mut Setup,
+    flat: &mut Flat,
+    covered: &mut Covered,
+    frame: &Frame,
+    met: &mut Frames,
+) {
+    let framed = setup.frame(frame);
+    let (number, turn, sums) = match frame.pixels() {
+        Some(pixels) => flat.frame(frame.turn, &pixels),
+        None => (flat.frame_number(frame.length), frame.turn & 1, [0; 64]),
+    };
+    assert_eq!((framed.number, framed.turn, framed.sums), (number, turn, sums), "{frame:?}");
+    covered.frame(frame.turn, number == 0);
+    met.numbers[usize::from(number)] += 1;
+    if number == 0 {
+        met.modes[setup.record.mode as usize] += 1;
+        met.past += 1 - setup.record.mar128;
+        met.frozen += setup.record.frozen;
+    }
 }
 
 /// What transfers a list met, out and in.
@@ -106,10 +144,10 @@ fn run_list(seed: u64, l: u32, e: u32, calls: u32, mix: &Mix, met: &mut Met) {
             lines = hot(&mut rng, l, e);
         }
         if drawn.is_empty() {
-            drawn = if rng.chance(1, 60) {
-                frame(&mut rng, &lines)
-            } else {
-                vec![single(&mut rng, &lines, mix)]
+            drawn = match rng.below(960) {
+                0..=15 => shared_place(&mut rng, &lines),
+                16 => frames_in_a_row(&mut rng, e),
+                _ => vec![single(&mut rng, &lines, mix)],
             };
             drawn.reverse();
         }
@@ -118,6 +156,11 @@ fn run_list(seed: u64, l: u32, e: u32, calls: u32, mix: &Mix, met: &mut Met) {
             Single::Transfer(transfer) => {
                 let met = &mut met.transfers;
                 run_transfer(&mut setup, &mut flat, &covered, drops, &transfer, met);
+                continue;
+            }
+            Single::Frame(frame) => {
+                let met = &mut met.frames;
+                run_frame(&mut setup, &mut flat, &mut covered, &frame, met);
                 continue;
             }
             // "Lists with these accesses keep agreeing with flat memory." (02, U6)
@@ -236,9 +279,13 @@ fn check_met(met: &Met) {
     assert!(met.unaligned[4] == 0 && met.unaligned_frozen > 500, "{met:?}");
     let transfers = &met.transfers;
     assert!([0, 4, 13, 14].iter().all(|&number| transfers.numbers[number] > 20), "{met:?}");
-    let pairs = [transfers.sram, transfers.dirty, transfers.external, transfers.covered];
+    let pairs = [transfers.sram, transfers.external, transfers.covered];
     assert!(pairs.iter().flatten().all(|&count| count > 50), "{met:?}");
+    assert!(transfers.dirty.iter().all(|&count| count > 30), "{met:?}");
     assert!(transfers.left_out > 500, "{met:?}");
+    let frames = &met.frames;
+    assert!([0, 1, 2, 3, 7].iter().all(|&mode| frames.modes[mode] > 3), "{met:?}");
+    assert!(frames.numbers[20] > 10 && frames.past > 5 && frames.frozen > 20, "{met:?}");
     for mode in [0, 1, 2, 3, 7] {
         assert!(met.modes[mode] > 500, "{met:?}");
         assert!(met.settled[mode] > 2, "{met:?}");

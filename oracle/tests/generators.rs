@@ -164,6 +164,10 @@ fn nothing_panics_whatever_the_content() {
                         assert_eq!(buffer, transfer.buffer().unwrap_or_default());
                     }
                 }
+                Call::Frame(frame) => {
+                    let number = setup.frame(&frame).number;
+                    assert!(well_formed || number == 1 || number == 2);
+                }
                 Call::Run { trace, answer_bytes } => {
                     let result = setup.run(&trace, &mut vec![0; answer_bytes]);
                     assert!(well_formed || result.stop == 1 || result.stop == 2);

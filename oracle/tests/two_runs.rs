@@ -5,7 +5,7 @@
 //! line that doesn't stand for that address."
 
 use oracle::gen::{
-    hot_for, l_for, look_address, single, Mix, Rng, Setup, Single, Transfer, LEGAL_MODES,
+    hot_for, l_for, look_address, single, Frame, Mix, Rng, Setup, Single, Transfer, LEGAL_MODES,
 };
 use oracle::geometry::{L1d, EXTERNAL_BASE, L2};
 use oracle::{Command, Line, Reply, Unaligned};
@@ -31,7 +31,7 @@ fn other_value(rng: &mut Rng, size: u32, value: u64) -> u64 {
 #[test]
 fn data_steers_nothing() {
     let mut rng = Rng::new(8);
-    let mut transferred = 0;
+    let (mut transferred, mut framed) = (0, 0);
     for turn in 0..60 {
         let mut one = setup(&mut rng, LEGAL_MODES[turn % LEGAL_MODES.len()]);
         let mut other = one.clone();
@@ -40,7 +40,7 @@ fn data_steers_nothing() {
         rng.fill(&mut other.ext);
         let lines = hot_for(&mut rng, &one.record);
         for _ in 0..200 {
-            let first = single(&mut rng, &lines, &Mix::ALL);
+            let first = single(&mut rng, &lines, &Mix { frame: 12, ..Mix::ALL });
             let second = match first {
                 Single::Command(Command::Write { size, address, value }) => {
                     let value = other_value(&mut rng, size, value);
@@ -55,8 +55,17 @@ fn data_steers_nothing() {
                     transferred += u32::from(one.clone().transfer(&transfer).0.answer.number == 0);
                     Single::Transfer(Transfer { filling: rng.next_u64(), ..transfer })
                 }
+                // So are pixels (02, U14).
+                Single::Frame(frame) => Single::Frame(Frame { filling: rng.next_u64(), ..frame }),
                 same => same,
             };
+            if let (Single::Frame(first), Single::Frame(second)) = (first, second) {
+                let (ours, theirs) = (one.frame(&first), other.frame(&second));
+                assert_eq!((ours.number, ours.turn), (theirs.number, theirs.turn), "{first:?}");
+                assert!(one.record == other.record, "{first:?}");
+                framed += u32::from(ours.number == 0);
+                continue;
+            }
             let (ours, theirs) = (one.single(&first), other.single(&second));
             let shared = |reply: Reply| (reply.answer.number, reply.answer.server, reply.report);
             assert_eq!(shared(ours), shared(theirs), "{first:?}");
@@ -65,7 +74,7 @@ fn data_steers_nothing() {
             assert_eq!(one.look_number(address), other.look_number(address));
         }
     }
-    assert!(transferred > 200, "{transferred}");
+    assert!(transferred > 200 && framed > 20, "{transferred} {framed}");
 }
 
 /// Every place of the two differs at address x alone, the first standing for `from`.
@@ -123,6 +132,14 @@ fn one_byte_stays_at_its_address() {
                 assert_eq!(ours, theirs, "{call:?}");
                 buffers += u32::from(out != other_out);
                 same_but(x, transfer.address, &out, &other_out);
+                assert!(one.record == other.record, "{call:?}");
+                same_but(x, EXTERNAL_BASE, &one.ext, &other.ext);
+                same_lines_but(x, &one, &other);
+                continue;
+            }
+            if let Single::Frame(frame) = call {
+                // The pixels, which a transfer in brings, are the same: so are the sums.
+                assert_eq!(one.frame(&frame), other.frame(&frame), "{call:?}");
                 assert!(one.record == other.record, "{call:?}");
                 same_but(x, EXTERNAL_BASE, &one.ext, &other.ext);
                 same_lines_but(x, &one, &other);
