@@ -18,13 +18,14 @@ use Rattle.model.specs.Memories.{l1dLength, externalBase, legalL2, legalExterna
 use Rattle.model.specs.Records.{State, state, sramOf, l2LineAt, freshRecord, freshState}
 use Rattle.model.specs.Access.{readAccess, writeAccess}
 use Rattle.model.specs.Unaligned.{readUp, writeUp, unalignedDue}
+use Rattle.model.specs.Fetches.{fetchAccess}
 use Rattle.model.specs.Transfers.{sentHome, transferredIn, transferredOut, transferDue}
 use Rattle.model.specs.Modes.{smaller, flushL2, newMode, changeMode}
 use Rattle.model.specs.Commands.{l2WritebackAll, l2WritebackInvalidateAll}
-use Rattle.model.specs.Flat.{Flat, flat, freshFlat, flatPart, flatPut, flatMode, FlatReply, flatReply, flatRead, flatWrite, flatChange, flatStep, flatDue, flatReadUnaligned, flatWriteUnaligned, flatTransferIn, flatHandedBack, flatTransferOut, flatCalled, flatAfter}
+use Rattle.model.specs.Flat.{Flat, flat, freshFlat, flatPart, flatPut, flatMode, FlatReply, flatReply, flatRead, flatWrite, flatChange, flatStep, flatDue, flatReadUnaligned, flatWriteUnaligned, flatTransferIn, flatHandedBack, flatTransferOut, flatFetchDue, flatFetch, flatCalled, flatAfter}
 use Rattle.model.specs.Refusals.{accessDue, modeDue}
 use Rattle.model.specs.Trace.{command}
-use Rattle.model.specs.Calls.{Reply, refused, carriedOut, freshOk, freshCall, commandDue, readDone, writeDone, commandState, accepted, step, call, viewDone, transferDueIn, handedBack, transferInStep, transferInCall, transferOutStep, transferOutCall, unalignedDueIn, readUnalignedDone, writeUnalignedDone, readUnalignedStep, writeUnalignedStep, readUnalignedCall, writeUnalignedCall, Call, oneCommand, freshStart, look, readUnaligned, writeUnaligned, transferIn, transferOut, called, after, commands}
+use Rattle.model.specs.Calls.{Reply, refused, carriedOut, freshOk, freshCall, commandDue, readDone, writeDone, commandState, accepted, step, call, viewDone, transferDueIn, handedBack, transferInStep, transferInCall, transferOutStep, transferOutCall, unalignedDueIn, readUnalignedDone, writeUnalignedDone, readUnalignedStep, writeUnalignedStep, readUnalignedCall, writeUnalignedCall, Call, oneCommand, freshStart, look, readUnaligned, writeUnaligned, transferIn, transferOut, fetchBehind, called, after, commands, fetchDueIn, fetchBehindDone, noFetch, fetchBehindStep, fetchBehindCall}
 use Rattle.agreement.specs.Covered.{remembered, joined}
 use Rattle.agreement.specs.Demand.{listedCode, listedCall, listed, compared, global, Settled, AgreesAt, Agree, Demand3, CommandsDemand3, end, next}
 use Rattle.model.specs.Laws.{bool, false-true, both-true, cond-elim, cond-both, length-littleBytes, length-part, part-at, call-told}
@@ -41,6 +42,7 @@ use Rattle.agreement.proofs.Due.{access-tells, accepted-read, accepted-
 use Rattle.agreement.proofs.Steps.{codes, Quiet, quiet-step, quiet-2, quiet-3, quiet-4, quiet-5, quiet-7, quiet-11, quiet-12}
 use Rattle.agreement.proofs.Tested.{call-step}
 use Rattle.agreement.proofs.Unaligned.{due-fits, accepted-read-up, accepted-write-up, read-unaligned-step, write-unaligned-step}
+use Rattle.agreement.proofs.Fetches.{fetch-good, fetch-step}
 use Rattle.agreement.proofs.Transfers.{transfer-fits, sent-good, sent-uncached, transferred-in-good, transferred-out-good, transfer-in-step, transfer-out-step}
 use Rattle.agreement.proofs.Stays.{fresh-sizes, fresh-well}
 use Rattle.agreement.proofs.Uncached.{Reach, Reaches, joined-reaches}
@@ -77,22 +79,22 @@ unfolding flatPut lowStored highStored
 flatPut-state a bs f = bool (ltb a externalBase) (λ t. rw t refl) (λ t. rw t refl)
 
 module _ (z : State) (f : Flat) (m : Matches z f) (n a : ℕ) where
-  flat-fits : AccessFits (layoutOf (z .rec)) a n → Fits (f .sram) (f .ext) a n
+  pub flat-fits : AccessFits (layoutOf (z .rec)) a n → Fits (f .sram) (f .ext) a n
   flat-fits k =
       let s = m .sram in let e = m .ext in
       record { low = λ h. let g = k .low h in omega arith; high = λ h. let g = k .high h in omega arith }
 
-  access-fits : (v : ℕ) → accessDue (sramOf (z .rec)) (z .rec .extlen) n a v ≡ 0 → AccessFits (layoutOf (z .rec)) a n
+  pub access-fits : (v : ℕ) → accessDue (sramOf (z .rec)) (z .rec .extlen) n a v ≡ 0 → AccessFits (layoutOf (z .rec)) a n
   access-fits v d =
       let k = access-tells (sramOf (z .rec)) (z .rec .extlen) n a v d in let mo = k .more in
       record { low = λ h. let g = k .low h in omega arith; high = λ h. let g = k .high h in omega arith }
 
-  unaligned-fits : (v : ℕ) → unalignedDueIn z n a v ≡ 0 → AccessFits (layoutOf (z .rec)) a n
+  pub unaligned-fits : (v : ℕ) → unalignedDueIn z n a v ≡ 0 → AccessFits (layoutOf (z .rec)) a n
   unaligned-fits v d =
       let x = m .good .tidy .sizes .l2Most in
       due-fits (sramOf (z .rec)) (z .rec .extlen) n a v (layoutOf (z .rec)) refl refl (omega arith) d
 
-  sram-below : length (f .sram) ≤ externalBase
+  pub sram-below : length (f .sram) ≤ externalBase
   sram-below = let s = m .sram in let x = m .good .tidy .sizes .l2Most in omega arith
 
   same-bytes : AccessFits (layoutOf (z .rec)) a n → (bs : List ℕ) → length bs ≡ n → ((j : ℕ) → j < n → getD bs j 0 ≡ flatByte f (a + j)) →
@@ -201,7 +203,7 @@ module _ (z : State) (f : Flat) (m : Matches z f) (a b v : ℕ) where
         matches = matches-quiet z f m (step (command k a b v) z .next) q;
       })
 
-listed-below : (k : ℕ) → 13 ≤ k → listedCode k ≡ false
+pub listed-below : (k : ℕ) → 13 ≤ k → listedCode k ≡ false
 listed-below k h = rw (lt-leb k 5 (omega arith), ne-eqb k 7 (omega arith), ne-eqb k 10 (omega arith), ne-eqb k 11 (omega arith), ne-eqb k 12 (omega arith)) refl
 
 pub step-answered : (c : Command) (z : State) (f : Flat) → Matches z f → listedCode (c .code) ≡ true →
@@ -358,6 +360,17 @@ module _ (z : State) (f : Flat) (m : Matches z f) (a : ℕ) where
       })
       (λ _. record { number = refl; value = refl; bytes = refl; matches = m }))
 
+-- a fetch leaves flat memory as it was
+fetch-matches : (z : State) (f : Flat) → Matches z f → (a : ℕ) → Matches (fetchBehindCall a z .next) (flatFetch a f .next)
+unfolding fetchBehindStep fetchBehindDone flatFetch
+fetch-matches z f m a =
+    let d = fetchDueIn z a in let k = flatFetchDue a f in
+    let e : flatFetch a f .next ≡ f = cond-elim (λ (r : FlatReply). r .next ≡ f) (eqb k 0) _ _ (λ _. refl) (λ _. refl) in
+    rw (fetch-step a z (good-well z (Is f) (m .good)), e)
+    (cond-elim (λ (r : Reply). Matches (r .next) f) (eqb d 0) (fetchBehindDone a z) (noFetch d z)
+    (λ t. let r = fetch-good z (Is f) (m .good) a (eqb-true d 0 t) in
+    matches-quiet z f m (fetchAccess a z .next) (quiet-step z (Is f) (fetchAccess a z .next) (record { good = r .good; kept = r .kept }))) (λ _. m))
+
 -- ---- one call: a view is not compared and changes nothing, a fresh start is not listed
 answer-agrees : (c : Call) (z : State) (f : Flat) → global c ≡ false → SameAnswer (called c z) (flatCalled c f) → AgreesAt c z f
 answer-agrees c z f n r = record { number = λ _. r .number; value = λ _. r .value; bytes = λ _. r .bytes; settled = λ g. false-true (sym n ∙ g) }
@@ -374,13 +387,14 @@ no-bytes c z f =
     (λ _. cond-elim None (eqb (c .code) 10) (flatChange (c .first) f) (flatReply 0 0 f)
     (λ _. cond-elim None (eqb (modeDue (f .l2len) (c .first)) 0) _ _ (λ _. refl) (λ _. refl)) (λ _. refl)))
 
-call-agrees : (c : Call) (z : State) (f : Flat) → Matches z f → listedCall c ≡ true → Reach c z → AgreesAt c z f
+pub call-agrees : (c : Call) (z : State) (f : Flat) → Matches z f → listedCall c ≡ true → Reach c z → AgreesAt c z f
 call-agrees freshStart z f m y _ = false-true y
 call-agrees (look a) z f m y _ = record { number = λ n. false-true n; value = λ n. false-true n; bytes = λ n. false-true n; settled = λ n. false-true n }
 call-agrees (readUnaligned n a) z f m y _ = answer-agrees (readUnaligned n a) z f refl (read-unaligned-answered z f m n a)
 call-agrees (writeUnaligned n a v) z f m y _ = answer-agrees (writeUnaligned n a v) z f refl (write-unaligned-answered z f m n a v)
 call-agrees (transferIn a bs) z f m y r = answer-agrees (transferIn a bs) z f refl (transfer-in-answered z f m a bs r)
 call-agrees (transferOut a o) z f m y r = answer-agrees (transferOut a o) z f refl (transfer-out-answered z f m a o r)
+call-agrees (fetchBehind a) z f m y _ = record { number = λ n. false-true n; value = λ n. false-true n; bytes = λ n. false-true n; settled = λ n. false-true n }
 call-agrees (oneCommand c) z f m y _ =
     let s = call-step c z (good-well z (Is f) (m .good)) in
     let r = step-answered c z f m y in
@@ -399,6 +413,7 @@ call-matches (readUnaligned n a) z f m y _ = read-unaligned-answered z f m n a .
 call-matches (writeUnaligned n a v) z f m y _ = write-unaligned-answered z f m n a v .matches
 call-matches (transferIn a bs) z f m y r = transfer-in-answered z f m a bs r .matches
 call-matches (transferOut a o) z f m y r = transfer-out-answered z f m a o r .matches
+call-matches (fetchBehind a) z f m y _ = fetch-matches z f m a
 call-matches (oneCommand c) z f m y _ = let s = call-step c z (good-well z (Is f) (m .good)) in rw s (step-answered c z f m y .matches)
 
 -- ---- along a list, each of whose transfers reaches memory that no line has

@@ -23,7 +23,7 @@ use Rattle.model.specs.Access.{Access, cacheable, useHit, readHit, evictL1d, fi
 use Rattle.model.specs.Reports.{Report, noReport, readReport, writeReport}
 use Rattle.model.specs.Refusals.{lentDue}
 use Rattle.model.specs.Unaligned.{readUp, writeUp, readUpReport, writeUpReport}
-use Rattle.model.specs.Calls.{Reply, refused, step, call, freshOk, freshCall, viewDone, unalignedDueIn, readUnalignedDone, writeUnalignedDone, readUnalignedStep, writeUnalignedStep, readUnalignedCall, writeUnalignedCall, oneCommand, freshStart, look, readUnaligned, writeUnaligned, carriedOut, transferDueIn, handedBack, transferInStep, transferInCall, transferOutStep, transferOutCall, transferIn, transferOut}
+use Rattle.model.specs.Calls.{Reply, refused, step, call, freshOk, freshCall, viewDone, unalignedDueIn, readUnalignedDone, writeUnalignedDone, readUnalignedStep, writeUnalignedStep, readUnalignedCall, writeUnalignedCall, oneCommand, freshStart, look, readUnaligned, writeUnaligned, carriedOut, transferDueIn, handedBack, transferInStep, transferInCall, transferOutStep, transferOutCall, transferIn, transferOut, fetchBehind, fetchDueIn, noFetch, fetchBehindDone, fetchBehindStep, fetchBehindCall}
 use Rattle.model.specs.Transfers.{sentHome, transferredIn, transferredOut}
 use Rattle.model.specs.Bytewise.{AtMost256}
 use Rattle.model.specs.Laws.{bool, false-true, cond-elim, cond-true, cond-false, mar-bit, length-littleBytes}
@@ -34,7 +34,7 @@ use Rattle.agreement.proofs.Good.{layoutOf, l1dLevel, l2Level, Good, Ti
 use Rattle.agreement.proofs.Evict.{evictL1d-good}
 use Rattle.agreement.proofs.Fetch.{AccessFits, cacheable-yes, fetchL2-good}
 use Rattle.agreement.proofs.ReadWrite.{home-same, read-good, write-good}
-use Rattle.agreement.proofs.Reports.{leaving, AtMost, read-any, read-past, read-hit, read-frozen, read-thawed, write-any, write-past, write-hit, write-quiet, at-most-mode, none-from-l2, at-most-128}
+use Rattle.agreement.proofs.Reports.{leaving, fetch-most, AtMost, read-any, read-past, read-hit, read-frozen, read-thawed, write-any, write-past, write-hit, write-quiet, at-most-mode, none-from-l2, at-most-128}
 use Rattle.agreement.proofs.Tested.{due-well}
 use Rattle.agreement.proofs.Unaligned.{all-fit, due-size, anything-written, read-up, Between, up-to}
 
@@ -393,7 +393,7 @@ small : {q : Report} → AtMost 256 q → (q .read ≤ 256) × (q .written ≤ 2
 small h = (h .read, h .written)
 
 pub at-most-256 : AtMost256
-unfolding call freshCall viewDone readUnalignedCall writeUnalignedCall readUnalignedStep writeUnalignedStep readUnalignedDone writeUnalignedDone transferInCall transferInStep transferOutCall transferOutStep
+unfolding call freshCall viewDone readUnalignedCall writeUnalignedCall readUnalignedStep writeUnalignedStep readUnalignedDone writeUnalignedDone transferInCall transferInStep transferOutCall transferOutStep fetchBehindCall fetchBehindStep fetchBehindDone
 at-most-256 (oneCommand c) z s = small (unless-lent z s (step c z) (λ _. let h = at-most-128 c z in let h₀ = h .0 in let h₁ = h .1 in record { read = omega arith; written = omega arith }))
 at-most-256 freshStart z s = small (cond-elim Small (freshOk (z .l1d) (z .l2) (z .ext)) _ _ (λ _. none) (λ _. none))
 at-most-256 (look b) z s = (omega arith, omega arith)
@@ -413,3 +413,8 @@ at-most-256 (transferOut a o) z s =
     let n = length o in let d = transferDueIn z n a in
     small (cond-elim Small (eqb (lentDue z) 0) (transferOutStep a o z) (handedBack (lentDue z) o z)
     (λ _. cond-elim Small (eqb d 0) (handedBack 0 (transferredOut a n z) (sentHome a n z)) (handedBack d o z) (λ _. none) (λ _. none)) (λ _. none))
+at-most-256 (fetchBehind a) z s =
+    let d = fetchDueIn z a in
+    small (cond-elim Small (eqb (lentDue z) 0) (fetchBehindStep a z) (noFetch (lentDue z) z)
+    (λ _. cond-elim Small (eqb d 0) (fetchBehindDone a z) (noFetch d z)
+    (λ _. let h = fetch-most a z in let h₀ = h .0 in let h₁ = h .1 in record { read = omega arith; written = omega arith }) (λ _. none)) (λ _. none))

@@ -25,6 +25,7 @@ use Rattle.model.specs.Modes.{newMode, changeMode, changeMar, changeFreeze}
 use Rattle.model.specs.Commands.{linesTouched, eachTouched, eachL2, atL2, atL1d, unlessMode0, evictAllL1d, l2WritebackAll, l2WritebackInvalidateAll, l2WritebackBlock, l2WritebackInvalidateBlock, l2InvalidateBlock, l1dWritebackInvalidateBlock, l1dInvalidateBlock, l1dInvalidateAll, dropL2}
 use Rattle.model.specs.Unaligned.{readUp, writeUp}
 use Rattle.model.specs.Transfers.{sentHome, transferredIn}
+use Rattle.model.specs.Fetches.{fetchAccess}
 use Rattle.model.specs.Calls.{commandState}
 use Rattle.model.specs.Laws.{cond-elim}
 use Rattle.model.specs.declared.Command.{Command}
@@ -232,6 +233,11 @@ module _ (P : Record → Type 0) (k : Stays P) where
         (λ _. cond-elim OfAccess (z .rec .frozen) (readFrozen n a z) (readThawed n a z) (λ _. fetchL2-stays z p)
         (λ _. useL1d-stays s w (fillL1d w v a y) filled)))
         (λ _. p)
+
+    pub fetch-stays : (z : State) → Of z → Of (fetchAccess a z .next)
+    unfolding fetchAccess readFrozen
+    fetch-stays z p =
+        cond-elim OfAccess (cacheable (z .rec) a) (readFrozen 32 a z) (access 4 (memoryPart a 32 z) z) (λ _. fetchL2-stays z p) (λ _. p)
 
     pub write-stays : (bs : List ℕ) (z : State) → Of z → Of (writeAccess a bs z .next)
     unfolding writeAccess writeHit writeMiss writeHome putL1d

@@ -169,24 +169,27 @@ module _ (z : State) (F : Allowed) (q : Good z F) (a n : ℕ) (f : AccessFits (l
       (λ d. record { good = q; kept = kept-refl z; fewer = λ _ _ _. refl; has = λ d′. false-true (sym d ∙ d′) })
 
 -- ---- n bytes of the home at b, which lie in a's L1D line
-pub record HomeRead (F : Allowed) (b n : ℕ) (bs : List ℕ) : Type 0 where
+pub record HomeRead (R : ℕ → ℕ → Type 0) (b n : ℕ) (bs : List ℕ) : Type 0 where
   pub long : length bs ≡ n
-  pub right : (i : ℕ) → i < n → F .right (b + i) (getD bs i 0)
+  pub right : (i : ℕ) → i < n → R (b + i) (getD bs i 0)
 
-pub homePart-good : (z : State) (F : Allowed) → Good z F → (v a b n : ℕ) → b / 64 ≡ a / 64 → b % 64 + n ≤ 64 → AccessFits (layoutOf (z .rec)) b n →
-    Free 64 (l1dLevel z) a → (homeIsL2 (z .rec) a ≡ true → Hit (l2Level z) 4 (l2SetOf (z .rec) a) v (l2Line a)) → HomeRead F b n (homePart v a b n z)
+-- whatever fact R of bytes holds of the L2 line that has a and, where L2 is not the home, of the memory at b's bytes
+homePart-of : (z : State) (F : Allowed) → Good z F → (R : ℕ → ℕ → Type 0) (v a b n : ℕ) → b / 64 ≡ a / 64 → b % 64 + n ≤ 64 → AccessFits (layoutOf (z .rec)) b n →
+    (homeIsL2 (z .rec) a ≡ true → Hit (l2Level z) 4 (l2SetOf (z .rec) a) v (l2Line a)) →
+    ((t : ℕ) → Valid (l2Level z) t v → (j : ℕ) → j < 128 → (i : ℕ) → i < n → l2LineAt (z .rec) t v .address + j ≡ b + i → R (b + i) (l2Level z .byte t v j)) →
+    (homeIsL2 (z .rec) a ≡ false → (i : ℕ) → i < n → Inside (layoutOf (z .rec)) (b + i) → R (b + i) (memoryOf z (b + i))) →
+    HomeRead R b n (homePart v a b n z)
 unfolding homePart memoryPart
-homePart-good z F q v a b n same row f fr has =
+homePart-of z F q R v a b n same row f has inL2 inMemory =
     let n₂ = q .tidy .sizes .l2Length in let n′ = q .tidy .sizes .extLength in let mx = q .tidy .sizes .l2Most in
     let t = l2SetOf (z .rec) a in
-    let calm : (i : ℕ) → i < n → NoDirty 64 (l1dLevel z) (b + i) = λ i h s w k _ e. fr s w k (e ∙ omega arith) in
     let leg : (i : ℕ) → i < n → Inside (layoutOf (z .rec)) (b + i) =
     λ i h. record {
       low = λ k. let g = f .low (omega arith) in omega arith;
       high = λ k. let g = f .high (omega arith) in omega arith;
     } in
     let fits : Fits (z .l2) (z .ext) b n = record { low = λ h. let g = f .low h in omega arith; high = λ h. let g = f .high h in omega arith } in
-    cond-elim (HomeRead F b n) (homeIsL2 (z .rec) a) (part (z .l2) (l2Data (z .rec) t v + b % 128) n)
+    cond-elim (HomeRead R b n) (homeIsL2 (z .rec) a) (part (z .l2) (l2Data (z .rec) t v + b % 128) n)
     (cond (ltb b externalBase) (part (z .l2) b n) (part (z .ext) (b - externalBase) n))
     (λ d. let h = has d in let e = h .address in
     let f₂ = l2-fits z (q .tidy) t v (l2-bounds z F q t v (h .valid) .0) (h .way) in
@@ -195,15 +198,29 @@ homePart-good z F q v a b n same row f fr has =
       right = λ i hi.
           let j : l2LineAt (z .rec) t v .address + (b % 128 + i) ≡ b + i = omega arith in
           let j′ : l2Data (z .rec) t v + b % 128 + i ≡ l2Data (z .rec) t v + (b % 128 + i) = omega arith in
-          carry F (part-at (z .l2) (l2Data (z .rec) t v + b % 128) n i (omega arith) hi)
-          (rw j′ (rw j at (q .inv .l2Right t v (h .valid) (b % 128 + i) (omega arith) (rw j (calm i hi)))));
+          let c = part-at (z .l2) (l2Data (z .rec) t v + b % 128) n i (omega arith) hi in
+          rw (c, j′) (inL2 t (h .valid) (b % 128 + i) (omega arith) i hi j);
     })
     (λ d. record {
       long = read-length (z .l2) (z .ext) b n fits;
-      right = λ i h.
-          carry F (read-at (z .l2) (z .ext) b n fits (omega arith) i h)
-          (q .inv .memoryRight (b + i) (leg i h) (calm i h) (λ t′ v′ k _ e. memory-free z F q a d t′ v′ k (e ∙ omega arith)));
+      right = λ i h. let c = read-at (z .l2) (z .ext) b n fits (omega arith) i h in rw c (inMemory d i h (leg i h));
     })
+
+-- right, where L1D does not have a's line; held, whatever L1D has
+pub homePart-good : (z : State) (F : Allowed) → Good z F → (v a b n : ℕ) → b / 64 ≡ a / 64 → b % 64 + n ≤ 64 → AccessFits (layoutOf (z .rec)) b n →
+    Free 64 (l1dLevel z) a → (homeIsL2 (z .rec) a ≡ true → Hit (l2Level z) 4 (l2SetOf (z .rec) a) v (l2Line a)) → HomeRead (F .right) b n (homePart v a b n z)
+homePart-good z F q v a b n same row f fr has =
+    let calm : (i : ℕ) → i < n → NoDirty 64 (l1dLevel z) (b + i) = λ i h s w k _ e. fr s w k (e ∙ omega arith) in
+    homePart-of z F q (F .right) v a b n same row f has
+    (λ t k j h i hi e. rw (← e) (q .inv .l2Right t v k j h (rw e (calm i hi))))
+    (λ d i h l. q .inv .memoryRight (b + i) l (calm i h) (λ t′ v′ k _ e. memory-free z F q a d t′ v′ k (e ∙ omega arith)))
+
+pub homePart-held : (z : State) (F : Allowed) → Good z F → (v a b n : ℕ) → b / 64 ≡ a / 64 → b % 64 + n ≤ 64 → AccessFits (layoutOf (z .rec)) b n →
+    (homeIsL2 (z .rec) a ≡ true → Hit (l2Level z) 4 (l2SetOf (z .rec) a) v (l2Line a)) → HomeRead (F .held) b n (homePart v a b n z)
+homePart-held z F q v a b n same row f has =
+    homePart-of z F q (F .held) v a b n same row f has
+    (λ t k j h i hi e. rw (← e) (q .inv .behind .l2Held t v k j h))
+    (λ _ i h l. q .inv .behind .memoryHeld (b + i) l)
 
 -- ---- the line comes into an empty L1D way, clean
 pub record L1dFilled (z : State) (F : Allowed) (s w b : ℕ) (z′ : State) : Type 0 where
@@ -212,7 +229,7 @@ pub record L1dFilled (z : State) (F : Allowed) (s w b : ℕ) (z′ : State) : Ty
   pub here : l1dLineAt (z′ .rec) s w ≡ lineOf b false
 
 pub fillL1d-good : (z : State) (F : Allowed) → Good z F → (w v a : ℕ) → (Valid (l1dLevel z) (l1dSetOf a) w → ⊥) →
-    L1dPlaced (layoutOf (z .rec)) (l1dSetOf a) w (l1dLine a) → Free 64 (l1dLevel z) a → HomeRead F (l1dLine a) 64 (homeLine v a z) →
+    L1dPlaced (layoutOf (z .rec)) (l1dSetOf a) w (l1dLine a) → Free 64 (l1dLevel z) a → HomeRead (F .right) (l1dLine a) 64 (homeLine v a z) →
     (externalBase ≤ l1dLine a → l2SetsOf (z .rec) ≢ 0 → InL2Line (l2Level z) (l1dLine a)) → L1dFilled z F (l1dSetOf a) w (l1dLine a) (fillL1d w v a z)
 unfolding fillL1d withL1dLine marBit
 fillL1d-good z F q w v a room p none ld held =

@@ -62,7 +62,7 @@ or-true true = refl
 or-true false = refl
 
 -- ---- a frame's state is its calls' (`frame-is-calls`)
-reads-after : (p i n : ℕ) (z : State) → after (readsFrom p i n) (callsTo (byteRead p) i z) ≡ callsTo (byteRead p) (n + i) z
+pub reads-after : (p i n : ℕ) (z : State) → after (readsFrom p i n) (callsTo (byteRead p) i z) ≡ callsTo (byteRead p) (n + i) z
 unfolding after readsFrom each
 reads-after p i zero z = let e : i ≡ 0 + i = omega arith in ap (λ (k : ℕ). callsTo (byteRead p) k z) e
 reads-after p i (suc n) z = let e : n + suc i ≡ suc n + i = omega arith in reads-after p (suc i) n z ∙ ap (λ (k : ℕ). callsTo (byteRead p) k z) e
@@ -144,7 +144,7 @@ unfolding joined
 joined-cons c cs h z r e j k =
     rw j (subst (λ (x : Reply). joined (cond (eqb (x .number) 0) (c ∷ h) h) cs (x .next) ≡ true) (sym e) k)
 
-transfer-joins : (t : ℕ) (h : List Call) (n : ℕ) (ok : Bool) → n ≡ 3072 →
+pub transfer-joins : (t : ℕ) (h : List Call) (n : ℕ) (ok : Bool) → n ≡ 3072 →
     transferJoins (oneCommand (command 7 (framePlace t) 768 0) ∷ oneCommand (command 5 (framePlace t) 768 0) ∷ h) (framePlace t) n ok ≡ true
 unfolding transferJoins
 transfer-joins t h n ok e = let c = place-covered t h in rw (e, c) (or-or (ltb (framePlace t) externalBase) (not ok))

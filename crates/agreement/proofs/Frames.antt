@@ -49,7 +49,7 @@ one-byte (b ∷ []) h = omega arith
 one-byte (b ∷ c ∷ bs) h = absurd (omega arith)
 
 -- ---- both commands are accepted, and what they do
-block-accepted : (t : ℕ) → blockDue (framePlace t) 768 ≡ 0
+pub block-accepted : (t : ℕ) → blockDue (framePlace t) 768 ≡ 0
 unfolding blockDue
 block-accepted t = let e : framePlace t % 4 ≡ 0 = omega arith in rw e refl
 

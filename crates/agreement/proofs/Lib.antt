@@ -8,6 +8,7 @@ pub mod Drops
 pub mod Due
 pub mod Evict
 pub mod Fetch
+pub mod Fetches
 pub mod Flushes
 pub mod Frames
 pub mod FrameLists

@@ -39,7 +39,7 @@ unfolding homeIsL2 mode0
 home-same z z′ a e = rw e refl
 
 -- the same slot by the mode that was and by the mode that is
-hit-same : (z z′ : State) (a v : ℕ) → z′ .rec .mode ≡ z .rec .mode →
+pub hit-same : (z z′ : State) (a v : ℕ) → z′ .rec .mode ≡ z .rec .mode →
     Hit (l2Level z′) 4 (l2SetOf (z .rec) a) v (l2Line a) → Hit (l2Level z′) 4 (l2SetOf (z′ .rec) a) v (l2Line a)
 hit-same z z′ a v e h = subst (λ (m : ℕ). Hit (l2Level z′) 4 (l2SetIn (l2Sets m) a) v (l2Line a)) (sym e) h
 

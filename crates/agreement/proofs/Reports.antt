@@ -24,6 +24,7 @@ use Rattle.model.specs.Access.{Access, cacheable, useHit, readHit, writebackL1d
 use Rattle.model.specs.Reports.{Stretch, stretch, Moved, still, reading, writing, andThen, taken, memoryMoved, putMemoryMoved, writeOutL2Moved, fillL2Moved, putHomeMoved, writebackL1dMoved, evictL1dMoved, writebackL2Moved, evictL2Moved, bringL2Moved, fetchL2Moved, homeMoved, fillL1dMoved, writeHomeMoved, readEmptiedMoved, readThawedMoved, readFrozenMoved, readMissMoved, readMoved, writeMissMoved, writeMoved, Report, report, bytesIn, readMissReport, writeMissReport, readReport, writeReport, storedAll, Stand, Accounts, ReadAccounts, WriteAccounts}
 use Rattle.model.specs.Reports as Says
 use Rattle.model.specs.Refusals.{accessDue}
+use Rattle.model.specs.Fetches.{fetchAccess, fetchMoved, fetchReport, FetchAccounts}
 use Rattle.model.specs.Calls.{Reply, refused, carriedOut, commandDue, readDone, writeDone, commandState, accepted, step, AtMost128}
 use Rattle.model.specs.Laws.{bool, false-true, cond-elim, cond-both, length-part, length-littleBytes, stored-outside, stored-none}
 use Rattle.model.specs.declared.Line.{Line}
@@ -401,17 +402,22 @@ module _ (b : Bool) where
         (either-most b 128 64 k h (omega arith)) (omega arith))
         (λ y. useL1d-within y (l1dSetOf a) w)
 
+    readFrozen-done : (n a : ℕ) → n ≤ k → Does b k k (readFrozenMoved n a) (λ z. readFrozen n a z .next)
+    unfolding readFrozenMoved readFrozen
+    readFrozen-done n a l z u =
+        let both = either-most b 128 64 k h (omega arith) in
+        then (homeMoved a a n) (λ y. y) u (fetch-done a z u) (home-done a a n (omega arith)) (inr refl) (either-most b 128 n k h l)
+        (omega arith)
+
     readMiss-done : (n a : ℕ) → n ≤ k → Does b k k (readMissMoved n a) (λ z. readMiss n a z .next)
-    unfolding readMissMoved readMiss readFrozenMoved readFrozen readThawedMoved readThawed
+    unfolding readMissMoved readMiss readThawedMoved readThawed
     readMiss-done n a l z u =
         let s = l1dSetOf a in let w = l1dVictim (l1dSetAt (z .rec) s) in
         let both = either-most b 128 64 k h (omega arith) in
         cond-both (λ (m : Moved) (x : Access). Done k k z m (x .next)) (z .rec .frozen) (readFrozenMoved n a z)
         (readThawedMoved a z)
         (readFrozen n a z) (readThawed n a z)
-        (λ _. then (homeMoved a a n) (λ y. y) u (fetch-done a z u) (home-done a a n (omega arith)) (inr refl)
-        (either-most b 128 n k h l)
-        (omega arith))
+        (λ _. readFrozen-done n a l z u)
         (λ _. then (readEmptiedMoved w a) (λ y. readEmptied w n a y .next) u (evictL1d-done s w z u)
         (readEmptied-done w n a) (inl refl)
         (omega arith) (omega arith))
@@ -452,6 +458,13 @@ module _ (k : ℕ) (h : 128 ≤ k) (z : State) where
       (λ _. record { done = d; read = refl; written = refl }) (λ _. record { done = d; read = refl; written = refl }))
       (record { done = memory-done k k a n z (λ _. l); read = refl; written = refl })
 
+  fetch-reported : (a : ℕ) → Reported k z (fetchReport a z) (fetchMoved a z) (fetchAccess a z)
+  unfolding fetchReport fetchMoved fetchAccess bytesIn
+  fetch-reported a =
+      bool (cacheable (z .rec) a)
+      (λ t. rw t (record { done = readFrozen-done (mode0 (z .rec)) k h 32 a (omega arith) z refl; read = refl; written = refl }))
+      (λ t. rw t (record { done = memory-done k k a 32 z (λ _. omega arith); read = refl; written = refl }))
+
   write-reported : (a : ℕ) (bs : List ℕ) → length bs ≤ k →
       Reported k z (writeReport a bs z) (writeMoved a bs z) (writeAccess a bs z)
   unfolding writeReport writeMissReport writeMoved writeAccess writeHit bytesIn
@@ -484,6 +497,9 @@ read-accounts n a z = accounts (read-reported (128 + n) (omega arith) z n a (ome
 pub write-accounts : WriteAccounts
 write-accounts a bs z = accounts (write-reported (128 + length bs) (omega arith) z a bs (omega arith))
 
+pub fetch-accounts : FetchAccounts
+fetch-accounts a z = accounts (fetch-reported 128 (omega arith) z a)
+
 -- ---- an accepted access lies in one line, and so has far fewer bytes
 access-most : (s e n a v : ℕ) → accessDue s e n a v ≡ 0 → n ≤ 128
 access-most s e n a v d = let k = access-tells s e n a v d in let m = k .more in let l = k .row in omega arith
@@ -492,6 +508,9 @@ most : {z : State} {q : Report} {m : Moved} {x : Access} → Reported 128 z q m 
 most r =
     let d = r .done in let i = d .read in let j = d .written in let i′ = r .read in let j′ = r .written in
     (omega arith, omega arith)
+
+pub fetch-most : (a : ℕ) (z : State) → (fetchReport a z .read ≤ 128) × (fetchReport a z .written ≤ 128)
+fetch-most a z = most (fetch-reported 128 (omega arith) z a)
 
 pub at-most-128 : AtMost128
 unfolding step accepted readDone writeDone commandDue

@@ -12,12 +12,13 @@ use lib.ListN.{length, replicate, length-replicate}
 use borrow.Author.Tests.{eq-eqb}
 use Rattle.model.specs.Memories.{legalL2, legalExternal, cacheSize, isMode}
 use Rattle.model.specs.Records.{State, freshRecord, freshState}
-use Rattle.model.specs.Calls.{freshOk, freshCall, viewDone, Call, oneCommand, freshStart, look, readUnaligned, writeUnaligned, transferIn, transferOut, called, after}
+use Rattle.model.specs.Calls.{freshOk, freshCall, viewDone, Call, oneCommand, freshStart, look, readUnaligned, writeUnaligned, transferIn, transferOut, fetchBehind, called, after}
 use Rattle.model.specs.Stays.{StaysWellFormed}
 use Rattle.agreement.proofs.Good.{Sizes, Anything, Well}
 use Rattle.agreement.proofs.Tested.{legalL2-tells, legalExternal-tells, legalL2-makes, legalExternal-makes, due-well, well-due, call-well}
 use Rattle.agreement.proofs.Unaligned.{read-unaligned-well, write-unaligned-well}
 use Rattle.agreement.proofs.Transfers.{transfer-in-well, transfer-out-well}
+use Rattle.agreement.proofs.Fetches.{fetch-well}
 use Rattle.agreement.proofs.Changes.{fresh-good}
 
 -- ---- the fresh state
@@ -63,6 +64,7 @@ called-well (readUnaligned n a) z h = read-unaligned-well n a z h
 called-well (writeUnaligned n a v) z h = write-unaligned-well n a v z h
 called-well (transferIn a bs) z h = transfer-in-well a bs z h
 called-well (transferOut a o) z h = transfer-out-well a o z h
+called-well (fetchBehind a) z h = fetch-well a z h
 
 pub after-append : (cs ds : List Call) (z : State) → after (cs ++ ds) z ≡ after ds (after cs z)
 unfolding after

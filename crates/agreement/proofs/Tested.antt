@@ -81,10 +81,10 @@ all-from f d (x ∷ xs) i h (suc j) k =
     let e : i + suc j ≡ suc i + j = omega arith in
     rw e (all-from f d xs (suc i) (both-true (f i x) (allIndexed f (suc i) xs) h .1) j (omega arith))
 
-all-tells {ℓ} : {A : Type ℓ} (f : ℕ → A → Bool) (d : A) (xs : List A) → allIndexed f 0 xs ≡ true → (j : ℕ) → j < length xs → f j (getD xs j d) ≡ true
+pub all-tells {ℓ} : {A : Type ℓ} (f : ℕ → A → Bool) (d : A) (xs : List A) → allIndexed f 0 xs ≡ true → (j : ℕ) → j < length xs → f j (getD xs j d) ≡ true
 all-tells f d xs h j k = let e : 0 + j ≡ j = omega arith in rw e at (all-from f d xs 0 h j k)
 
-all-build {ℓ} : {A : Type ℓ} (f : ℕ → A → Bool) (d : A) (xs : List A) (i : ℕ) → ((j : ℕ) → j < length xs → f (i + j) (getD xs j d) ≡ true) →
+pub all-build {ℓ} : {A : Type ℓ} (f : ℕ → A → Bool) (d : A) (xs : List A) (i : ℕ) → ((j : ℕ) → j < length xs → f (i + j) (getD xs j d) ≡ true) →
     allIndexed f i xs ≡ true
 unfolding allIndexed
 all-build f d [] i h = refl

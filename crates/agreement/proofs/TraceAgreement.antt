@@ -172,7 +172,7 @@ module _ (o : List ℕ) where
       λ g. (call c z .server, e ∙ rw (s, r .number g, r .value g) refl) in
       T.next here (answers-agree cs (suc k) (call c z .next) (flatStep c f .next) m′ (p .1) a)
 
-listed-append : (cs ds : List Command) → listed (commands (cs ++ ds)) ≡ true → (listed (commands cs) ≡ true) × (listed (commands ds) ≡ true)
+pub listed-append : (cs ds : List Command) → listed (commands (cs ++ ds)) ≡ true → (listed (commands cs) ≡ true) × (listed (commands ds) ≡ true)
 unfolding listed
 listed-append [] ds y = (refl, y)
 listed-append (c ∷ cs) ds y =

@@ -26,7 +26,7 @@ use Rattle.model.specs.Commands.{blockEnd, linesTouched, eachTouched, atL2, unl
 use Rattle.model.specs.Refusals.{accessDue, blockDue}
 use Rattle.model.specs.Transfers.{sentHome, transferredIn, transferredOut}
 use Rattle.model.specs.Trace.{command}
-use Rattle.model.specs.Calls.{Reply, refused, carriedOut, commandDue, readDone, writeDone, commandState, accepted, step, freshCall, freshOk, viewDone, unalignedDueIn, readUnalignedDone, writeUnalignedDone, readUnalignedStep, writeUnalignedStep, transferDueIn, handedBack, transferInStep, transferOutStep, Call, oneCommand, freshStart, look, readUnaligned, writeUnaligned, transferIn, transferOut, called}
+use Rattle.model.specs.Calls.{Reply, refused, carriedOut, commandDue, readDone, writeDone, commandState, accepted, step, freshCall, freshOk, viewDone, unalignedDueIn, readUnalignedDone, writeUnalignedDone, readUnalignedStep, writeUnalignedStep, transferDueIn, handedBack, transferInStep, transferOutStep, fetchDueIn, fetchBehindDone, noFetch, fetchBehindStep, Call, oneCommand, freshStart, look, readUnaligned, writeUnaligned, transferIn, transferOut, fetchBehind, called}
 use Rattle.model.specs.Laws.{bool, false-true, both-true, cond-elim, mode0-sets, touched-lines}
 use Rattle.model.specs.declared.Command.{Command}
 use Rattle.model.specs.declared.Line.{Line}
@@ -40,8 +40,9 @@ use Rattle.agreement.proofs.Sweeps.{each-by, atL2-good, swept-step, evi
 use Rattle.agreement.proofs.Due.{access-tells}
 use Rattle.agreement.proofs.Tested.{call-step}
 use Rattle.agreement.proofs.Unaligned.{read-unaligned-step, write-unaligned-step}
+use Rattle.agreement.proofs.Fetches.{fetch-step}
 use Rattle.agreement.proofs.Transfers.{transfer-in-step, transfer-out-step}
-use Rattle.agreement.proofs.Comers.{Stays, Fills, at-l2, evictL2-stays, command-stays, sent-stays, transferred-stays, read-stays, write-stays, read-up-stays, write-up-stays, NoL1d, NoL2, no-l1d, no-l2, other-l1d, other-l2}
+use Rattle.agreement.proofs.Comers.{Stays, Fills, at-l2, evictL2-stays, command-stays, sent-stays, transferred-stays, read-stays, fetch-stays, write-stays, read-up-stays, write-up-stays, NoL1d, NoL2, no-l1d, no-l2, other-l1d, other-l2}
 use Rattle.agreement.proofs.Stays.{called-well}
 
 -- ---- a line that nobody holds: no way has its address, an invalid one having 0
@@ -110,6 +111,7 @@ Accessed (readUnaligned n a) x = (a ≤ x) × (x < a + n)
 Accessed (writeUnaligned n a v) x = (a ≤ x) × (x < a + n)
 Accessed (transferIn a bs) x = ⊥
 Accessed (transferOut a o) x = ⊥
+Accessed (fetchBehind a) x = (a ≤ x) × (x < a + 32)
 
 -- ---- a fact about lines stays through a call, if it stays where the lines of the addresses that an accepted one
 -- accesses are filled
@@ -135,7 +137,7 @@ module _ (P : Record → Type 0) (k : Stays P) where
       (λ _ _. p)
 
   pub called-stays : (c : Call) (z : State) → Well z → P (z .rec) → (called c z .number ≡ 0 → (x : ℕ) → Accessed c x → Fills x P) → After (called c z)
-  unfolding freshCall freshState freshRecord viewDone readUnalignedStep readUnalignedDone writeUnalignedStep writeUnalignedDone transferInStep transferOutStep
+  unfolding freshCall freshState freshRecord viewDone readUnalignedStep readUnalignedDone writeUnalignedStep writeUnalignedDone transferInStep transferOutStep fetchBehindStep fetchBehindDone
   called-stays (oneCommand c) z q p = let s = call-step c z q in rw s (command-called c z p)
   called-stays freshStart z q p =
       λ _. cond-elim After (freshOk (z .l1d) (z .l2) (z .ext)) _ _ (λ _. k .anew (freshRecord (length (z .l2)) (length (z .ext))) refl refl)
@@ -155,6 +157,10 @@ module _ (P : Record → Type 0) (k : Stays P) where
   called-stays (transferOut a o) z q p =
       let s = transfer-out-step a o z q in let n = length o in let d = transferDueIn z n a in
       λ _. rw s (cond-elim After (eqb d 0) (handedBack 0 (transferredOut a n z) (sentHome a n z)) (handedBack d o z) (λ _. sent-stays P k a n z p) (λ _. p))
+  called-stays (fetchBehind a) z q p =
+      let s = fetch-step a z q in let d = fetchDueIn z a in
+      rw s (cond-elim (λ (r : Reply). (r .number ≡ 0 → (x : ℕ) → Accessed (fetchBehind a) x → Fills x P) → After r) (eqb d 0) (fetchBehindDone a z) (noFetch d z)
+      (λ _ f. fetch-stays P k a (f refl a (omega arith, omega arith)) z p) (λ _ _. p))
 
 -- ---- what the tests of `Covered` tell
 has-byte : (n b a e x : ℕ) → hasByteIn n b a e ≡ false → a ≤ x → x < e → b ≤ x → x < b + n → ⊥
@@ -179,6 +185,7 @@ not-accessed b x (readUnaligned n a) h p e = has-byte 128 b a (a + n) x h (p .0)
 not-accessed b x (writeUnaligned n a v) h p e = has-byte 128 b a (a + n) x h (p .0) (p .1) (omega arith) (omega arith)
 not-accessed b x (transferIn a bs) h p e = p
 not-accessed b x (transferOut a o) h p e = p
+not-accessed b x (fetchBehind a) h p e = has-byte 128 b a (a + 32) x h (p .0) (p .1) (omega arith) (omega arith)
 
 block-below : (b c : ℕ) → blockEnd b c ≤ 0x100000000
 unfolding blockEnd smaller
@@ -204,6 +211,7 @@ covering k n l some (readUnaligned m a) y = false-true y
 covering k n l some (writeUnaligned m a v) y = false-true y
 covering k n l some (transferIn a bs) y = false-true y
 covering k n l some (transferOut a o) y = false-true y
+covering k n l some (fetchBehind a) y = false-true y
 covering k n l some (oneCommand c) y =
     let a = c .first in let b = c .second in
     let p = both-true (eqb (c .code) k) (hasByteIn n l a (blockEnd a b)) y in
@@ -254,7 +262,7 @@ covers-l1d c z q l h al n k =
     (λ s w v e. f s w v (e ∙ omega arith))))) n
 
 -- ---- one call more: the line was covered before, or is by this call; and the call does not access it
-covered-next : (k n l b : ℕ) (c : Call) (h : List Call) → coveredSince k n l b (c ∷ h) ≡ true →
+pub covered-next : (k n l b : ℕ) (c : Call) (h : List Call) → coveredSince k n l b (c ∷ h) ≡ true →
     (accesses b c ≡ false) × ((coveredSince k n l b h ≡ true) ⊎ (coveredBy k n l c ≡ true))
 unfolding coveredSince since anyOf
 covered-next k n l b c h =
@@ -262,12 +270,12 @@ covered-next k n l b c h =
     (λ t. bool (coveredBy k n l c) (λ u. rw (t, u) (λ _. (refl, inr refl))) (λ u. rw (t, u) (λ y. (refl, inl y))))
 
 -- ---- what the accepted calls so far tell of the record
-record Told (h : List Call) (r : Record) : Type 0 where
-  l2 : (b : ℕ) → externalBase ≤ b → b % 128 ≡ 0 → coveredSince 5 128 b b h ≡ true → NoL2 b r
-  l1d : (l : ℕ) → externalBase ≤ l → l % 64 ≡ 0 → coveredSince 7 64 l (l2Line l) h ≡ true → NoL1d l r
+pub record Told (h : List Call) (r : Record) : Type 0 where
+  pub l2 : (b : ℕ) → externalBase ≤ b → b % 128 ≡ 0 → coveredSince 5 128 b b h ≡ true → NoL2 b r
+  pub l1d : (l : ℕ) → externalBase ≤ l → l % 64 ≡ 0 → coveredSince 7 64 l (l2Line l) h ≡ true → NoL1d l r
 
 -- behind a call that is not accepted, and behind one that is
-told-next : (h : List Call) (c : Call) (z : State) → Well z → Told h (z .rec) → Told (remembered c z h) (called c z .next .rec)
+pub told-next : (h : List Call) (c : Call) (z : State) → Well z → Told h (z .rec) → Told (remembered c z h) (called c z .next .rec)
 told-next h c z q told =
     cond-elim (λ (g : List Call). Told g (called c z .next .rec)) (isAccepted c z) (c ∷ h) h
     (λ t. let n = eqb-true (called c z .number) 0 t in
@@ -329,12 +337,13 @@ Reach (readUnaligned n a) z = Unit {0}
 Reach (writeUnaligned n a v) z = Unit {0}
 Reach (transferIn a bs) z = called (transferIn a bs) z .number ≡ 0 → externalBase ≤ a → Uncached z a (length bs)
 Reach (transferOut a o) z = called (transferOut a o) z .number ≡ 0 → externalBase ≤ a → Uncached z a (length o)
+Reach (fetchBehind a) z = Unit {0}
 
 abbrev pub Reaches : List Call → State → Type 0
 Reaches [] z = Unit {0}
 Reaches (c ∷ cs) z = Reach c z × Reaches cs (called c z .next)
 
-transfer-reach : (h : List Call) (z : State) → Told h (z .rec) → (a n m : ℕ) → transferJoins h a n (eqb m 0) ≡ true →
+pub transfer-reach : (h : List Call) (z : State) → Told h (z .rec) → (a n m : ℕ) → transferJoins h a n (eqb m 0) ≡ true →
     m ≡ 0 → externalBase ≤ a → Uncached z a n
 unfolding transferJoins
 transfer-reach h z told a n m y o high =
@@ -348,6 +357,7 @@ joins-reach h (readUnaligned n a) z told y = tt
 joins-reach h (writeUnaligned n a v) z told y = tt
 joins-reach h (transferIn a bs) z told y = transfer-reach h z told a (length bs) (called (transferIn a bs) z .number) y
 joins-reach h (transferOut a o) z told y = transfer-reach h z told a (length o) (called (transferOut a o) z .number) y
+joins-reach h (fetchBehind a) z told y = tt
 
 along-reaches : (cs h : List Call) (z : State) → Well z → Told h (z .rec) → joined h cs z ≡ true → Reaches cs z
 unfolding joined
@@ -359,11 +369,13 @@ along-reaches (c ∷ cs) h z q told y =
     )
 
 -- at first, when no way has a line
-pub joined-reaches : (cs : List Call) (z : State) → Well z → ((s w : ℕ) → l1dLineAt (z .rec) s w ≡ emptyLine) →
-    ((t v : ℕ) → l2LineAt (z .rec) t v ≡ emptyLine) → joined [] cs z ≡ true → Reaches cs z
-joined-reaches cs z q l1d l2 y =
-    along-reaches cs [] z q
-    (record {
+pub told-none : (r : Record) → ((s w : ℕ) → l1dLineAt r s w ≡ emptyLine) → ((t v : ℕ) → l2LineAt r t v ≡ emptyLine) → Told [] r
+told-none r l1d l2 =
+    record {
       l2 = λ b h _ _ t v. let e = l2 t v in rw e (λ i. absurd (omega arith));
       l1d = λ l h _ _ s w. let e = l1d s w in rw e (λ i. absurd (omega arith));
-    }) y
+    }
+
+pub joined-reaches : (cs : List Call) (z : State) → Well z → ((s w : ℕ) → l1dLineAt (z .rec) s w ≡ emptyLine) →
+    ((t v : ℕ) → l2LineAt (z .rec) t v ≡ emptyLine) → joined [] cs z ≡ true → Reaches cs z
+joined-reaches cs z q l1d l2 y = along-reaches cs [] z q (told-none (z .rec) l1d l2) y

@@ -14,7 +14,8 @@ use Rattle.model.specs.Lines.{l1dKind, l2LineLength, upperHalf}
 use Rattle.model.specs.Records.{State}
 use Rattle.model.specs.Commands.{blockEnd}
 use Rattle.model.specs.Refusals.{multipleOf}
-use Rattle.model.specs.Calls.{Call, oneCommand, freshStart, look, readUnaligned, writeUnaligned, transferIn, transferOut, called}
+use Rattle.model.specs.Fetches.{fetchLength}
+use Rattle.model.specs.Calls.{Call, oneCommand, freshStart, look, readUnaligned, writeUnaligned, transferIn, transferOut, fetchBehind, called}
 
 -- some byte from a on, in front of e, lies in the line of n bytes at b
 abbrev pub hasByteIn : ℕ → ℕ → ℕ → ℕ → Bool
@@ -30,6 +31,7 @@ accesses b (readUnaligned n a) = hasByteIn l2LineLength b a (a + n)
 accesses b (writeUnaligned n a v) = hasByteIn l2LineLength b a (a + n)
 accesses b (transferIn a bs) = false
 accesses b (transferOut a o) = false
+accesses b (fetchBehind a) = hasByteIn l2LineLength b a (a + fetchLength)
 
 -- ---- "an L2 and an L1D block writeback-invalidate" (codes 5 and 7): the block of one with code k touches the line of
 -- n bytes at b
@@ -41,6 +43,7 @@ coveredBy k n b (readUnaligned m a) = false
 coveredBy k n b (writeUnaligned m a v) = false
 coveredBy k n b (transferIn a bs) = false
 coveredBy k n b (transferOut a o) = false
+coveredBy k n b (fetchBehind a) = false
 
 -- ---- "since the last CPU access": of the accepted calls h, those behind the last that accesses the L2 line at b
 unfoldable pub since : ℕ → List Call → List Call
@@ -86,6 +89,7 @@ joins h (readUnaligned n a) z = true
 joins h (writeUnaligned n a v) z = true
 joins h (transferIn a bs) z = transferJoins h a (length bs) (isAccepted (transferIn a bs) z)
 joins h (transferOut a o) z = transferJoins h a (length o) (isAccepted (transferOut a o) z)
+joins h (fetchBehind a) z = true
 
 -- ---- along a list, from state z, with the accepted calls h in front of it
 unfoldable pub joined : List Call → List Call → State → Bool

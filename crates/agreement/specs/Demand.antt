@@ -11,7 +11,7 @@ use lib.Dec.{leb, eqb}
 use Rattle.model.specs.Bytes.{part}
 use Rattle.model.specs.Records.{State, sramOf, l1dLineAt, l2LineAt}
 use Rattle.model.specs.Flat.{Flat, freshFlat, flatCalled}
-use Rattle.model.specs.Calls.{freshCall, Call, oneCommand, freshStart, look, readUnaligned, writeUnaligned, transferIn, transferOut, called, commands}
+use Rattle.model.specs.Calls.{freshCall, Call, oneCommand, freshStart, look, readUnaligned, writeUnaligned, transferIn, transferOut, fetchBehind, called, commands}
 use Rattle.agreement.specs.Covered.{joined}
 use Rattle.model.specs.declared.Command.{Command}
 
@@ -31,6 +31,7 @@ listedCall (readUnaligned n a) = true
 listedCall (writeUnaligned n a v) = true
 listedCall (transferIn a bs) = true
 listedCall (transferOut a o) = true
+listedCall (fetchBehind a) = true
 
 unfoldable pub listed : List Call → Bool
 listed [] = true
@@ -47,6 +48,7 @@ compared (readUnaligned n a) = true
 compared (writeUnaligned n a v) = true
 compared (transferIn a bs) = true
 compared (transferOut a o) = true
+compared (fetchBehind a) = false
 
 -- ---- the global writeback commands, "2 and 3 being the global ones"
 abbrev pub global : Call → Bool
@@ -57,6 +59,7 @@ global (readUnaligned n a) = false
 global (writeUnaligned n a v) = false
 global (transferIn a bs) = false
 global (transferOut a o) = false
+global (fetchBehind a) = false
 
 -- ---- 01: "in a mode other than 0" is struck by 02, U10: "After a global writeback, external memory and SRAM are now
 -- flat memory's in every mode, mode 0 included.": byte for byte, and no line of either cache is dirty

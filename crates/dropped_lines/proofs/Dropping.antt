@@ -20,10 +20,10 @@ use Rattle.model.specs.Access.{readAccess}
 use Rattle.model.specs.Unaligned.{readUp, unalignedDue}
 use Rattle.model.specs.Transfers.{sentHome, transferredIn, transferredOut, transferDue}
 use Rattle.model.specs.Modes.{smaller, flushL2, newMode, changeMode}
-use Rattle.model.specs.Flat.{Flat, FlatReply, flatReply, freshFlat, flatPart, flatPut, flatMode, flatRead, flatWrite, flatChange, flatStep, flatReadUnaligned, flatWriteUnaligned, flatTransferIn, flatHandedBack, flatTransferOut, flatCalled}
+use Rattle.model.specs.Flat.{Flat, FlatReply, flatReply, freshFlat, flatPart, flatPut, flatMode, flatRead, flatWrite, flatChange, flatStep, flatReadUnaligned, flatWriteUnaligned, flatTransferIn, flatHandedBack, flatTransferOut, flatFetchDue, flatFetch, flatCalled}
 use Rattle.model.specs.Refusals.{accessDue, modeDue}
 use Rattle.model.specs.Trace.{command}
-use Rattle.model.specs.Calls.{Reply, refused, carriedOut, commandDue, readDone, writeDone, commandState, accepted, step, call, viewDone, unalignedDueIn, readUnalignedDone, writeUnalignedDone, readUnalignedStep, writeUnalignedStep, readUnalignedCall, transferDueIn, handedBack, transferInStep, transferOutStep, Call, oneCommand, freshStart, look, readUnaligned, writeUnaligned, transferIn, transferOut, called}
+use Rattle.model.specs.Calls.{Reply, refused, carriedOut, commandDue, readDone, writeDone, commandState, accepted, step, call, viewDone, unalignedDueIn, readUnalignedDone, writeUnalignedDone, readUnalignedStep, writeUnalignedStep, readUnalignedCall, transferDueIn, handedBack, transferInStep, transferOutStep, Call, oneCommand, freshStart, look, readUnaligned, writeUnaligned, transferIn, transferOut, fetchBehind, fetchDueIn, noFetch, fetchBehindDone, fetchBehindStep, called}
 use Rattle.dropped_lines.specs.Dropped.{listedCall, listed, byteAt, memoryAt, reads, writes, newByte, changesMode, dropCode, HoldsAt, oneOf}
 use Rattle.dropped_lines.specs.Reached.{within}
 use Rattle.dropped_lines.specs.Stronger.{dirtyInL1d, dirtyInL2, inDirtyLine, loses, showsAfter, lostAfter, changes, HoldsStronger, StrongerDroppedLines, end, next}
@@ -37,6 +37,8 @@ use Rattle.dropped_lines.proofs.ByteAt.{due-inside, unaligned-inside, b
 use Rattle.agreement.proofs.Fetch.{AccessFits}
 use Rattle.agreement.proofs.ReadWrite.{Step}
 use Rattle.agreement.proofs.Unaligned.{due-fits, accepted-read-up, accepted-write-up, read-unaligned-step, write-unaligned-step, read-unaligned-done}
+use Rattle.model.specs.Fetches.{fetchAccess}
+use Rattle.agreement.proofs.Fetches.{fetch-good, fetch-step}
 use Rattle.agreement.proofs.Transfers.{transfer-fits, sent-good, sent-uncached, transferred-in-good, transfer-in-step, transfer-out-step}
 use Rattle.agreement.proofs.Sweeps.{flush-good}
 use Rattle.agreement.proofs.Changes.{zero-length, zero-below, zero-above, smaller-bound, fresh-l1d-none, fresh-l2-none, fresh-good, newMode-good}
@@ -496,6 +498,19 @@ module _ (z : State) (f : Flat) (h : ℕ → List ℕ) (lost : ℕ → Bool) (g 
       (cond-elim (λ (y : Reply). Quiet z F (y .next)) (eqb d 0) (handedBack 0 (transferredOut b n z) x) (handedBack d o z)
       (λ _. quiet-step z F x (sent-good z F (m .good) b n)) (λ _. quiet-refl z F (m .good)))
 
+-- ---- the data side's part of a fetch (02, U4): flat memory stays as it was
+fetch-after : (z : State) (f : Flat) (h : ℕ → List ℕ) (lost : ℕ → Bool) (g : ℕ → ℕ) → Follows z f h lost g → (b : ℕ) →
+    After (fetchBehind b) z (fetchBehindStep b z) f (flatFetch b f .next) h lost g
+unfolding fetchBehindStep fetchBehindDone flatFetch writes
+fetch-after z f h lost g m b =
+    let d = fetchDueIn z b in let F = Seen g h in let d′ = flatFetchDue b f in
+    quiet-after z f h lost g m (fetchBehind b) (fetchBehindStep b z) (flatFetch b f .next)
+    (cond-elim (λ (y : FlatReply). y .next ≡ f) (eqb d′ 0) _ _ (λ _. refl) (λ _. refl))
+    (λ _. refl)
+    (cond-elim (λ (y : Reply). Quiet z F (y .next)) (eqb d 0) (fetchBehindDone b z) (noFetch d z)
+    (λ t. let r = fetch-good z F (m .good) b (eqb-true d 0 t) in quiet-step z F (fetchAccess b z .next) (record { good = r .good; kept = r .kept }))
+    (λ _. quiet-refl z F (m .good)))
+
 -- a view changes nothing, a fresh start is in no list
 pub call-after : (c : Call) (z : State) (f : Flat) (h : ℕ → List ℕ) (lost : ℕ → Bool) (g : ℕ → ℕ) → listedCall c ≡ true → Follows z f h lost g →
     After c z (called c z) f (flatCalled c f .next) h lost g
@@ -511,6 +526,8 @@ call-after (transferIn b bs) z f h lost g y m =
     let s = transfer-in-step b bs z (good-well z (Seen g h) (m .good)) in rw s (transfer-in-after z f h lost g m b bs y)
 call-after (transferOut b o) z f h lost g y m =
     let s = transfer-out-step b o z (good-well z (Seen g h) (m .good)) in rw s (transfer-out-after z f h lost g m b o)
+call-after (fetchBehind b) z f h lost g y m =
+    let s = fetch-step b z (good-well z (Seen g h) (m .good)) in rw s (fetch-after z f h lost g m b)
 call-after (oneCommand c) z f h lost g y m =
     let s = call-step c z (good-well z (Seen g h) (m .good)) in rw s (step-after c z f h lost g m)
 
@@ -547,6 +564,7 @@ reads-inside (look b) z w a y = false-true y
 reads-inside (writeUnaligned n b v) z w a y = false-true y
 reads-inside (transferIn b bs) z w a y = false-true y
 reads-inside (transferOut b o) z w a y = false-true y
+reads-inside (fetchBehind b) z w a y = false-true y
 reads-inside (readUnaligned n b) z w a y =
     let p = both-true (eqb (readUnalignedCall n b z .number) 0) (within b n a) y in
     let i = both-true (leb b a) (ltb a (b + n)) (p .1) in

@@ -6,3 +6,4 @@ pub mod Runs
 pub mod Sent
 pub mod Touching
 pub mod Words
+pub mod ChipWords

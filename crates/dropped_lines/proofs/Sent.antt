@@ -27,7 +27,7 @@ use Rattle.model.specs.Commands.{linesTouched, eachTouched, atL1d, atL2, unless
 use Rattle.model.specs.Refusals.{accessDue, blockDue}
 use Rattle.model.specs.Transfers.{sentHome, transferredIn, transferredOut}
 use Rattle.model.specs.Trace.{command}
-use Rattle.model.specs.Calls.{Reply, refused, carriedOut, commandDue, readDone, writeDone, commandState, accepted, step, transferDueIn, handedBack, transferInStep, transferOutStep}
+use Rattle.model.specs.Calls.{Reply, refused, carriedOut, commandDue, readDone, writeDone, commandState, accepted, step, transferDueIn, handedBack, transferInStep, transferOutStep, fetchDueIn, noFetch, fetchBehindDone, fetchBehindStep}
 use Rattle.model.specs.Laws.{bool, false-true, both-true, cond-elim, mode0-sets, cond-both}
 use Rattle.model.specs.declared.Line.{Line}
 use Rattle.model.specs.declared.Record.{Record}
@@ -38,12 +38,14 @@ use Rattle.agreement.proofs.Memory.{Written}
 use Rattle.agreement.proofs.Good.{layoutOf, l1dLevel, l2Level, Good, Tidy, Anything, Well, Kept, l1d-hit, l2-hit, l2-miss, l2-bounds, l1d-victim-bound, home-l2, withLists, l1d-replaced, l2-replaced, l1d-used-line, l2-used-line}
 use Rattle.agreement.proofs.Evict.{Clear, putMemory-state, memory-free, evictL1d-good, left-free, evicted-free}
 use Rattle.agreement.proofs.Writeback.{Swept, evictL2-good}
+use Rattle.model.specs.Fetches.{fetchAccess}
+use Rattle.agreement.proofs.Fetches.{fetch-fits}
 use Rattle.agreement.proofs.Fetch.{AccessFits, cacheable-yes, fetchL2-good}
 use Rattle.agreement.proofs.ReadWrite.{Step}
 use Rattle.agreement.proofs.Sweeps.{Sweeps, AllOut, each-by, step-refl, step-trans, atL1d-good, atL2-good, evictL1d-step, swept-step, writebackL2-sweeps, evictL2-sweeps, l2-block, l2WritebackAll-good, l2WritebackInvalidateAll-good, l1dWritebackInvalidateBlock-good}
 use Rattle.agreement.proofs.Due.{accepted-fits, accepted-read, accepted-write}
 use Rattle.agreement.proofs.Steps.{codes}
-use Rattle.dropped_lines.specs.Reached.{within, outOfL2, l1dSends, l2Sends, fetchSends, thawedSends, missSends, readSends, writeSends, Going, goOn, oneSends, touchedSend, touchedL1dSend, overBlockSend, lineOfBlock, chosen, sends, transferSends}
+use Rattle.dropped_lines.specs.Reached.{within, outOfL2, l1dSends, l2Sends, fetchSends, thawedSends, missSends, readSends, programSends, writeSends, Going, goOn, oneSends, touchedSend, touchedL1dSend, overBlockSend, lineOfBlock, chosen, sends, transferSends}
 use Rattle.dropped_lines.specs.Stronger.{dirtyInL1d, dirtyInL2, inDirtyLine}
 use Rattle.dropped_lines.proofs.Held.{no-dirty}
 
@@ -404,6 +406,15 @@ module _ (z : State) (q : Well z) (a b n : ℕ) (f : AccessFits (layoutOf (z .re
       let w′ : Step z Anything (putL2 (l2SetOf (y₁ .rec) b) (l2WayFor z b) b bs y₁) = subst (Step z Anything) p w in
       rw p (left-clean z Anything q a b y₁ (putL2 (l2SetOf (y₁ .rec) b) (l2WayFor z b) b bs y₁) l (w′ .good) (w′ .kept)
       (put-lines y₁ (h .good .tidy) (l2SetOf (y₁ .rec) b) (l2WayFor z b) b bs (l2-bounds y₁ Anything (h .good) (l2SetOf (y₁ .rec) b) (l2WayFor z b) k .0) (i .way) k))
+
+-- ---- a fetch (02, U4)
+pub fetch-sent-clean : (z : State) → Well z → (a b : ℕ) → fetchBehindStep b z .number ≡ 0 → programSends a b z ≡ true → inDirtyLine (fetchBehindStep b z .next) a ≡ false
+unfolding fetchBehindStep fetchBehindDone fetchAccess readFrozen programSends
+fetch-sent-clean z q a b e y =
+    let d = fetchDueIn z b in let p = both-true (cacheable (z .rec) b) (fetchSends a b z) y in
+    cond-elim (λ (r : Reply). r .number ≡ 0 → inDirtyLine (r .next) a ≡ false) (eqb d 0) (fetchBehindDone b z) (noFetch d z)
+    (λ t _. rw (p .0) (fetched-clean z Anything q a b 31 (fetch-fits z b (eqb-true d 0 t)) (cacheable-yes (z .rec) b (p .0)) (p .1)))
+    (λ t k. absurd (eqb-false d 0 t k)) e
 
 -- ---- L1D block writeback-invalidate; transfers
 module _ (z : State) (q : Well z) (a : ℕ) where

@@ -15,7 +15,7 @@ use Rattle.model.specs.Ways.{l1dWay, l2Way, inL1d, inL2, emptyL1d, emptyL2}
 use Rattle.model.specs.Commands.{blockEnd, linesTouched, eachTouched, atL1d, atL2, unlessMode0, dropL2, l2InvalidateBlock, l1dInvalidateBlock}
 use Rattle.model.specs.Refusals.{blockDue}
 use Rattle.model.specs.Trace.{command}
-use Rattle.model.specs.Calls.{Reply, refused, carriedOut, commandDue, commandState, accepted, step, Call, oneCommand, freshStart, look, readUnaligned, writeUnaligned, transferIn, transferOut, called}
+use Rattle.model.specs.Calls.{Reply, refused, carriedOut, commandDue, commandState, accepted, step, Call, oneCommand, freshStart, look, readUnaligned, writeUnaligned, transferIn, transferOut, fetchBehind, called}
 use Rattle.model.specs.Laws.{bool, false-true, cond-elim}
 use Rattle.model.specs.declared.Command.{Command}
 use Rattle.agreement.proofs.Level.{Valid, same-slot}
@@ -180,6 +180,7 @@ loses-touched (readUnaligned n b) z q a = λ _. refl
 loses-touched (writeUnaligned n b v) z q a = λ _. refl
 loses-touched (transferIn b bs) z q a = λ _. refl
 loses-touched (transferOut b o) z q a = λ _. refl
+loses-touched (fetchBehind b) z q a = λ _. refl
 loses-touched (oneCommand c) z q a =
     let m = c .first in let b = c .second in let v = c .value in
     let none : (k : ℕ) → dropCode k ≡ false → Touched z q a m b v k = touched-none z q a m b v in

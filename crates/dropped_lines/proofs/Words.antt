@@ -22,7 +22,7 @@ use Rattle.model.specs.Modes.{newMode, changeMode}
 use Rattle.model.specs.Flat.{Flat, freshFlat, flatStep, flatCalled}
 use Rattle.model.specs.Refusals.{modeDue}
 use Rattle.model.specs.Trace.{command}
-use Rattle.model.specs.Calls.{Reply, refused, carriedOut, commandDue, commandState, accepted, step, call, transferInStep, transferOutStep, Call, oneCommand, freshStart, look, readUnaligned, writeUnaligned, transferIn, transferOut, called}
+use Rattle.model.specs.Calls.{Reply, refused, carriedOut, commandDue, commandState, accepted, step, call, transferInStep, transferOutStep, fetchBehindStep, Call, oneCommand, freshStart, look, readUnaligned, writeUnaligned, transferIn, transferOut, fetchBehind, called}
 use Rattle.model.specs.Bytewise.{byteRead, byteWrite, callsTo}
 use Rattle.model.specs.Laws.{bool, false-true, both-true, cond-elim}
 use Rattle.model.specs.declared.Command.{Command}
@@ -34,15 +34,16 @@ use Rattle.agreement.proofs.Steps.{dropped-6, dropped-8, dropped-9}
 use Rattle.agreement.proofs.Changes.{fresh-l1d-none, fresh-l2-none}
 use Rattle.agreement.proofs.Tested.{call-step}
 use Rattle.agreement.proofs.Unaligned.{Either, read-unaligned-either, write-unaligned-either}
+use Rattle.agreement.proofs.Fetches.{fetch-step}
 use Rattle.agreement.proofs.Transfers.{transfer-in-step, transfer-out-step}
 use Rattle.agreement.proofs.Agreement.{fresh-accepted}
-use Rattle.dropped_lines.specs.Reached.{sends, transferSends}
+use Rattle.dropped_lines.specs.Reached.{sends, transferSends, programSends}
 use Rattle.dropped_lines.specs.Dropped.{listedCall, listed, byteAt, memoryAt, writes, newByte, changesMode, sendsOut, reached, dropCode, dropsLine, dropTouches, History, atFirst, heldAfter, historyOne, historyBytes, historyAfter, HoldsAt, oneOf, lastOrHeld, mayChange, Holds, DroppedLines, end, next}
 use Rattle.dropped_lines.specs.Stronger.{dirtyInL1d, dirtyInL2, inDirtyLine, loses, showsAfter, lostAfter, changes}
 use Rattle.dropped_lines.proofs.Held.{In, Seen, neither, DirtyAt, l1d-dirty, l2-dirty, l1d-clean, l2-clean, none-dirty, still-dirty}
 use Rattle.dropped_lines.proofs.ByteAt.{byte-right}
 use Rattle.dropped_lines.proofs.Dropping.{Follows, After, grown, inside-same, call-after, reads-inside, holds-at, fresh-follows}
-use Rattle.dropped_lines.proofs.Sent.{either, in-sent-clean, out-sent-clean, sent-clean}
+use Rattle.dropped_lines.proofs.Sent.{either, in-sent-clean, out-sent-clean, fetch-sent-clean, sent-clean}
 use Rattle.dropped_lines.proofs.Touching.{loses-touched}
 
 -- ---- the stronger form's values and losses are within the request's
@@ -80,6 +81,9 @@ reached-clean (transferIn b bs) z q a y =
 reached-clean (transferOut b o) z q a y =
     let s = transfer-out-step b o z q in let p = sent-tells (transferOutStep b o z) (transferSends b (length o) z a) (rw s at y) in
     rw s (out-sent-clean z q a b o (p .0) (p .1))
+reached-clean (fetchBehind b) z q a y =
+    let s = fetch-step b z q in let p = sent-tells (fetchBehindStep b z) (programSends a b z) (rw s at y) in
+    rw s (fetch-sent-clean z q a b (p .0) (p .1))
 reached-clean (oneCommand c) z q a y =
     let s = call-step c z q in let n = eqb (call c z .number) 0 in
     let e : inDirtyLine (step c z .next) a ≡ false =
@@ -171,6 +175,7 @@ loses-dropped (readUnaligned n b) z q a y = refl
 loses-dropped (writeUnaligned n b v) z q a y = refl
 loses-dropped (transferIn b bs) z q a y = refl
 loses-dropped (transferOut b o) z q a y = refl
+loses-dropped (fetchBehind b) z q a y = refl
 loses-dropped (oneCommand c) z q a y =
     let s = call-step c z q in let z′ = call c z .next in
     bool (dropCode (c .code))
@@ -296,6 +301,7 @@ stands-after freshStart z f y l p = stands-one freshStart z f y l p
 stands-after (look b) z f y l p = stands-one (look b) z f y l p
 stands-after (transferIn b bs) z f y l p = stands-one (transferIn b bs) z f y l p
 stands-after (transferOut b o) z f y l p = stands-one (transferOut b o) z f y l p
+stands-after (fetchBehind b) z f y l p = stands-one (fetchBehind b) z f y l p
 stands-after (readUnaligned n b) z f y l p =
     let c = readUnaligned n b in let r = called c z in
     let a = call-after c z f (p .h) (p .lost) (p .g) l (p .follows) in

@@ -1,6 +1,7 @@
 -- 02, U13, "Dropped lines": what it says, in the request's own words. `dropped-lines` (proofs/Words) shows it, from the
--- stronger form of Stronger. Read it from the top: the calls of a list, the byte of an address, the calls that the
--- sentences name, what is kept of each address along a list, the three sentences at one place of it, the whole list.
+-- stronger form of Stronger. This is the data side; the whole chip, with L1P (U4), is in ChipDropped. Read it from the
+-- top: the calls of a list, the byte of an address, the calls that the sentences name, what is kept of each address
+-- along a list, the three sentences at one place of it, the whole list.
 use Prim.Native.Nat.{ℕ, zero, suc, _+_, _-_, _/_}
 use mathlib.Core.Bool.{Bool, true, false, not, cond, _&&_, _||_}
 use mathlib.Core.Path.{_≡_}
@@ -17,10 +18,10 @@ use Rattle.model.specs.Homes.{memoryPart}
 use Rattle.model.specs.Commands.{linesTouched}
 use Rattle.model.specs.Flat.{Flat, freshFlat, flatStep, flatCalled}
 use Rattle.model.specs.Trace.{command}
-use Rattle.model.specs.Calls.{Reply, call, freshCall, Call, oneCommand, freshStart, look, readUnaligned, writeUnaligned, transferIn, transferOut, called}
+use Rattle.model.specs.Calls.{Reply, call, freshCall, Call, oneCommand, freshStart, look, readUnaligned, writeUnaligned, transferIn, transferOut, fetchBehind, called}
 use Rattle.model.specs.Bytewise.{byteRead, byteWrite, callsTo}
 use Rattle.model.specs.declared.Command.{Command}
-use Rattle.dropped_lines.specs.Reached.{within, sends, transferSends}
+use Rattle.dropped_lines.specs.Reached.{within, sends, transferSends, programSends}
 
 -- ---- "For lists that also hold the three invalidating commands, external transfers left out": commands of every code
 -- with any numbers, views, non-aligned accesses (02, U6), and transfers, in and out, below external memory (02, U1);
@@ -33,6 +34,7 @@ listedCall (readUnaligned n b) = true
 listedCall (writeUnaligned n b v) = true
 listedCall (transferIn b bs) = ltb b externalBase
 listedCall (transferOut b o) = ltb b externalBase
+listedCall (fetchBehind b) = true
 
 unfoldable pub listed : List Call → Bool
 listed [] = true
@@ -66,8 +68,10 @@ does p (readUnaligned n b) r = false
 does p (writeUnaligned n b v) r = false
 does p (transferIn b bs) r = false
 does p (transferOut b o) r = false
+does p (fetchBehind b) r = false
 
--- "each byte of a CPU data read": of one that was accepted, aligned or not. A transfer out is none.
+-- "each byte of a CPU data read": of one that was accepted, aligned or not. A transfer out is none, and neither is a
+-- fetch (02, U4).
 unfoldable pub reads : Call → Reply → ℕ → Bool
 reads (oneCommand k) r a = eqb (r .number) 0 && (eqb (k .code) 0 && within (k .second) (k .first) a)
 reads freshStart r a = false
@@ -76,6 +80,7 @@ reads (readUnaligned n b) r a = eqb (r .number) 0 && within b n a
 reads (writeUnaligned n b v) r a = false
 reads (transferIn b bs) r a = false
 reads (transferOut b o) r a = false
+reads (fetchBehind b) r a = false
 
 -- "the last one written (a SRAM transfer in writes too)": the call writes a, and which byte
 unfoldable pub writes : Call → Reply → ℕ → Bool
@@ -86,6 +91,7 @@ writes (readUnaligned n b) r a = false
 writes (writeUnaligned n b v) r a = eqb (r .number) 0 && within b n a
 writes (transferIn b bs) r a = eqb (r .number) 0 && within b (length bs) a
 writes (transferOut b o) r a = false
+writes (fetchBehind b) r a = false
 
 abbrev pub newByte : Call → ℕ → ℕ
 newByte (oneCommand k) a = getD (littleBytes (k .value) (k .first)) (a - k .second) 0
@@ -95,6 +101,7 @@ newByte (readUnaligned n b) a = 0
 newByte (writeUnaligned n b v) a = getD (littleBytes v n) (a - b) 0
 newByte (transferIn b bs) a = getD bs (a - b) 0
 newByte (transferOut b o) a = 0
+newByte (fetchBehind b) a = 0
 
 unfoldable pub changesMode : Call → Reply → Bool
 changesMode c r = does (λ k. eqb (k .code) 10) c r
@@ -110,6 +117,7 @@ sendsOut (readUnaligned n b) z r a = false
 sendsOut (writeUnaligned n b v) z r a = false
 sendsOut (transferIn b bs) z r a = eqb (r .number) 0 && transferSends b (length bs) z a
 sendsOut (transferOut b o) z r a = eqb (r .number) 0 && transferSends b (length o) z a
+sendsOut (fetchBehind b) z r a = eqb (r .number) 0 && programSends a b z
 
 unfoldable pub reached : Call → State → Reply → ℕ → Bool
 reached c z r a = sendsOut c z r a || changesMode c r
@@ -126,6 +134,7 @@ isDrop (readUnaligned n b) = false
 isDrop (writeUnaligned n b v) = false
 isDrop (transferIn b bs) = false
 isDrop (transferOut b o) = false
+isDrop (fetchBehind b) = false
 
 -- "line that was dropped": one of these commands found a valid line with a, in L1D or in L2, dirty or clean, and left
 -- none there (one that is refused leaves every line)
@@ -186,6 +195,7 @@ historyAfter freshStart z r y = historyOne freshStart z r y
 historyAfter (look b) z r y = historyOne (look b) z r y
 historyAfter (transferIn b bs) z r y = historyOne (transferIn b bs) z r y
 historyAfter (transferOut b o) z r y = historyOne (transferOut b o) z r y
+historyAfter (fetchBehind b) z r y = historyOne (fetchBehind b) z r y
 historyAfter (readUnaligned n b) z r y = cond (eqb (r .number) 0) (historyBytes (byteRead b) n z y) y
 historyAfter (writeUnaligned n b v) z r y = cond (eqb (r .number) 0) (historyBytes (byteWrite n b v) n z y) y
 

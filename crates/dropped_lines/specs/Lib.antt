@@ -2,3 +2,4 @@ pub mod Reached
 pub mod Dropped
 pub mod Stronger
 pub mod Runs
+pub mod ChipDropped

@@ -56,6 +56,10 @@ missSends a b z = cond (z .rec .frozen) (fetchSends a b z) (thawedSends a b z)
 unfoldable pub readSends : ℕ → ℕ → State → Bool
 readSends a b z = cacheable (z .rec) b && (not (inL1d z b) && missSends a b z)
 
+-- 02, U4: what lies behind L1P does for a fetch: only L2 acts
+unfoldable pub programSends : ℕ → ℕ → State → Bool
+programSends a b z = cacheable (z .rec) b && fetchSends a b z
+
 -- `writeMiss`
 unfoldable pub writeSends : ℕ → ℕ → State → Bool
 writeSends a b z = cacheable (z .rec) b && (not (inL1d z b) && fetchSends a b z)

@@ -1,4 +1,4 @@
-// The geometry of both caches and what follows from it: line length, ways and sets, the set and the data place of a
+// The geometry of the caches and what follows from it: line length, ways and sets, the set and the data place of a
 // line, the sizes that go by the mode, legal lengths, where an address lies, and the lines that a block touches
 // (paper 01, "Memories lent by the caller", "Lines and the record", "Cache commands"). Every function is total: no
 // caller has to know that a record is well formed.
@@ -8,17 +8,19 @@ ghost use mathlib.Core.Bool.{not};
 ghost use Prim.Native.Nat.{_+_, _-_, _*_, _%_, _≤_, _<_};
 ghost use lib.Dec.{ltb};
 ghost use Rattle.model.specs.Memories.{externalBase, cacheSize, sramLength, legalL2, legalExternal, isMode};
-ghost use Rattle.model.specs.Lines.{l1dSetOf, l1dData, l1dLine, l2Sets, l2SetIn, l2DataIn, l2Line, upperHalf, emptyLine, lineOf, holds};
+ghost use Rattle.model.specs.Lines.{l1dSetOf, l1dData, l1dLine, l2Sets, l2SetIn, l2DataIn, l2Line, upperHalf, l1pSetOf, l1pLine, l1pData, emptyLine, lineOf, holds};
 ghost use Rattle.model.specs.Reports.{leftBy};
 ghost use Rattle.model.specs.Commands.{blockEnd, linesTouched};
 ghost use Rattle.geometry.specs.Blocks.{lineAfter};
 use model::Left;
 use model::Line;
 
-// ---- the kinds of the two caches: line length, ways and sets are theirs
+// ---- the kinds of the three caches: line length, ways and sets are theirs
 pub struct L1d {}
 
 pub struct L2 {}
+
+pub struct L1p {}
 
 impl L1d {
     pub const LINE: usize = 64;
@@ -159,6 +161,40 @@ impl L2 {
         ensures { λ r. ⌜ r ≡ upperHalf b ⌝ }
     {
         b / L2::LINE as u32 * L2::LINE as u32 + L1d::LINE as u32
+    }
+}
+
+// 02, U4: lines of a program. An address comes as a usize here: one inside an L2 line is a sum that may pass FFFFFFFFh
+// in a record that is not well formed.
+impl L1p {
+    pub const LINE: usize = 32;
+
+    pub const WAYS: usize = 1;
+
+    pub const SETS: usize = 512;
+
+    pub const LINES: usize = L1p::SETS * L1p::WAYS;
+
+    // All data of L1P, which is lent whole.
+    pub const BYTES: usize = L1p::LINES * L1p::LINE;
+
+    pub fn set_of(a: usize) -> usize
+        ensures { λ r. ⌜ (r ≡ l1pSetOf a) × (r < 512) ⌝ }
+    {
+        a / L1p::LINE % L1p::SETS
+    }
+
+    pub fn data_at(s: usize) -> usize
+        requires { ⌜ s < 512 ⌝ }
+        ensures { λ r. ⌜ (r ≡ l1pData s) × (r < 16384) ⌝ }
+    {
+        s * L1p::LINE
+    }
+
+    pub fn line_of(a: usize) -> usize
+        ensures { λ r. ⌜ r ≡ l1pLine a ⌝ }
+    {
+        a / L1p::LINE * L1p::LINE
     }
 }
 

@@ -2,10 +2,11 @@
 -- memory's number and value, and the bytes that lie behind L1D. Rows of one table, and one theorem, `worked`, which
 -- holds by computing: a definition that is not the paper's fails at a value here. Each of the mistakes that paper 01
 -- names has a row (the second is the rule since 02, U10), and so have the servers, writebacks, mode and MAR changes,
--- drops, the freeze, non-aligned accesses and transfers; the view, and checks 1 and 2, have a list of their own, and so
--- has what an access reports. In the rows a call is carried out behind checks 1 and 2, and L1D and L2 are cut behind
--- the last byte that the row comes to: to go through all lent bytes and lines at each call is most of the time that a
--- check takes, and what a row does not come to it does not change. A record that is well formed stays so (`Stays`).
+-- drops, the freeze, non-aligned accesses, transfers and fetches; the view, and checks 1 and 2, have a list of their
+-- own, and so has what an access reports. In the rows a call is carried out behind checks 1 and 2, and L1D and L2 are
+-- cut behind the last byte that the row comes to: to go through all lent bytes and lines at each call is most of the
+-- time that a check takes, and what a row does not come to it does not change. A record that is well formed stays so
+-- (`Stays`).
 use Prim.Native.Nat.{ℕ}
 use mathlib.Core.Bool.{Bool, true, false}
 use mathlib.Core.List.{List, [], _∷_, map, _++_}
@@ -16,7 +17,7 @@ use Rattle.model.specs.Records.{State, state, withExternal, withCounts, 
 use Rattle.model.specs.Homes.{memoryPart}
 use Rattle.model.specs.Reports.{noReport, leftKind, leftAddress}
 use Rattle.model.specs.Trace.{command}
-use Rattle.model.specs.Calls.{Reply, Call, oneCommand, freshStart, look, readUnaligned, writeUnaligned, transferIn, transferOut, called, step, readUnalignedStep, writeUnalignedStep, transferInStep, transferOutStep}
+use Rattle.model.specs.Calls.{Reply, Call, oneCommand, freshStart, look, readUnaligned, writeUnaligned, transferIn, transferOut, fetchBehind, called, step, readUnalignedStep, writeUnalignedStep, transferInStep, transferOutStep, fetchBehindStep}
 use Rattle.model.specs.Flat.{Flat, FlatReply, flat, freshFlat, flatCalled}
 use Rattle.model.specs.Opened.{opened}
 use Rattle.model.specs.declared.Order2.{Order2}
@@ -103,6 +104,7 @@ stepped (readUnaligned n a) z = readUnalignedStep n a z
 stepped (writeUnaligned n a v) z = writeUnalignedStep n a v z
 stepped (transferIn a bs) z = transferInStep a bs z
 stepped (transferOut a o) z = transferOutStep a o z
+stepped (fetchBehind a) z = fetchBehindStep a z
 
 unfoldable pub along : List Place → State → Flat → List (List ℕ)
 along [] z f = []
@@ -272,6 +274,17 @@ behindLines =
     ∷ goIn 0x80000000 3 9 0 ∷ apart (oneCommand (command 0 1 0x80000000 0)) 1 7 9 ∷ lies 0x80000000 9
     ∷ mode 1 0 ∷ writes 0x80000040 3 4 ∷ goOut 0x80000040 4 2 3 ∷ block 5 0x80000000 ∷ goOut 0x80000040 4 3 3
     ∷ goIn 0x80000040 3 8 0 ∷ reads 0x80000040 4 8 ∷ [])
+
+-- 02, U4: what lies behind L1P does for a fetch of the 32 bytes at a: served by s, of bytes b, flat memory's being f.
+-- It "never looks for them in L1D", dirty or not, and fills nothing there. 15, "before 5"; then 5.
+abbrev fetches : ℕ → ℕ → ℕ → ℕ → Place
+fetches a s b f = record { call = fetchBehind a; answer = 0 ∷ s ∷ 0 ∷ 0 ∷ 0 ∷ b ∷ f ∷ [] }
+
+pub fetched : Row
+fetched =
+    row 128 0 0
+    (mar128 1 0 ∷ reads 0x80000000 4 1 ∷ writes 0x80000000 7 1 ∷ fetches 0x80000000 4 1 7 ∷ fetches 0x80000040 4 2 2
+    ∷ reads 0x80000040 4 2 ∷ same (fetchBehind 0x80000090) 15 0 0 ∷ same (fetchBehind 0x80000080) 5 0 0 ∷ [])
 
 -- ---- 02, U2: what is reported, call by call, beside number, server and value: the kind and the address of what left
 -- L1D and L2, and the bytes of external memory read and written. The chip alone: most of the time of 32 KiB of external
@@ -462,17 +475,21 @@ behindLines-holds : given behindLines ≡ stated (behindLines .places)
 unfolding opened both stepped along cut started given stated behindLines
 behindLines-holds = refl
 
+fetched-holds : given fetched ≡ stated (fetched .places)
+unfolding opened both stepped along cut started given stated fetched
+fetched-holds = refl
+
 pub table : List Row
 table =
     sram ∷ external ∷ modeZero ∷ sramReached ∷ replaced ∷ modes ∷ drops ∷ throughL2 ∷ frozen ∷ frozenL2 ∷ lastSet
-    ∷ unaligned ∷ moved ∷ behindLines ∷ []
+    ∷ unaligned ∷ moved ∷ behindLines ∷ fetched ∷ []
 
 pub worked : map given table ≡ map (λ (r : Row). stated (r .places)) table
 unfolding table
 worked i =
     sram-holds i ∷ external-holds i ∷ modeZero-holds i ∷ sramReached-holds i ∷ replaced-holds i ∷ modes-holds i
     ∷ drops-holds i ∷ throughL2-holds i ∷ frozen-holds i ∷ frozenL2-holds i ∷ lastSet-holds i
-    ∷ unaligned-holds i ∷ moved-holds i ∷ behindLines-holds i ∷ []
+    ∷ unaligned-holds i ∷ moved-holds i ∷ behindLines-holds i ∷ fetched-holds i ∷ []
 
 -- ---- "Invalidation changes no order.": two lines of one L1D set are read, then one of them, or both, are made invalid
 unfoldable pub orderOf : Order2 → List ℕ

@@ -4,7 +4,7 @@
 use Prim.Native.Nat.{ℕ, zero, suc, _+_, _*_, _≤_}
 use mathlib.Core.Bool.{Bool, cond, _&&_}
 use mathlib.Core.List.{List, [], _∷_}
-use lib.ListN.{length, drop}
+use lib.ListN.{length, drop, replicate}
 use lib.Dec.{ltb, leb, eqb}
 use Rattle.model.specs.Bytes.{stored, little, littleBytes}
 use Rattle.model.specs.Memories.{l1dLength, legalL2, legalExternal}
@@ -17,6 +17,7 @@ use Rattle.model.specs.Commands.{l2WritebackAll, l2WritebackInvalidateAl
 use Rattle.model.specs.Refusals.{lentDue, viewDue, accessDue, blockDue, modeDue, marDue, freezeDue, unless}
 use Rattle.model.specs.Unaligned.{readUp, writeUp, readUpReport, writeUpReport, unalignedDue}
 use Rattle.model.specs.Transfers.{sentHome, transferredIn, transferredOut, transferDue}
+use Rattle.model.specs.Fetches.{fetchLength, fetchAccess, fetchReport, fetchDue}
 use Rattle.model.specs.Trace.{Decoded, decode}
 use Rattle.model.specs.declared.Command.{Command}
 use Rattle.model.specs.declared.Record.{Record}
@@ -31,8 +32,8 @@ pub record Reply : Type 0 where
   pub report : Report
   pub next : State
 
--- a reply that hands back no bytes: that of every call but the view and a transfer out; and one that reports nothing:
--- that of every call but an accepted read or write
+-- a reply that hands back no bytes: that of every call but the view, a transfer out and a fetch; and one that reports
+-- nothing: that of every call but an accepted read, write or fetch
 abbrev pub replied : ℕ → ℕ → ℕ → Report → State → Reply
 replied n k v q z = record { number = n; server = k; value = v; bytes = []; report = q; next = z }
 
@@ -43,7 +44,8 @@ reply n k v z = replied n k v noReport z
 abbrev pub refused : ℕ → State → Reply
 refused n z = reply n 0 0 z
 
--- "0 for calls that aren't reads or writes. The value is 0 for all but accepted reads."
+-- "0 for calls that aren't reads or writes. The value is 0 for all but accepted reads." (02, U4: "Its server is a data
+-- read's": a fetch has one too.)
 abbrev pub carriedOut : State → Reply
 carriedOut z = reply 0 0 0 z
 
@@ -155,6 +157,31 @@ transferOutStep a o z =
 unfoldable pub transferOutCall : ℕ → List ℕ → State → Reply
 transferOutCall a o z = cond (eqb (lentDue z) 0) (transferOutStep a o z) (handedBack (lentDue z) o z)
 
+-- ---- 02, U4: what lies behind L1P does for a fetch of the line at a: accepted; behind checks 1 and 2; as a call. "A
+-- refused fetch returns 32 zero bytes."
+abbrev pub fetchDueIn : State → ℕ → ℕ
+fetchDueIn z a = fetchDue (sramOf (z .rec)) (z .rec .extlen) a
+
+unfoldable pub fetchBehindDone : ℕ → State → Reply
+fetchBehindDone a z =
+    record {
+      number = 0;
+      server = fetchAccess a z .server;
+      value = 0;
+      bytes = fetchAccess a z .bytes;
+      report = fetchReport a z;
+      next = fetchAccess a z .next;
+    }
+
+abbrev pub noFetch : ℕ → State → Reply
+noFetch n z = handedBack n (replicate fetchLength 0) z
+
+unfoldable pub fetchBehindStep : ℕ → State → Reply
+fetchBehindStep a z = cond (eqb (fetchDueIn z a) 0) (fetchBehindDone a z) (noFetch (fetchDueIn z a) z)
+
+unfoldable pub fetchBehindCall : ℕ → State → Reply
+fetchBehindCall a z = cond (eqb (lentDue z) 0) (fetchBehindStep a z) (noFetch (lentDue z) z)
+
 -- ---- the fresh start: "A fresh start can meet only 1, and then returns the record of L = 32,768, E = 128."
 unfoldable pub freshOk : List ℕ → List ℕ → List ℕ → Bool
 freshOk d m e = eqb (length d) l1dLength && (legalL2 (length m) && legalExternal (length e))
@@ -216,8 +243,8 @@ unfoldable pub viewDone : ℕ → State → Reply
 viewDone a z = handedBack (viewDue (z .rec) (z .l2) (z .ext) a) (viewCall (z .rec) (z .l2) (z .ext) a) z
 
 -- ---- the calls, of every kind: a command, the fresh start, the technician's view of the line at an address, the
--- non-aligned accesses (size, address; size, address, value), the transfers (address, the bytes of the lent buffer).
--- Lists of calls hold these.
+-- non-aligned accesses (size, address; size, address, value), the transfers (address, the bytes of the lent buffer),
+-- the data side's part of a fetch that L1P does not serve (address). Lists of calls hold these.
 pub data Call : Type 0 where
   oneCommand : Command → Call
   freshStart : Call
@@ -226,6 +253,7 @@ pub data Call : Type 0 where
   writeUnaligned : ℕ → ℕ → ℕ → Call
   transferIn : ℕ → List ℕ → Call
   transferOut : ℕ → List ℕ → Call
+  fetchBehind : ℕ → Call
 
 -- what a call gives on a state
 abbrev pub called : Call → State → Reply
@@ -236,6 +264,7 @@ called (readUnaligned n a) z = readUnalignedCall n a z
 called (writeUnaligned n a v) z = writeUnalignedCall n a v z
 called (transferIn a bs) z = transferInCall a bs z
 called (transferOut a o) z = transferOutCall a o z
+called (fetchBehind a) z = fetchBehindCall a z
 
 -- the state after calls, one after another
 unfoldable pub after : List Call → State → State

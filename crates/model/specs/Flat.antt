@@ -10,7 +10,8 @@ use Rattle.model.specs.Modes.{smaller}
 use Rattle.model.specs.Refusals.{accessDue, modeDue}
 use Rattle.model.specs.Unaligned.{unalignedDue}
 use Rattle.model.specs.Transfers.{transferDue}
-use Rattle.model.specs.Calls.{Call, oneCommand, freshStart, look, readUnaligned, writeUnaligned, transferIn, transferOut}
+use Rattle.model.specs.Fetches.{fetchLength, fetchDue}
+use Rattle.model.specs.Calls.{Call, oneCommand, freshStart, look, readUnaligned, writeUnaligned, transferIn, transferOut, fetchBehind}
 use Rattle.model.specs.declared.Command.{Command}
 
 -- "State: L, E, S, S bytes of SRAM, E of external memory." (E is the length of external memory, S that of SRAM.)
@@ -104,6 +105,15 @@ flatTransferOut a o f =
     cond (eqb (flatTransferDue (length o) a f) 0) (flatHandedBack 0 (flatPart a (length o) f) f)
     (flatHandedBack (flatTransferDue (length o) a f) o f)
 
+-- 02, U4: a fetch, refused by this S; its bytes
+abbrev pub flatFetchDue : ℕ → Flat → ℕ
+flatFetchDue a f = fetchDue (length (f .sram)) (length (f .ext)) a
+
+unfoldable pub flatFetch : ℕ → Flat → FlatReply
+flatFetch a f =
+    cond (eqb (flatFetchDue a f) 0) (flatHandedBack 0 (flatPart a fetchLength f) f)
+    (flatHandedBack (flatFetchDue a f) (replicate fetchLength 0) f)
+
 -- a call of any kind; the state after calls, one after another
 abbrev pub flatCalled : Call → Flat → FlatReply
 flatCalled (oneCommand c) f = flatStep c f
@@ -113,6 +123,7 @@ flatCalled (readUnaligned n a) f = flatReadUnaligned n a f
 flatCalled (writeUnaligned n a v) f = flatWriteUnaligned n a v f
 flatCalled (transferIn a bs) f = flatTransferIn a bs f
 flatCalled (transferOut a o) f = flatTransferOut a o f
+flatCalled (fetchBehind a) f = flatFetch a f
 
 unfoldable pub flatAfter : List Call → Flat → Flat
 flatAfter [] f = f

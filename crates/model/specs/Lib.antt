@@ -9,6 +9,7 @@ pub mod Homes
 pub mod Reports
 pub mod Modes
 pub mod Commands
+pub mod Fetches
 pub mod Flat
 pub mod Refusals
 pub mod Unaligned

@@ -14,7 +14,7 @@ use Rattle.model.specs.declared.L1dSet.{L1dSet}
 use Rattle.model.specs.declared.L2Set.{L2Set}
 
 -- ---- "Line length, ways and sets belong to each cache's kind as constants, those for L2 being per mode."
--- (in the code, `L1d` and `L2` of crate geometry)
+-- (in the code, `L1d`, `L2` and `L1p` of crate geometry)
 pub record Kind : Type 0 where
   pub lineLength : ℕ
   pub ways : ℕ
@@ -92,6 +92,20 @@ l2DataIn sram sets s w = sram + l2Slot sets s w * l2LineLength
 -- the upper half of the L2 line at b; its lower half is at b itself
 abbrev pub upperHalf : ℕ → ℕ
 upperHalf b = l2Line b + l1dKind .lineLength
+
+-- ---- 02, U4: "L1P: 16 Kbytes, one way, 32-byte lines, 512 sets, set = (address ÷ 32) mod 512, set s's data at s × 32
+-- in a lent buffer ..": the third kind
+abbrev pub l1pKind : Kind
+l1pKind = record { lineLength = 32; ways = 1; sets = 512 }
+
+abbrev pub l1pSetOf : ℕ → ℕ
+l1pSetOf a = setOf l1pKind a
+
+abbrev pub l1pLine : ℕ → ℕ
+l1pLine a = lineAddress l1pKind a
+
+abbrev pub l1pData : ℕ → ℕ
+l1pData s = dataOf l1pKind s 0
 
 -- ---- "the lines, held by set and by way: valid, dirty, line address."
 -- a valid line at a, dirty or clean

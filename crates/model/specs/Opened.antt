@@ -37,10 +37,11 @@ use Rattle.model.specs.Trace.{threeNumbers, decodeAfter, decode}
 use Rattle.model.specs.Calls.{commandDue, readDone, writeDone, commandState, accepted, step, call, freshOk}
 use Rattle.model.specs.Calls.{readUnalignedDone, writeUnalignedDone, readUnalignedStep, writeUnalignedStep}
 use Rattle.model.specs.Calls.{readUnalignedCall, writeUnalignedCall}
-use Rattle.model.specs.Calls.{transferInStep, transferInCall, transferOutStep, transferOutCall}
+use Rattle.model.specs.Calls.{transferInStep, transferInCall, transferOutStep, transferOutCall, fetchBehindDone, fetchBehindStep, fetchBehindCall}
 use Rattle.model.specs.Calls.{freshCall, putAnswer, runFrom, runCall, viewCall, viewDone, after}
+use Rattle.model.specs.Fetches.{fetchAccess, fetchMoved, fetchReport, fetchDue}
 use Rattle.model.specs.Flat.{freshFlat, flatPart, flatPut, flatMode, flatRead, flatWrite, flatChange, flatStep}
-use Rattle.model.specs.Flat.{flatAfter, flatReadUnaligned, flatWriteUnaligned, flatTransferIn, flatTransferOut}
+use Rattle.model.specs.Flat.{flatAfter, flatReadUnaligned, flatWriteUnaligned, flatTransferIn, flatTransferOut, flatFetch}
 
 unfoldable pub opened : Unit {0}
 unfolding
@@ -74,6 +75,7 @@ unfolding
     viewCall viewDone after
     readUnalignedDone writeUnalignedDone readUnalignedStep writeUnalignedStep readUnalignedCall writeUnalignedCall
     transferInStep transferInCall transferOutStep transferOutCall
+    fetchAccess fetchMoved fetchReport fetchDue fetchBehindDone fetchBehindStep fetchBehindCall
     freshFlat flatPart flatPut flatMode flatRead flatWrite flatChange flatStep flatAfter flatReadUnaligned
-    flatWriteUnaligned flatTransferIn flatTransferOut
+    flatWriteUnaligned flatTransferIn flatTransferOut flatFetch
 opened = tt

@@ -22,7 +22,8 @@ abbrev pub unless : Bool → ℕ → ℕ
 unless true n = 0
 unless false n = n
 
--- ---- "1: a lent length illegal, or unlike the record's"
+-- ---- "1: a lent length illegal, or unlike the record's" (02, U4: ".. check 1 its buffer", that is L1P's:
+-- `chipLentDue` of crate program)
 unfoldable pub lentL1d : List ℕ → Bool
 lentL1d d = eqb (length d) l1dLength
 
@@ -62,7 +63,8 @@ modeOk l m = isMode m && leb (cacheSize m) l
 abbrev pub marOk : ℕ → ℕ → Bool
 marOk n b = (eqb n 128 || eqb n 129) && leb b 1
 
--- ---- "10: bit 0 while either cache holds a line of that range": a valid line with an address that MAR n covers
+-- ---- "10: bit 0 while either cache holds a line of that range": a valid line with an address that MAR n covers. 02,
+-- U4: "Check 10 now looks in L1P too": `chipCommandDue` of crate program.
 unfoldable pub inRange : ℕ → Line → Bool
 inRange n x = x .valid && covers n (x .address)
 

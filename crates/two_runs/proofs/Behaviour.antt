@@ -16,13 +16,16 @@ use Rattle.model.specs.Refusals.{lentL1d, lentL2, lentExternal, lentDue, viewLe
 use Rattle.model.specs.Unaligned.{readUp}
 use Rattle.model.specs.Transfers.{sentHome, transferredIn, transferredOut}
 use Rattle.model.specs.Trace.{command}
-use Rattle.model.specs.Calls.{Reply, refused, carriedOut, step, call, freshOk, freshCall, viewDone, unalignedDueIn, readUnalignedDone, writeUnalignedDone, readUnalignedStep, writeUnalignedStep, readUnalignedCall, writeUnalignedCall, transferDueIn, handedBack, transferInStep, transferInCall, transferOutStep, transferOutCall, Call, oneCommand, freshStart, look, readUnaligned, writeUnaligned, transferIn, transferOut, called}
+use Rattle.model.specs.Calls.{Reply, refused, carriedOut, step, call, freshOk, freshCall, viewDone, unalignedDueIn, readUnalignedDone, writeUnalignedDone, readUnalignedStep, writeUnalignedStep, readUnalignedCall, writeUnalignedCall, transferDueIn, handedBack, transferInStep, transferInCall, transferOutStep, transferOutCall, fetchDueIn, noFetch, fetchBehindDone, fetchBehindStep, fetchBehindCall, Call, oneCommand, freshStart, look, readUnaligned, writeUnaligned, transferIn, transferOut, fetchBehind, called}
 use Rattle.model.specs.Laws.{length-littleBytes, cond-both}
-use Rattle.two_runs.specs.TwoRuns.{SameButStored, FitAlike, SameButWritten, sameCommand, sameStart, sameLook, sameRead, sameWrite, sameIn, sameOut, ListsSameButWritten, Shared, SharedAlong, SameBehaviour}
+use Rattle.two_runs.specs.TwoRuns.{SameButStored, FitAlike, SameButWritten, sameCommand, sameStart, sameLook, sameRead, sameWrite, sameIn, sameOut, sameFetch, ListsSameButWritten, Shared, SharedAlong, SameBehaviour}
 use Rattle.two_runs.specs.TwoRuns as Says
 use Rattle.two_runs.proofs.Areas.{Pairing, Twins, Area}
 use Rattle.two_runs.proofs.Pair.{Layout, layoutOf, Pair, pair-stored, one-record}
 use Rattle.two_runs.proofs.Calling.{no-answer, Replies, start-pair, step-both}
+use Rattle.agreement.proofs.Fetches.{fetch-tells}
+use Rattle.two_runs.proofs.Serving.{Fits, fetch-both}
+use Rattle.two_runs.proofs.Reporting.{fetch-report}
 use Rattle.two_runs.proofs.Transfers.{sent-both, out-both, in-both}
 use Rattle.two_runs.proofs.Unaligned.{unaligned-alike, due-fit, read-up-both, write-up-both}
 
@@ -159,9 +162,39 @@ module _ (P : Pairing) (z z′ : State) (s : SameButStored z z′) (start : lent
       (λ _. refusal d))
       (λ _. refusal l))
 
+-- ---- the data side's part of a fetch (02, U4): what is shared, the bytes that it hands back, and the states after it
+pub record Fetches (P : Pairing) (a : ℕ) (x x′ : Reply) : Type 0 where
+  pub number : x .number ≡ x′ .number
+  pub server : x .server ≡ x′ .server
+  pub value : x .value ≡ x′ .value
+  pub report : x .report ≡ x′ .report
+  pub bytes : Twins P a 32 (x .bytes) (x′ .bytes)
+  pub next : (g : Layout) × Pair P g (x .next) (x′ .next)
+
+module _ (P : Pairing) (z z′ : State) (s : SameButStored z z′) (start : lentDue z ≡ 0 → Pair P (layoutOf (z .rec)) z z′) (C : Reply → Reply → Type 0)
+    (refusal : (k : ℕ) → C (noFetch k z) (noFetch k z′)) (a : ℕ) where
+  fetch-fits : {g : Layout} → Pair P g z z′ → fetchDueIn z a ≡ 0 → Fits g a 32
+  fetch-fits q u =
+      let k = fetch-tells (sramOf (z .rec)) (z .rec .extlen) a u in let l = k .aligned in let m = q .sizes .sram in let x = q .sizes .extlen in
+      record { more = omega arith; row = omega arith; low = λ h. let g = k .low h in omega arith; high = λ h. let g = k .high h in omega arith }
+
+  pub fetch-call-both : ((x x′ : Reply) → Fetches P a x x′ → C x x′) → C (fetchBehindCall a z) (fetchBehindCall a z′)
+  unfolding fetchBehindCall fetchBehindStep fetchBehindDone
+  fetch-call-both reply =
+      let d = fetchDueIn z a in let l = lentDue z in let e = lent-due z z′ s in let r : fetchDueIn z′ a ≡ d = (let p = s .rec in rw p refl) in
+      rw (← e, r)
+      (cond-both C (eqb l 0) (cond (eqb d 0) (fetchBehindDone a z) (noFetch d z)) (noFetch l z) (cond (eqb d 0) (fetchBehindDone a z′) (noFetch d z′)) (noFetch l z′)
+      (λ t. let q = start (eqb-true l 0 t) in
+      cond-both C (eqb d 0) (fetchBehindDone a z) (noFetch d z) (fetchBehindDone a z′) (noFetch d z′)
+      (λ u. let x = fetch-both (fetch-fits q (eqb-true d 0 u)) z z′ q in
+      reply (fetchBehindDone a z) (fetchBehindDone a z′)
+      (record { number = refl; server = x .server; value = refl; report = fetch-report a z z′ s; bytes = x .bytes; next = (layoutOf (z .rec), x .next) }))
+      (λ _. refusal d))
+      (λ _. refusal l))
+
 -- ---- a fresh start: likewise
 module _ (z z′ : State) (s : SameButStored z z′) where
-  fresh-ok : freshOk (z .l1d) (z .l2) (z .ext) ≡ freshOk (z′ .l1d) (z′ .l2) (z′ .ext)
+  pub fresh-ok : freshOk (z .l1d) (z .l2) (z .ext) ≡ freshOk (z′ .l1d) (z′ .l2) (z′ .ext)
   unfolding freshOk
   fresh-ok = rw (s .l1d, s .l2, s .ext) refl
 
@@ -181,7 +214,7 @@ module _ (z z′ : State) (s : SameButStored z z′) where
   fresh-stored = let l = s .l2 in let e = s .ext in record { rec = rw (l, e) refl; l1d = refl; l2 = rw l refl; ext = e }
 
 -- ==== the first sentence: any two bytes may stand for an address
-abbrev Any : Pairing
+abbrev pub Any : Pairing
 Any a c d = _≡_ {A = ℕ} 0 0
 
 any : {b p n : ℕ} {m m′ : List ℕ} → Area Any b p n m m′
@@ -197,7 +230,7 @@ pub record Same (x x′ : Reply) : Type 0 where
 pub shared : {x x′ : Reply} → Same x x′ → Shared x x′
 shared r = record { number = r .number; server = r .server; report = r .report; rec = r .next .rec }
 
-any-pair : (z z′ : State) → SameButStored z z′ → lentDue z ≡ 0 → Pair Any (layoutOf (z .rec)) z z′
+pub any-pair : (z z′ : State) → SameButStored z z′ → lentDue z ≡ 0 → Pair Any (layoutOf (z .rec)) z z′
 any-pair z z′ s u = start-pair Any z z′ (s .rec) (s .l1d) (s .l2) (s .ext) u (λ _ _ _. any) (λ _ _ _. any) any any
 
 any-twins : (n a v v′ : ℕ) → Twins Any a n (littleBytes v n) (littleBytes v′ n)
@@ -242,6 +275,11 @@ look-same : (z z′ : State) → SameButStored z z′ → (a : ℕ) → Same (ca
 unfolding viewDone
 look-same z z′ s a = record { number = view-due z z′ s a; server = refl; report = refl; next = s }
 
+fetch-same : (z z′ : State) → SameButStored z z′ → (a : ℕ) → Same (fetchBehindCall a z) (fetchBehindCall a z′)
+fetch-same z z′ s a =
+    fetch-call-both Any z z′ s (any-pair z z′ s) Same (λ k. record { number = refl; server = refl; report = refl; next = s }) a
+    (λ x x′ r. let p = r .next in record { number = r .number; server = r .server; report = r .report; next = pair-stored (p .1) })
+
 pub called-same : (c c′ : Call) → SameButWritten c c′ → (z z′ : State) → SameButStored z z′ → Same (called c z) (called c′ z′)
 called-same (oneCommand c) (oneCommand c′) (sameCommand {k} {a} {b} {v} {v′} f) z z′ s = command-same z z′ s k a b v v′ f
 called-same freshStart freshStart sameStart z z′ s = fresh-same z z′ s
@@ -250,6 +288,7 @@ called-same (readUnaligned n a) (readUnaligned n′ a′) (sameRead {n = m} {a =
 called-same (writeUnaligned n a v) (writeUnaligned n′ a′ v′) (sameWrite {n = m} {a = y} {v = u} {v′ = u′} f) z z′ s = write-unaligned-same z z′ s m y u u′ f
 called-same (transferIn a bs) (transferIn a′ bs′) (sameIn {a = y} {bs = cs} {bs′ = cs′} e) z z′ s = transfer-in-same z z′ s y cs cs′ e
 called-same (transferOut a o) (transferOut a′ o′) (sameOut {a = y} {o = u} {o′ = u′} e) z z′ s = transfer-out-same z z′ s y u u′ e
+called-same (fetchBehind a) (fetchBehind a′) (sameFetch {a = y}) z z′ s = fetch-same z z′ s y
 
 pub same-behaviour : SameBehaviour
 same-behaviour z z′ s cs cs′ h = along h z z′ s

@@ -11,14 +11,14 @@ use lib.Dec.{eqb}
 use borrow.Author.Tests.{eqb-true, eqb-false}
 use Rattle.model.specs.Records.{State}
 use Rattle.model.specs.Refusals.{lentDue}
-use Rattle.model.specs.Calls.{Call, oneCommand, freshStart, look, readUnaligned, writeUnaligned, transferIn, transferOut, called, after}
+use Rattle.model.specs.Calls.{Call, oneCommand, freshStart, look, readUnaligned, writeUnaligned, transferIn, transferOut, fetchBehind, called, after}
 use Rattle.model.specs.Laws.{bool}
 use Rattle.agreement.specs.Frames.{frameLength, turnOf, framePlace, nextTurn, frameDueIn, framed, frameStep, frameCall}
 use Rattle.agreement.specs.FrameSums.{FramesAdd, Item, single, frame, readsFrom, frameCalls, itemCalls, expanded}
 use Rattle.agreement.specs.FrameSums as Sums
 use Rattle.agreement.proofs.Frames.{frames-add-up}
 use Rattle.agreement.proofs.FrameLists.{frame-is-calls}
-use Rattle.two_runs.specs.TwoRuns.{SameButStored, SameButWritten, sameCommand, sameStart, sameLook, sameRead, sameWrite, sameIn, sameOut, ListsSameButWritten}
+use Rattle.two_runs.specs.TwoRuns.{SameButStored, SameButWritten, sameCommand, sameStart, sameLook, sameRead, sameWrite, sameIn, sameOut, sameFetch, ListsSameButWritten}
 use Rattle.two_runs.specs.TwoRuns as Says
 use Rattle.two_runs.specs.Frames.{sameSingle, sameFrame, FramesShared, ItemsShared, SameFrameBehaviour, SameSums, OneByteInFrames}
 use Rattle.two_runs.specs.Frames as Tells
@@ -57,6 +57,7 @@ same-call (readUnaligned n a) = sameRead
 same-call (writeUnaligned n a v) = sameWrite (λ _. refl)
 same-call (transferIn a bs) = sameIn refl
 same-call (transferOut a o) = sameOut refl
+same-call (fetchBehind a) = sameFetch
 
 same-calls : (cs : List Call) → ListsSameButWritten cs cs
 same-calls [] = Says.ListsSameButWritten.end

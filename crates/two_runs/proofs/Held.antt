@@ -9,7 +9,7 @@ use mathlib.Core.Path.{_≡_, refl, sym, ap, _∙_}
 use mathlib.Core.Logic.{_⊎_, inl, inr, ⊎-elim}
 use mathlib.Core.List.{List, [], _∷_}
 use native.Mathlib.Omega.{arith}
-use lib.ListN.{length, getD, set, length-set, List·getD-eq-default}
+use lib.ListN.{length, getD, set, replicate, length-set, List·getD-eq-default}
 use lib.Seq.{getD-set-same}
 use lib.Dec.{eqb, ltb}
 use borrow.Author.Tests.{eqb-true, eqb-false, ltb-true, ltb-false}
@@ -22,10 +22,16 @@ use Rattle.two_runs.proofs.Areas.{Pairing, Area}
 
 -- ---- which line a slot holds after one was replaced
 -- an element after a store at its index: what was stored, or the default of a list too short for it
-set-here {ℓ} : {A : Type ℓ} (l : List A) (i : ℕ) (a d : A) → (getD (set l i a) i d ≡ a) ⊎ (getD (set l i a) i d ≡ d)
+pub set-here {ℓ} : {A : Type ℓ} (l : List A) (i : ℕ) (a d : A) → (getD (set l i a) i d ≡ a) ⊎ (getD (set l i a) i d ≡ d)
 set-here [] i a d = inr refl
 set-here (x ∷ xs) zero a d = inl refl
 set-here (x ∷ xs) (suc i) a d = set-here xs i a d
+
+-- an element of a list that is all default
+pub all-default {ℓ} : {A : Type ℓ} (n i : ℕ) (d : A) → getD (replicate n d) i d ≡ d
+all-default zero i d = refl
+all-default (suc n) zero d = refl
+all-default (suc n) (suc i) d = all-default n i d
 
 -- a line that is valid afterwards is the new one in its slot, or an old one in another
 abbrev pub Replaces : (ℕ → ℕ → Line) → (ℕ → ℕ → Line) → ℕ → ℕ → Line → Type 0

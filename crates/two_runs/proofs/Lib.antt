@@ -14,3 +14,5 @@ pub mod Along
 pub mod Looking
 pub mod OneByte
 pub mod Differ
+pub mod ChipBoth
+pub mod ChipRuns

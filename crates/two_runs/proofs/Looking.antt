@@ -4,6 +4,7 @@
 use Prim.Native.Nat.{ℕ, zero, suc, _+_, _-_, _≤_, _<_}
 use mathlib.Core.Bool.{_&&_}
 use mathlib.Core.Path.{_≡_, refl, sym, _∙_}
+use mathlib.Core.Logic.{_≢_}
 use mathlib.Core.List.{List, []}
 use native.Mathlib.Omega.{arith}
 use lib.ListN.{length, List·getD-eq-default}
@@ -18,12 +19,12 @@ use Rattle.model.specs.Calls.{viewCall}
 use Rattle.model.specs.Laws.{bool, both-true, lowestDue-none, unless-none, cond-both}
 use Rattle.model.specs.declared.Record.{Record}
 use Rattle.two_runs.specs.TwoRuns.{SameBytesBut, LineFor}
-use Rattle.two_runs.proofs.Areas.{Twins, area-part}
+use Rattle.two_runs.proofs.Areas.{Pairing, Twins, area-part}
 use Rattle.two_runs.proofs.Pair.{twin, one-record}
 use Rattle.two_runs.proofs.Behaviour.{view-due}
 use Rattle.two_runs.proofs.Along.{Byte, Along, sram-area, ext-area}
 
-none-due : (n k : ℕ) → lowestDue n k ≡ 0 → (n ≡ 0) × (k ≡ 0)
+pub none-due : (n k : ℕ) → lowestDue n k ≡ 0 → (n ≡ 0) × (k ≡ 0)
 none-due zero k e = (refl, e)
 none-due (suc n) k e = absurd (omega arith)
 
@@ -51,12 +52,18 @@ look-tells r m e a u =
     }
 
 -- ---- the bytes at a, equal where they do not stand for x
-pub twins-but : (x a n : ℕ) (bs bs′ : List ℕ) → Twins (Byte x) a n bs bs′ → SameBytesBut (LineFor a x) bs bs′
+abbrev pub But : ℕ → Pairing
+But x a c d = a ≢ x → c ≡ d
+
+pub but-twins : {x a n : ℕ} {bs bs′ : List ℕ} → Twins (Byte x) a n bs bs′ → Twins (But x) a n bs bs′
+but-twins t = record { long = t .long; long′ = t .long′; byte = λ k h. t .byte k h .same }
+
+pub twins-but : (x a n : ℕ) (bs bs′ : List ℕ) → Twins (But x) a n bs bs′ → SameBytesBut (LineFor a x) bs bs′
 twins-but x a n bs bs′ t =
     let l = t .long in let l′ = t .long′ in
     record {
       long = l ∙ sym l′;
-      byte = λ k h. bool (ltb k n) (λ y. t .byte k (ltb-true k n y) .same h)
+      byte = λ k h. bool (ltb k n) (λ y. t .byte k (ltb-true k n y) h)
           (λ y. let y′ = ltb-false k n y in
           List·getD-eq-default bs 0 {n = k} (omega arith) ∙ sym (List·getD-eq-default bs′ 0 {n = k} (omega arith)));
     }
@@ -71,10 +78,10 @@ module _ (x : ℕ) (z : State) (d m e : List ℕ) (h : Along x z (twin z d m e))
       (part e (a - externalBase) 64)
       (λ t. let g = k .low (ltb-true a externalBase t) in
       twins-but x a 64 (part (z .l2) a 64) (part m a 64)
-      (area-part (sram-area h) (sym (s .l2)) (omega arith) a g (omega arith) (omega arith)))
+      (but-twins (area-part (sram-area h) (sym (s .l2)) (omega arith) a g (omega arith) (omega arith))))
       (λ t. let g = ltb-false a externalBase t in let g′ = k .high g in
       twins-but x a 64 (part (z .ext) (a - externalBase) 64) (part e (a - externalBase) 64)
-      (area-part (ext-area h (length (z .ext))) (sym (s .ext)) (omega arith) (a - externalBase) (omega arith) (omega arith) (omega arith)))
+      (but-twins (area-part (ext-area h (length (z .ext))) (sym (s .ext)) (omega arith) (a - externalBase) (omega arith) (omega arith) (omega arith))))
 
   look-twin : SameBytesBut (LineFor a x) (viewCall (z .rec) (z .l2) (z .ext) a) (viewCall (z .rec) m e a)
   unfolding viewCall

@@ -12,7 +12,7 @@ use borrow.Author.Tests.{ltb-true, ltb-false}
 use Rattle.model.specs.Bytes.{little, littleBytes}
 use Rattle.model.specs.Records.{State, withRecord, l1dLineAt, l2LineAt, freshL1dSet, freshL2Set, freshRecord, freshState}
 use Rattle.model.specs.Trace.{command}
-use Rattle.model.specs.Calls.{Reply, call, freshOk, freshCall, viewDone, readUnalignedCall, writeUnalignedCall, transferInCall, transferOutCall, Call, oneCommand, freshStart, look, readUnaligned, writeUnaligned, transferIn, transferOut, called}
+use Rattle.model.specs.Calls.{Reply, call, freshOk, freshCall, viewDone, readUnalignedCall, writeUnalignedCall, transferInCall, transferOutCall, fetchBehindCall, Call, oneCommand, freshStart, look, readUnaligned, writeUnaligned, transferIn, transferOut, fetchBehind, called}
 use Rattle.model.specs.Laws.{bool, false-true, length-littleBytes}
 use Rattle.model.specs.declared.Line.{Line}
 use Rattle.agreement.proofs.Tables.{l1dStore, l2Store, fresh-line}
@@ -21,24 +21,25 @@ use Rattle.two_runs.specs.TwoRuns.{SameBytesBut, ValueFor, Bytes, LentBy
 use Rattle.two_runs.specs.TwoRuns as Says
 use Rattle.agreement.proofs.Unaligned.{written-byte}
 use Rattle.two_runs.proofs.Areas.{Twins}
+use Rattle.two_runs.proofs.Held.{all-default}
 use Rattle.two_runs.proofs.Calling.{Answer, Replies}
-use Rattle.two_runs.proofs.Behaviour.{view-due, call-both, read-unaligned-both, write-unaligned-both, transfer-in-both, transfer-out-both, fresh-both, fresh-stored}
-use Rattle.two_runs.proofs.Along.{Byte, zero-byte, equal-byte, Along, along-start, along-says, along-pair, pair-along}
-use Rattle.two_runs.proofs.Looking.{twins-but, look-bytes}
+use Rattle.two_runs.proofs.Behaviour.{view-due, call-both, read-unaligned-both, write-unaligned-both, transfer-in-both, transfer-out-both, fetch-call-both, fresh-both, fresh-stored}
+use Rattle.two_runs.proofs.Along.{Byte, zero-byte, equal-byte, SameAt, Along, along-start, along-says, along-pair, pair-along}
+use Rattle.two_runs.proofs.Looking.{but-twins, twins-but, look-bytes}
 
 -- what two calls have in common, and what the next two need
-record Stays (x : ℕ) (c : Call) (y y′ : Reply) : Type 0 where
-  number : y .number ≡ y′ .number
-  server : y .server ≡ y′ .server
-  report : y .report ≡ y′ .report
-  answer : SameAnswerBut x c y y′
-  along : Along x (y .next) (y′ .next)
+pub record Stays (x : ℕ) (c : Call) (y y′ : Reply) : Type 0 where
+  pub number : y .number ≡ y′ .number
+  pub server : y .server ≡ y′ .server
+  pub report : y .report ≡ y′ .report
+  pub answer : SameAnswerBut x c y y′
+  pub along : Along x (y .next) (y′ .next)
 
-equal-bytes : {Stands : ℕ → Type 0} {bs bs′ : List ℕ} → bs ≡ bs′ → SameBytesBut Stands bs bs′
+pub equal-bytes : {Stands : ℕ → Type 0} {bs bs′ : List ℕ} → bs ≡ bs′ → SameBytesBut Stands bs bs′
 equal-bytes e = record { long = ap length e; byte = λ k _. ap (λ (l : List ℕ). getD l k 0) e }
 
 -- a reply that is the same but for the state
-same-reply : {x : ℕ} {c : Call} {y y′ : Reply} → y .number ≡ y′ .number → y .server ≡ y′ .server → y .report ≡ y′ .report → y .value ≡ y′ .value → y .bytes ≡ y′ .bytes →
+pub same-reply : {x : ℕ} {c : Call} {y y′ : Reply} → y .number ≡ y′ .number → y .server ≡ y′ .server → y .report ≡ y′ .report → y .value ≡ y′ .value → y .bytes ≡ y′ .bytes →
     Along x (y .next) (y′ .next) → Stays x c y y′
 same-reply n s q v b h =
     record {
@@ -131,16 +132,24 @@ transfer-out-stays x z z′ h a o =
       number = refl;
       server = refl;
       report = refl;
-      answer = record { value = equal-bytes refl; handedBack = twins-but x a (length o) bs bs′ t };
+      answer = record { value = equal-bytes refl; handedBack = twins-but x a (length o) bs bs′ (but-twins t) };
       along = pair-along (h .external) p;
     })
 
--- ---- a fresh start: nothing is held, SRAM is zero, or L2 is as it was lent
-zeros : (n i : ℕ) → _≡_ {A = ℕ} (getD (replicate n 0) i 0) 0
-zeros zero i = refl
-zeros (suc n) zero = refl
-zeros (suc n) (suc i) = zeros n i
+-- ---- the data side's part of a fetch
+fetch-stays : (x : ℕ) (z z′ : State) → Along x z z′ → (a : ℕ) → Stays x (fetchBehind a) (fetchBehindCall a z) (fetchBehindCall a z′)
+fetch-stays x z z′ h a =
+    fetch-call-both (Byte x) z z′ (h .stored) (along-pair x z z′ h) (Stays x (fetchBehind a)) (λ k. same-reply refl refl refl refl refl h) a
+    (λ y y′ r. let p = r .next in
+    record {
+      number = r .number;
+      server = r .server;
+      report = r .report;
+      answer = record { value = equal-bytes (ap (λ (v : ℕ). littleBytes v 8) (r .value)); handedBack = twins-but x a 32 (y .bytes) (y′ .bytes) (but-twins (r .bytes)) };
+      along = pair-along (h .external) (p .1);
+    })
 
+-- ---- a fresh start: nothing is held, SRAM is zero, or L2 is as it was lent
 l1d-empty : (l e s w : ℕ) → l1dLineAt (freshRecord l e) s w .valid ≡ true → ⊥
 unfolding freshRecord
 l1d-empty l e s w v = false-true (sym (ap (λ (y : Line). y .valid) (fresh-line l1dStore freshL1dSet 128 l1d-fresh s w)) ∙ v)
@@ -154,18 +163,19 @@ module _ (x : ℕ) (z z′ : State) (h : Along x z z′) where
   unfolding freshState
   started =
       let l = length (z .l2) in let l′ = length (z′ .l2) in
-      let m : (i : ℕ) → _≡_ {A = ℕ} (getD (replicate l 0) i 0) (getD (replicate l′ 0) i 0) = λ i. zeros l i ∙ sym (zeros l′ i) in
+      let m : (i : ℕ) → _≡_ {A = ℕ} (getD (replicate l 0) i 0) (getD (replicate l′ 0) i 0) = λ i. all-default {A = ℕ} l i 0 ∙ sym (all-default {A = ℕ} l′ i 0) in
       record {
         external = h .external;
         stored = fresh-stored z z′ (h .stored);
         l1d = λ s w v. absurd (l1d-empty l (length (z .ext)) s w v);
         l2 = λ t w v. absurd (l2-empty l (length (z .ext)) t w v);
-        sram = λ i _. let a = zeros l i in (m i, omega arith);
+        sram = λ i _. let a = all-default {A = ℕ} l i 0 in (m i, omega arith);
         ext = h .ext;
-        lent = λ _ i. let a = zeros l i in (m i, omega arith);
+        lent = λ _ i. let a = all-default {A = ℕ} l i 0 in (m i, omega arith);
       }
 
-  not-started : freshOk (z .l1d) (z .l2) (z .ext) ≡ false →
+  -- a fresh start that is refused makes all of L2's front SRAM, so that L2 must be as it was lent
+  pub not-started : ((i : ℕ) → SameAt (z .l2) (z′ .l2) i) →
       Along x (withRecord z (freshRecord 32768 128)) (withRecord z′ (freshRecord 32768 128))
   not-started u =
       let s = h .stored in
@@ -174,7 +184,7 @@ module _ (x : ℕ) (z z′ : State) (h : Along x z z′) where
         stored = record { rec = refl; l1d = s .l1d; l2 = s .l2; ext = s .ext };
         l1d = λ s w v. absurd (l1d-empty 32768 128 s w v);
         l2 = λ t w v. absurd (l2-empty 32768 128 t w v);
-        sram = λ i _. h .lent u i;
+        sram = λ i _. u i;
         ext = h .ext;
         lent = h .lent;
       }
@@ -182,7 +192,7 @@ module _ (x : ℕ) (z z′ : State) (h : Along x z z′) where
   fresh-stays : Stays x freshStart (freshCall (z .l1d) (z .l2) (z .ext)) (freshCall (z′ .l1d) (z′ .l2) (z′ .ext))
   fresh-stays =
       fresh-both z z′ (h .stored) (Stays x freshStart) (same-reply refl refl refl refl refl started)
-      (λ u. same-reply refl refl refl refl refl (not-started u))
+      (λ u. same-reply refl refl refl refl refl (not-started (h .lent u)))
 
   -- ---- one look behind L1D
   look-stays : (a : ℕ) → Stays x (look a) (called (look a) z) (called (look a) z′)
@@ -197,7 +207,7 @@ module _ (x : ℕ) (z z′ : State) (h : Along x z z′) where
       }
 
 -- ---- one call, and the whole list
-called-stays : (x : ℕ) (c : Call) → LentBytes c → (z z′ : State) → Along x z z′ → Stays x c (called c z) (called c z′)
+pub called-stays : (x : ℕ) (c : Call) → LentBytes c → (z z′ : State) → Along x z z′ → Stays x c (called c z) (called c z′)
 called-stays x (oneCommand c) _ z z′ h = command-stays x z z′ h (c .code) (c .first) (c .second) (c .value)
 called-stays x freshStart _ z z′ h = fresh-stays x z z′ h
 called-stays x (look a) _ z z′ h = look-stays x z z′ h a
@@ -205,6 +215,7 @@ called-stays x (readUnaligned n a) _ z z′ h = read-unaligned-stays x z z′ h 
 called-stays x (writeUnaligned n a v) _ z z′ h = write-unaligned-stays x z z′ h n a v
 called-stays x (transferIn a bs) b z z′ h = transfer-in-stays x z z′ h a bs b
 called-stays x (transferOut a o) _ z z′ h = transfer-out-stays x z z′ h a o
+called-stays x (fetchBehind a) _ z z′ h = fetch-stays x z z′ h a
 
 says : (x : ℕ) (c : Call) (y y′ : Reply) → Stays x c y y′ → SameBut x c y y′
 says x c y y′ r =

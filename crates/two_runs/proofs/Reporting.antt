@@ -18,6 +18,7 @@ use Rattle.model.specs.Records.{State, state, withRecord, withL2, withExternal,
 use Rattle.model.specs.Ways.{l1dVictim, l1dWay, l2Way, inL1d, inL2, useL1d, useL2, emptyL1d, emptyL2}
 use Rattle.model.specs.Homes.{homeIsL2, putMemory, putL2, putHome, l2WayFor, takeHalf, takeHalves, writeOutL2, fillL2}
 use Rattle.model.specs.Access.{cacheable, fillL1d, evictL1d}
+use Rattle.model.specs.Fetches.{fetchReport}
 use Rattle.model.specs.Reports.{leftBy, l1dLeft, l2Left, fetchLeft, stretch, Moved, still, reading, writing, andThen, taken, memoryMoved, putMemoryMoved, writeOutL2Moved, fillL2Moved, putHomeMoved, writebackL1dMoved, evictL1dMoved, writebackL2Moved, evictL2Moved, bringL2Moved, fetchL2Moved, homeMoved, fillL1dMoved, writeHomeMoved, readEmptiedMoved, readThawedMoved, readFrozenMoved, readMissMoved, writeMissMoved, Report, report, noReport, bytesIn, readMissReport, writeMissReport, readReport, writeReport}
 use Rattle.model.specs.Laws.{bool, length-part, length-stored, cond-both}
 use Rattle.model.specs.declared.Left.{Left}
@@ -295,14 +296,18 @@ readEmptied-alike w a =
     (λ y y′ p. then-alike (home-alike a (l1dLine a) 64 y y′ p) (λ x x′ o. still-alike (fillL1d-same o w v a))))
     (λ y y′ p. still-alike (useL1d-same p (l1dSetOf a) w)))
 
+readFrozen-alike : (n a : ℕ) → AlikeFrom (readFrozenMoved n a) (readFrozenMoved n a)
+unfolding readFrozenMoved
+readFrozen-alike n a z z′ q = then-alike (fetch-alike a z z′ q) (home-alike a a n)
+
 readMiss-alike : (n a : ℕ) → AlikeFrom (readMissMoved n a) (readMissMoved n a)
-unfolding readMissMoved readFrozenMoved readThawedMoved
+unfolding readMissMoved readThawedMoved
 readMiss-alike n a =
     by-record Alike (readMissMoved n a) (readMissMoved n a)
     (λ z d m e q. let z′ = twin z d m e in let s = l1dSetOf a in let w = l1dVictim (l1dSetAt (z .rec) s) in
     cond-both Alike (z .rec .frozen) (readFrozenMoved n a z) (readThawedMoved a z) (readFrozenMoved n a z′)
     (readThawedMoved a z′)
-    (λ _. then-alike (fetch-alike a z z′ q) (home-alike a a n))
+    (λ _. readFrozen-alike n a z z′ q)
     (λ _. then-alike (evictL1d-alike s w z z′ q) (readEmptied-alike w a)))
 
 writeMiss-alike : (a : ℕ) (bs bs′ : List ℕ) → length bs ≡ length bs′ →
@@ -354,6 +359,15 @@ read-report n a =
     let p = readMiss-report n a z z′ q in
     let p′ = reports {k = NoWay} {l = NoWay} refl refl (memory-alike a n z z′ q) in
     λ i. cond (cacheable (z .rec) a) (cond (inL1d z a) noReport (p i)) (p′ i))
+
+pub fetch-report : (a : ℕ) (z z′ : State) → SameButStored z z′ → fetchReport a z ≡ fetchReport a z′
+unfolding fetchReport
+fetch-report a =
+    by-record (λ (x y : Report). x ≡ y) (fetchReport a) (fetchReport a)
+    (λ z d m e q. let z′ = twin z d m e in
+    let p = reports {k = NoWay} refl (fetch-left a z z′ q) (readFrozen-alike 32 a z z′ q) in
+    let p′ = reports {k = NoWay} {l = NoWay} refl refl (memory-alike a 32 z z′ q) in
+    λ i. cond (cacheable (z .rec) a) (p i) (p′ i))
 
 pub write-report : (a : ℕ) (bs bs′ : List ℕ) → length bs ≡ length bs′ → (z z′ : State) → SameButStored z z′ →
     writeReport a bs z ≡ writeReport a bs′ z′

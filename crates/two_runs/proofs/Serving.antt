@@ -15,6 +15,7 @@ use Rattle.model.specs.Lines.{l1dSetOf, l1dData, lineOf, l1dLine, l2Line, l2Set
 use Rattle.model.specs.Records.{State, l2SetsOf, l2SetOf, l2Data, l1dSetAt, l2SetAt, l1dLineAt, withL2Line}
 use Rattle.model.specs.Ways.{l1dVictim, l2Victim, l1dWay, l2Way, inL1d, inL2, useL1d, useL2}
 use Rattle.model.specs.Homes.{homeIsL2, memoryPart, putMemory, putL2, l2WayFor, evictL2, fillL2, bringL2, fetchL2, homeServer}
+use Rattle.model.specs.Fetches.{fetchAccess}
 use Rattle.model.specs.Access.{Access, access, cacheable, l1dBytes, useHit, readHit, homePart, fillL1d, readFilled, readEmptied, readThawed, readFrozen, readMiss, readAccess, putL1d, writeHit, writeHome, writeMiss, writeAccess, evictL1d}
 use Rattle.model.specs.Laws.{false-true, cond-elim, mode0-sets, cond-both}
 use Rattle.model.specs.declared.Line.{Line}
@@ -266,6 +267,19 @@ module _ {P : Pairing} {g : Layout} where
     pub read-both : (z z′ : State) → Pair P g z z′ → Accesses P g a n (readAccess n a z) (readAccess n a z′)
     read-both z = lift (Accesses P g a n) (readAccess n a) z (readAccess-pair z)
 
+  -- ---- the data side's part of a fetch (02, U4)
+  fetch-pair : {a : ℕ} → Fits g a 32 → (z : State) (d m e : List ℕ) → Pair P g z (twin z d m e) → Accesses P g a 32 (fetchAccess a z) (fetchAccess a (twin z d m e))
+  unfolding fetchAccess
+  fetch-pair {a} f z d m e q =
+      let z′ = twin z d m e in
+      cond-both (Accesses P g a 32) (cacheable (z .rec) a) (readFrozen 32 a z) (access 4 (memoryPart a 32 z) z) (readFrozen 32 a z′) (access 4 (memoryPart a 32 z′) z′)
+      (λ _. readFrozen-pair f z d m e q)
+      (λ _. record { server = refl; bytes = memory-twins q a 32 (f .low) (f .high); next = q })
+
+  pub fetch-both : {a : ℕ} → Fits g a 32 → (z z′ : State) → Pair P g z z′ → Accesses P g a 32 (fetchAccess a z) (fetchAccess a z′)
+  fetch-both {a} f z = lift (Accesses P g a 32) (fetchAccess a) z (fetch-pair f z)
+
+  module _ {a n : ℕ} (f : Fits g a n) where
     -- ---- writes of bs and bs′
     module _ {bs bs′ : List ℕ} (tw : Twins P a n bs bs′) where
       putL1d-pair : (z : State) (d m e : List ℕ) → Pair P g z (twin z d m e) → (w : ℕ) → Hit (l1dLevel z) 2 (l1dSetOf a) w (l1dLine a) →

@@ -1,6 +1,7 @@
 -- 02, U8, "Frames don't steer the cache.", what it says; `same-behaviour` (proofs/Behaviour) and `one-byte-stays`
 -- (proofs/OneByte) prove it. The literature on side channels calls the first statement noninterference: data is the
 -- secret, and nothing that is observed of the cache depends on it.
+-- This is the data side; the whole chip, with L1P (U4), is in ChipTwoRuns.
 -- Read it from the top: what may differ, what is observed, the first sentence; then one byte, what stands for its
 -- address, the second sentence.
 --
@@ -19,7 +20,7 @@ use Rattle.model.specs.Lines.{l1dKind, l2LineLength, l1dData}
 use Rattle.model.specs.Records.{State, sramOf, l1dLineAt, l2LineAt, l2Data}
 use Rattle.model.specs.Refusals.{sizeOk, valueOk}
 use Rattle.model.specs.Trace.{command}
-use Rattle.model.specs.Calls.{Reply, Call, oneCommand, freshStart, look, readUnaligned, writeUnaligned, transferIn, transferOut, called}
+use Rattle.model.specs.Calls.{Reply, Call, oneCommand, freshStart, look, readUnaligned, writeUnaligned, transferIn, transferOut, fetchBehind, called}
 
 -- ==== the first sentence
 -- ---- "two runs that differ only in stored .. data": any two states with one record and memories of equal lengths
@@ -43,6 +44,7 @@ pub data SameButWritten : Call → Call → Type 0 where
   sameWrite : {n a v v′ : ℕ} → FitAlike n v v′ → SameButWritten (writeUnaligned n a v) (writeUnaligned n a v′)
   sameIn : {a : ℕ} {bs bs′ : List ℕ} → length bs ≡ length bs′ → SameButWritten (transferIn a bs) (transferIn a bs′)
   sameOut : {a : ℕ} {o o′ : List ℕ} → length o ≡ length o′ → SameButWritten (transferOut a o) (transferOut a o′)
+  sameFetch : {a : ℕ} → SameButWritten (fetchBehind a) (fetchBehind a)
 
 -- call by call along two lists, which so have the same length
 pub data ListsSameButWritten : List Call → List Call → Type 0 where
@@ -94,9 +96,10 @@ ValueFor (readUnaligned n a) x k = (k < n) × (a + k ≡ x)
 ValueFor (writeUnaligned n a v) x k = ⊥
 ValueFor (transferIn a bs) x k = ⊥
 ValueFor (transferOut a o) x k = ⊥
+ValueFor (fetchBehind a) x k = ⊥
 
 -- .. and of the bytes that are handed back, those of a view for the addresses of the line that it shows, those of a
--- transfer out for the addresses that it reads
+-- transfer out and of a fetch (02, U4) for the addresses that it reads
 abbrev pub HandedBackFor : Call → ℕ → ℕ → Type 0
 HandedBackFor (oneCommand c) x k = ⊥
 HandedBackFor freshStart x k = ⊥
@@ -105,6 +108,7 @@ HandedBackFor (readUnaligned n a) x k = ⊥
 HandedBackFor (writeUnaligned n a v) x k = ⊥
 HandedBackFor (transferIn a bs) x k = ⊥
 HandedBackFor (transferOut a o) x k = LineFor a x k
+HandedBackFor (fetchBehind a) x k = LineFor a x k
 
 -- ---- "Where they differ only in one byte of external memory at the start": in the byte at address x. What is lent is
 -- bytes, numbers below 256; a model's list could hold others, which would carry into the next byte of a value.
@@ -151,6 +155,7 @@ LentBytes (readUnaligned n a) = Unit {0}
 LentBytes (writeUnaligned n a v) = Unit {0}
 LentBytes (transferIn a bs) = Bytes bs
 LentBytes (transferOut a o) = Unit {0}
+LentBytes (fetchBehind a) = Unit {0}
 
 abbrev pub AllLentBytes : List Call → Type 0
 AllLentBytes [] = Unit {0}

@@ -1,0 +1,12 @@
+pub mod L1pLines
+pub mod L1pStays
+pub mod L1pRight
+pub mod Unwritten
+pub mod ChipStays
+pub mod ChipLists
+pub mod Projected
+pub mod Stays
+pub mod Traces
+pub mod Frames
+pub mod Items
+pub mod Worked

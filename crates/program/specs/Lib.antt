@@ -1,0 +1,10 @@
+pub mod L1p
+pub mod Fetches
+pub mod Chip
+pub mod Lists
+pub mod Runs
+pub mod Projected
+pub mod Stays
+pub mod Traces
+pub mod Frames
+pub mod Items
