@@ -6,7 +6,7 @@
 ghost use mathlib.Core.Path.{_≡_};
 ghost use Prim.Native.Nat.{_≤_};
 ghost use lib.ListN.{length};
-use model::Record;
+use program::ChipRecord;
 
 // No mode is set, and no MAR bit: the chip stays as the fresh start leaves it.
 const FRESH: u8 = 255;
@@ -137,15 +137,15 @@ fn show_refusals(answers: &[u8], count: usize) {
 }
 
 // The record after a fresh start, and, unless the mode is FRESH, after both MAR bits and the mode were set.
-fn start(mode: u8, l1d: &mut [u8], l2: &mut [u8], ext: &mut [u8]) -> Record {
-    let x = by_value::fresh(l1d, l2, ext);
+fn start(mode: u8, l1d: &mut [u8], l2: &mut [u8], ext: &mut [u8], l1p: &mut [u8]) -> ChipRecord {
+    let x = by_value::fresh(l1d, l2, ext, l1p);
     let r = x.record;
     if mode == FRESH {
         return r;
     }
     let setting = [11, 0x80, 1, 1, 11, 0x81, 1, 1, 10, mode];
     let mut answers = [0u8; 30];
-    let q = by_value::run(r, &setting, l1d, l2, ext, &mut answers);
+    let q = by_value::run(r, &setting, l1d, l2, ext, l1p, &mut answers);
     q.record
 }
 
@@ -170,10 +170,11 @@ fn run_on(
     l1d: &mut [u8],
     l2: &mut [u8],
     ext: &mut [u8],
+    l1p: &mut [u8],
     answers: &mut [u8],
 ) {
-    let r = start(mode, l1d, l2, ext);
-    let q = by_value::run(r, trace, l1d, l2, ext, answers);
+    let r = start(mode, l1d, l2, ext, l1p);
+    let q = by_value::run(r, trace, l1d, l2, ext, l1p, answers);
     show_servers(answers, q.count);
     show_refusals(answers, q.count);
     line(b"end", wide(q.stop), q.consumed as u64);
@@ -184,6 +185,7 @@ fn run_over(trace: &[u8], mode: u8, extlen: usize) {
     let mut l1d = [0u8; 16384];
     let mut l2 = io::large_buffer();
     let mut ext = room();
+    let mut l1p = [0u8; 16384];
     let mut answers = room_for_answers();
     if 1048576 < extlen {
         return;
@@ -194,6 +196,7 @@ fn run_over(trace: &[u8], mode: u8, extlen: usize) {
         &mut l1d,
         &mut l2,
         &mut ext[..extlen],
+        &mut l1p,
         &mut answers,
     );
 }

@@ -50,10 +50,19 @@ fn main() {
     let mut l1d = [0u8; 16384];
     let mut l2 = io::large_buffer();
     let mut ext = io::large_buffer();
+    let mut l1p = [0u8; 16384];
     let mut answers = [0u8; 40960];
-    let start = by_value::fresh(&mut l1d, &mut l2, &mut ext);
+    let start = by_value::fresh(&mut l1d, &mut l2, &mut ext, &mut l1p);
     let r = start.record;
-    let q = by_value::run(r, &input[..n], &mut l1d, &mut l2, &mut ext, &mut answers);
+    let q = by_value::run(
+        r,
+        &input[..n],
+        &mut l1d,
+        &mut l2,
+        &mut ext,
+        &l1p,
+        &mut answers,
+    );
     show_all(&answers, q.count);
     io::write_all(1, b"end ");
     io::print_decimal(1, wide(q.stop));

@@ -1,49 +1,46 @@
--- Demand 3 for lists of calls from C that hold frames (specs/FramesFromC). Such a list is the list of its calls, on the
--- states that C's words and bytes stand for: demand 3 for that list (crate agreement) carries over, at a single call as
--- in Along, behind a frame where its calls have come to. The sums of an accepted frame are the camera's by agreement's
--- theorem, the state of a list from a fresh start being well formed.
+-- Demand 3 for lists of calls from C that hold runs and frames (specs/FramesFromC). Such a list is the list of items of
+-- the definitions, on the chips that C's words and bytes stand for: what crate program shows of that list carries over,
+-- at a single call as in Along, behind a run or a frame where it has come to.
 use mathlib.Core.Bool.{true}
 use mathlib.Core.Path.{_≡_, sym, ap, _∙_, subst}
-use mathlib.Core.List.{List, [], _∷_, _++_}
+use mathlib.Core.List.{List, [], _∷_}
 use lib.ListN.{length}
-use Rattle.model.specs.Records.{State}
-use Rattle.model.specs.Flat.{Flat, freshFlat, flatCalled, flatAfter}
-use Rattle.model.specs.Calls.{freshCall, Call, called, after}
-use Rattle.agreement.specs.Demand.{Agree, next}
-use Rattle.agreement.specs.FrameSums.{Item, single, frame, itemCalls, expanded, itemsJoined}
-use Rattle.agreement.proofs.Good.{Well}
-use Rattle.agreement.proofs.Agreement.{fresh-accepted}
-use Rattle.agreement.proofs.Stays.{fresh-well, after-well}
-use Rattle.agreement.proofs.Frames.{frame-adds}
-use Rattle.agreement.proofs.FrameLists.{frame-is-calls, items-demand3}
-use Rattle.c_calls.specs.FromC.{Held, stateOf}
-use Rattle.c_calls.specs.FramesFromC.{FrameAnswered, ItemChain, done, made, added, ItemsAgreeFromC, whole, also, sums, ItemsDemand3FromC}
-use Rattle.c_calls.proofs.Along.{number-of, same-at}
+use Rattle.model.specs.Flat.{Flat, freshFlat}
+use Rattle.agreement.specs.Demand.{Settled}
+use Rattle.agreement.specs.Traces.{AnswersAgree, pieceCommands}
+use Rattle.program.specs.Fetches.{Chip}
+use Rattle.program.specs.Chip.{ChipCall, chipCalled}
+use Rattle.program.specs.Lists.{flatChip}
+use Rattle.program.specs.Traces.{pieceCalls, flatChipAfter, chipRememberedAll}
+use Rattle.program.specs.Frames.{chipFrameCalls}
+use Rattle.program.specs.Items.{ChipItem, single, traceRun, frame, chipItemsJoined, ChipItemsAgree, atCall, atRun, atFrame}
+use Rattle.program.proofs.Items.{chip-items-demand3}
+use Rattle.c_calls.specs.FromC.{Held, chipOf, acceptedBy}
+use Rattle.c_calls.specs.FramesFromC.{RunAnswered, FrameAnswered, ItemChain, done, made, ran, added, ItemsAgreeFromC, whole, also, answers, sums, ItemsDemand3FromC}
+use Rattle.c_calls.proofs.Along.{same-at, accepted-same, started}
 
--- ---- what is left of a list behind its front
-agree-behind : (cs ds : List Call) (z : State) (f : Flat) → Agree (cs ++ ds) z f → Agree ds (after cs z) (flatAfter cs f)
-unfolding after flatAfter
-agree-behind [] ds z f a = a
-agree-behind (c ∷ cs) ds z f (next _ b) = agree-behind cs ds (called c z .next) (flatCalled c f .next) b
-
-along : (is : List Item) (h : Held) (r : ItemChain is h) (f : Flat) → Well (stateOf h) → Agree (expanded is (stateOf h)) (stateOf h) f → ItemsAgreeFromC is h r f
-unfolding expanded after
-along [] h done f q a = whole
-along (single c ∷ is) h (made x k p r) f q (next a b) =
-    also (same-at c h x k f p a)
-    (along is k r (flatCalled c f .next) (subst Well (sym (p .next)) (after-well (c ∷ []) (stateOf h) q))
-    (subst (λ (y : State). Agree (expanded is y) y (flatCalled c f .next)) (sym (p .next)) b))
-along (frame t px ∷ is) h (added x k p r) f q a =
-    let z = stateOf h in let cs = itemCalls (frame t px) z in let e = p .next ∙ frame-is-calls t px z in let y = frame-adds t px z q in
-    sums
-    (λ n. ap (λ (s : FrameAnswered). s .sums) (p .answer) ∙ y .0 (sym (ap (λ (s : FrameAnswered). s .number) (p .answer)) ∙ n))
-    (along is k r (flatAfter cs f) (subst Well (sym (p .next)) (y .1))
-    (subst (λ (u : State). Agree (expanded is u) u (flatAfter cs f)) (sym e) (agree-behind cs (expanded is (after cs z)) z f a)))
+along : (is : List ChipItem) (g : List ChipCall) (h : Held) (r : ItemChain is h) (f : Flat) → ChipItemsAgree g is (chipOf h) f → ItemsAgreeFromC g is h r f
+along [] g h done f a = whole
+along (single c ∷ is) g h (made x k p r) f (atCall a b) =
+    let f′ = flatChip c f .next in let y = chipCalled c (chipOf h) .next in
+    let b₁ : ChipItemsAgree (acceptedBy c x g) is y f′ = subst (λ (l : List ChipCall). ChipItemsAgree l is y f′) (accepted-same c h x k g p) b in
+    also (same-at g c h x k f p a)
+    (along is (acceptedBy c x g) k r f′ (subst (λ (v : Chip). ChipItemsAgree (acceptedBy c x g) is v f′) (sym (p .next)) b₁))
+along (traceRun p ∷ is) g h (ran x k y r) f (atRun a b) =
+    let cs = pieceCalls p in let g′ = chipRememberedAll cs (chipOf h) g in let f′ = flatChipAfter cs f in
+    answers (record {
+      answers = subst (λ (v : RunAnswered). AnswersAgree (v .answers) 0 (pieceCommands p) f) (sym (y .answer)) (a .answers);
+      ended = λ ds c i t. subst (λ (v : Chip). Settled (v .dataSide) f′) (sym (y .next)) (a .ended ds c i t);
+    })
+    (along is g′ k r f′ (subst (λ (v : Chip). ChipItemsAgree g′ is v f′) (sym (y .next)) b))
+along (frame t px ∷ is) g h (added x k y r) f (atFrame a b) =
+    let cs = chipFrameCalls t px (chipOf h) in let g′ = chipRememberedAll cs (chipOf h) g in let f′ = flatChipAfter cs f in
+    sums (λ n. ap (λ (v : FrameAnswered). v .sums) (y .answer) ∙ a .sums (sym (ap (λ (v : FrameAnswered). v .number) (y .answer)) ∙ n))
+    (along is g′ k r f′ (subst (λ (v : Chip). ChipItemsAgree g′ is v f′) (sym (y .next)) b))
 
 pub items-demand3-from-c : ItemsDemand3FromC
-items-demand3-from-c d m e x h g n is l j r =
-    let accepted : freshCall d m e .number ≡ 0 = sym (number-of g) ∙ n in let f = fresh-accepted d m e accepted in
-    let z = freshCall d m e .next in let q : Well z = subst Well (sym (f .2)) (fresh-well (length m) e (f .0) (f .1)) in
-    along is h r (freshFlat (length m) e) (subst Well (sym (g .next)) q)
-    (subst (λ (y : State). Agree (expanded is y) y (freshFlat (length m) e)) (sym (g .next))
-    (items-demand3 d m e accepted is l (subst (λ (y : State). itemsJoined [] is y ≡ true) (g .next) j)))
+items-demand3-from-c u x h q z is l j r =
+    let s = started u x h q z in let f = freshFlat (length (u .l2)) (u .ext) in
+    along is [] h r f
+    (subst (λ (y : Chip). ChipItemsAgree [] is y f) (sym (s .1))
+    (chip-items-demand3 (u .l1d) (u .l2) (u .ext) (s .0) is l (subst (λ (y : Chip). chipItemsJoined [] is y ≡ true) (s .1) j)))

@@ -144,6 +144,28 @@ pub fn change(
     modes::change_freeze(tags, c.first);
 }
 
+// A command that no number is due for.
+pub fn carry_out(
+    tags: &mut [u32],
+    sram: usize,
+    sets: usize,
+    c: Command,
+    l1d: &[u8],
+    l2: &mut [u8],
+    ext: &mut [u8],
+)
+    requires { ⌜ (2 ≤ c .code) × ((d m e : List ℕ) → commandDue c (state (recordIn (now tags)) d m e) ≡ 0) ⌝ }
+    requires { ⌜ Lent sram sets (now tags) ⌝ }
+    ensures { λ _. ⌜ stateIn (now (tags .exit)) (now (l1d .entry)) (now (l2 .exit)) (now (ext .exit))
+        ≡ commandState c (stateIn (now (tags .entry)) (now (l1d .entry)) (now (l2 .entry)) (now (ext .entry))) ⌝ }
+{
+    if c.code < 10 {
+        sweep(tags, sram, sets, c, l1d, l2, ext);
+        return;
+    }
+    change(tags, sram, sets, c, l1d, l2, ext);
+}
+
 // Refused by its number with nothing changed, or carried out.
 pub fn execute(
     tags: &mut [u32],
@@ -164,10 +186,6 @@ pub fn execute(
     if due != 0 {
         return due;
     }
-    if c.code < 10 {
-        sweep(tags, sram, sets, c, l1d, l2, ext);
-        return 0;
-    }
-    change(tags, sram, sets, c, l1d, l2, ext);
+    carry_out(tags, sram, sets, c, l1d, l2, ext);
     0
 }

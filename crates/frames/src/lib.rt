@@ -31,7 +31,7 @@ const FRAME: usize = ROWS * COLUMNS;
 const BOTH_PLACES: u32 = 2 * FRAME as u32;
 
 // A block is counted in words.
-const WORDS: u32 = FRAME as u32 / 4;
+pub const WORDS: u32 = FRAME as u32 / 4;
 
 // The CPU reads single bytes.
 const BYTE: u32 = 1;
@@ -51,7 +51,7 @@ pub struct Framed {
 }
 
 // 19 for external memory that is too short, then 20 for a frame of another length, 0 to go on.
-fn due_for(ext: u32, length: usize) -> u8
+pub fn due_for(ext: u32, length: usize) -> u8
     ensures { λ n. ⌜ n ≡ frameDue ext length ⌝ }
 {
     if ext < BOTH_PLACES {
@@ -64,7 +64,7 @@ fn due_for(ext: u32, length: usize) -> u8
 }
 
 // Frames go by turns to two places, one behind the other.
-fn place_of(turn: u8) -> u32
+pub fn place_of(turn: u8) -> u32
     ensures { λ p. ⌜ p ≡ framePlace turn ⌝ }
 {
     EXTERNAL_BASE + (turn % 2) as u32 * FRAME as u32

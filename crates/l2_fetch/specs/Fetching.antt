@@ -11,7 +11,7 @@ use native.Mathlib.Omega.{arith}
 use lib.ListN.{length}
 use lib.Dec.{ltb, leb, eqb}
 use borrow.Author.Tests.{lt-ltb, le-ltb, leb-true}
-use Rattle.model.specs.Bytes.{part, stored, little}
+use Rattle.model.specs.Bytes.{part, stored}
 use Rattle.model.specs.Memories.{externalBase}
 use Rattle.model.specs.Laws.{bool, false-true, cond-elim, length-part, mode0-sets}
 use Rattle.model.specs.Lines.{l1dSetOf, l1dData, l1dLine, l2DataIn, l2SetIn, l2Line, lineOf, l2Use}
@@ -215,21 +215,22 @@ filled-sram r q l k m e a i w b to from h u ei f t eb x eo ef ek eu eq =
     let o : homeIsL2 r a ≡ false = sym (f .0) ∙ t in let y : ltb (l1dLine a) externalBase ≡ true = rw (← eb) x in
     rw (o, y, eq, eu, ek, ef, eo, eb, ei) refl
 
-pub read-homed : (r : Record) (d m e : List ℕ) (a n s k at off v : ℕ) (h : Fetched) → s ≡ sramOf r → k ≡ l2SetsOf r → Found h a r → h .homed ≡ true →
-    at ≡ l2DataIn s k (h .set) (h .way) → off ≡ a % 128 → v ≡ little (part m (at + off) n) → v ≡ little (homePart (h .way) a a n (state r d m e))
+-- the n bytes at a, out of the home
+pub part-homed : (r : Record) (d m e : List ℕ) (a n s k at off : ℕ) (h : Fetched) → s ≡ sramOf r → k ≡ l2SetsOf r → Found h a r → h .homed ≡ true →
+    at ≡ l2DataIn s k (h .set) (h .way) → off ≡ a % 128 → part m (at + off) n ≡ homePart (h .way) a a n (state r d m e)
 unfolding homePart
-read-homed r d m e a n s k at off v h es ek f t ea eo ev =
-    let o : homeIsL2 r a ≡ true = sym (f .0) ∙ t in let p = f .1 .0 t in rw (o, ev, ea, eo, es, ek, p) refl
+part-homed r d m e a n s k at off h es ek f t ea eo =
+    let o : homeIsL2 r a ≡ true = sym (f .0) ∙ t in let p = f .1 .0 t in rw (o, ea, eo, es, ek, p) refl
 
-pub read-external : (r : Record) (d m e : List ℕ) (a n from v : ℕ) (h : Fetched) → Found h a r → h .homed ≡ false → ltb a externalBase ≡ false →
-    from ≡ a - externalBase → v ≡ little (part e from n) → v ≡ little (homePart (h .way) a a n (state r d m e))
+pub part-external : (r : Record) (d m e : List ℕ) (a n from : ℕ) (h : Fetched) → Found h a r → h .homed ≡ false → ltb a externalBase ≡ false →
+    from ≡ a - externalBase → part e from n ≡ homePart (h .way) a a n (state r d m e)
 unfolding homePart memoryPart
-read-external r d m e a n from v h g t x eo ev = let o : homeIsL2 r a ≡ false = sym (g .0) ∙ t in rw (o, x, ev, eo) refl
+part-external r d m e a n from h g t x eo = let o : homeIsL2 r a ≡ false = sym (g .0) ∙ t in rw (o, x, eo) refl
 
-pub read-sram : (r : Record) (d m e : List ℕ) (a n from v : ℕ) (h : Fetched) → Found h a r → h .homed ≡ false → ltb a externalBase ≡ true →
-    from ≡ a → v ≡ little (part m from n) → v ≡ little (homePart (h .way) a a n (state r d m e))
+pub part-sram : (r : Record) (d m e : List ℕ) (a n from : ℕ) (h : Fetched) → Found h a r → h .homed ≡ false → ltb a externalBase ≡ true →
+    from ≡ a → part m from n ≡ homePart (h .way) a a n (state r d m e)
 unfolding homePart memoryPart
-read-sram r d m e a n from v h g t x eo ev = let o : homeIsL2 r a ≡ false = sym (g .0) ∙ t in rw (o, x, ev, eo) refl
+part-sram r d m e a n from h g t x eo = let o : homeIsL2 r a ≡ false = sym (g .0) ∙ t in rw (o, x, eo) refl
 
 pub wrote-homed : (r q : Record) (d m n e bs : List ℕ) (a s k at off : ℕ) (h : Fetched) (y x : Line) → s ≡ sramOf r → k ≡ l2SetsOf r → Found h a r → h .homed ≡ true →
     at ≡ l2DataIn s k (h .set) (h .way) → off ≡ a % 128 → n ≡ stored m (at + off) bs → y ≡ l2LineAt r (h .set) (h .way) →

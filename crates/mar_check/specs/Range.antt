@@ -112,7 +112,7 @@ module _ (p : ℕ → Bool) (i n : ℕ) (w : Bool) (e : someFrom p i (n - i) ≡
   some-end h = let z : n - i ≡ 0 = omega arith in sym (ap (someFrom p i) z) ∙ e
 
 -- ---- the record
-some-listed {ℓ} : {A : Type ℓ} (f : A → Bool) (g : ℕ → A) (k n : ℕ) → anyOf f (listed g k n) ≡ someFrom (λ i. f (g i)) k n
+pub some-listed {ℓ} : {A : Type ℓ} (f : A → Bool) (g : ℕ → A) (k n : ℕ) → anyOf f (listed g k n) ≡ someFrom (λ i. f (g i)) k n
 unfolding someFrom anyOf listed
 some-listed f g k zero = refl
 some-listed f g k (suc n) = ap (λ (b : Bool). f (g k) || b) (some-listed f g (suc k) n)

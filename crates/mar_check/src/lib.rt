@@ -9,7 +9,7 @@ ghost use Rattle.mar_check.specs.Range.{marOperandsDue, someFrom, l1dRan
 use geometry::L1d;
 use geometry::L2;
 
-fn in_range(f: u32, a: u32, n: u32) -> bool
+pub fn in_range(f: u32, a: u32, n: u32) -> bool
     ensures { λ b. ⌜ b ≡ inRange n (lineIn f a) ⌝ }
 {
     let mark = f % 65536;

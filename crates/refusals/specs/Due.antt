@@ -9,6 +9,7 @@ use borrow.Author.Tests.{lt-ltb, le-ltb, le-leb, lt-leb, eq-eqb, ne-eqb, eqb-tru
 use Rattle.model.specs.Memories.{externalBase, isMode, cacheSize}
 use Rattle.model.specs.Unaligned.{unalignedSize, bytesPlaced, unalignedDue}
 use Rattle.model.specs.Transfers.{transferLength, transferDue}
+use Rattle.model.specs.Fetches.{fetchDue}
 use Rattle.model.specs.Laws.{bool, both-true, placed-together}
 use Rattle.model.specs.Refusals.{unless, sizeOk, placeOk, valueOk, accessDue, blockDue, modeDue, freezeDue}
 
@@ -152,6 +153,17 @@ module _ (s e n a : ℕ) where
     pub transfer-last : transferLength n ≡ true → (w : Bool) → w ≡ placeOk s e n a → transferDue s e n a ≡ unless w 14
     unfolding transferDue
     transfer-last y w f = rw (eq-eqb (a % 4) 0 x, y, f) refl
+
+-- ---- a program fetch
+module _ (s e a : ℕ) where
+  pub fetch-fifteen : eqb (a % 32) 0 ≡ false → 15 ≡ fetchDue s e a
+  unfolding fetchDue
+  fetch-fifteen x = rw x refl
+
+  -- w: what the test of the place says
+  pub fetch-last : eqb (a % 32) 0 ≡ true → (w : Bool) → w ≡ placeOk s e 32 a → fetchDue s e a ≡ unless w 5
+  unfolding fetchDue
+  fetch-last x w f = rw (x, f) refl
 
 -- ---- a block, a mode
 module _ (b c : ℕ) where

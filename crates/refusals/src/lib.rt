@@ -7,7 +7,9 @@ ghost use Rattle.model.specs.Memories.{externalBase};
 ghost use Rattle.model.specs.Refusals.{sizeOk, placeOk, valueOk, accessDue, blockDue, modeDue, freezeDue};
 ghost use Rattle.model.specs.Unaligned.{unalignedSize, unalignedDue};
 ghost use Rattle.model.specs.Transfers.{transferLength, transferDue};
+ghost use Rattle.model.specs.Fetches.{fetchDue};
 ghost use Rattle.refusals.specs.Due.{aligned};
+use geometry::L1p;
 
 // Sums of an address and a length are made of 64 bits, so that none wraps.
 const EXTERNAL: u64 = geometry::EXTERNAL_BASE as u64;
@@ -133,6 +135,23 @@ pub fn transfer_due(sram: u32, ext: u32, length: usize, address: u32) -> u8
         return 13;
     }
     4
+}
+
+// ---- a program fetch (02, U4): 15, then 5
+const FETCHED: u32 = L1p::LINE as u32;
+
+pub fn fetch_due(sram: u32, ext: u32, address: u32) -> u8
+    ensures { λ n. ⌜ n ≡ fetchDue sram ext address ⌝ }
+{
+    let there = place_ok(sram, ext, FETCHED, address);
+    let whole = address % FETCHED == 0;
+    if whole {} else {
+        return 15;
+    }
+    if there {
+        return 0;
+    }
+    5
 }
 
 // ---- a block: 4 and 7

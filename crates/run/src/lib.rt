@@ -1,13 +1,22 @@
 // The run over a trace, or of given commands: a loop that takes a command, carries it out as a call of its own, and
 // puts down its answer. One function for all of them, so that the steps of an access have one caller and the compiler
-// makes one loop of them.
+// makes one loop of them. On the words of the whole chip a command may drop lines of L1P (02, U4); who lends the words
+// of the data side alone gets what the commands do there.
 ghost use mathlib.Core.Logic.{_≢_};
 ghost use mathlib.Core.Path.{_≡_};
-ghost use Prim.Native.Nat.{_+_, _*_, _≤_, _<_};
+ghost use mathlib.Core.List.{List};
+ghost use Prim.Native.Nat.{ℕ, _+_, _*_, _≤_, _<_};
 ghost use lib.ListN.{length};
-ghost use Rattle.model.specs.Calls.{step, ran, runFrom, putAnswer};
+ghost use Rattle.model.specs.Records.{sramOf, l2SetsOf};
+ghost use Rattle.model.specs.Calls.{step, ran, putAnswer};
+ghost use Rattle.model.specs.declared.Left.the-variants.{NoWay};
 ghost use Rattle.access.specs.Serving.{answerOf};
-ghost use Rattle.tags.specs.Words.{recordWords, stateIn};
+ghost use Rattle.tags.specs.Words.{recordWords, recordIn, stateIn};
+ghost use Rattle.program.specs.Fetches.{withL1p};
+ghost use Rattle.program.specs.Chip.{chipStep};
+ghost use Rattle.program.specs.Runs.{chipRan, chipRunFrom};
+ghost use Rattle.l1p_tags.specs.Lines.{chipWords, linesIn, chipIn};
+ghost use Rattle.l1p_tags.specs.Lent.{Sized};
 ghost use Rattle.run.specs.Executed.{NextAt, endOf, stopOf, noAnswer};
 ghost use Rattle.run.specs.Upwards.{allUp};
 use access::Answer;
@@ -84,12 +93,51 @@ fn put_answer(answers: &mut [u8], count: usize, number: u8, server: u8, value: u
     memory::store8(answers, at + 2, value);
 }
 
+// S, and the number of L2 sets.
+pub fn sram_of(words: &[u32]) -> usize
+    requires { ⌜ recordWords ≤ length (now words) ⌝ }
+    ensures { λ r. ⌜ (r ≡ sramOf (recordIn (now (words .entry)))) × (r < 4294967296) ⌝ }
+{
+    let n = tags::WORDS;
+    let tags = &words[..n];
+    L2::sram(tags::l2len_of(tags), tags::mode_of(tags))
+}
+
+pub fn sets_of(words: &[u32]) -> usize
+    requires { ⌜ recordWords ≤ length (now words) ⌝ }
+    ensures { λ r. ⌜ (r ≡ l2SetsOf (recordIn (now (words .entry)))) × (r ≤ 512) ⌝ }
+{
+    let n = tags::WORDS;
+    L2::sets(tags::mode_of(&words[..n]))
+}
+
+// A read or a write, which leaves L1P alone.
+fn access(
+    words: &mut [u32],
+    sram: usize,
+    sets: usize,
+    c: Command,
+    l1d: &mut [u8],
+    l2: &mut [u8],
+    ext: &mut [u8],
+) -> Answer
+    requires { ⌜ (c .code < 2) × (recordWords ≤ length (now words)) ⌝ }
+    requires { ⌜ Sized sram sets (now words) ⌝ }
+    ensures { λ x. ⌜ answerOf x (stateIn (now (words .exit)) (now (l1d .exit)) (now (l2 .exit)) (now (ext .exit)))
+        ≡ step c (stateIn (now (words .entry)) (now (l1d .entry)) (now (l2 .entry)) (now (ext .entry))) ⌝ }
+    ensures rest { λ _. ⌜ linesIn (now (words .exit)) ≡ linesIn (now (words .entry)) ⌝ }
+    ensures refused { λ x. ⌜ (x .number ≢ 0 → now (words .exit) ≡ now (words .entry)) ⌝ }
+{
+    let n = tags::WORDS;
+    access::access(&mut words[..n], sram, sets, c, l1d, l2, ext)
+}
+
 // All of a trace (`times` 0), or so many given commands, the second number of each one higher than that of the one in
 // front of it. Who gives commands has room for their answers; the trace is then not looked at. The loop is left with
 // the answer of one given command, and carries none from turn to turn: what an access reports (02, U2) is not asked for
 // in a trace, and a run pays nothing for it.
 pub fn run(
-    tags: &mut [u32],
+    words: &mut [u32],
     times: usize,
     given: Command,
     trace: &[u8],
@@ -98,24 +146,27 @@ pub fn run(
     ext: &mut [u8],
     answers: &mut [u8],
 ) -> Ended
-    requires { ⌜ length (now tags) ≡ recordWords ⌝ }
+    requires { ⌜ recordWords ≤ length (now words) ⌝ }
     requires { ⌜ given .second + times ≤ 4294967296 ⌝ }
-    ensures one { λ q. ⌜ (times ≡ 1 → 10 ≤ length (now (answers .entry)) →
-        answerOf (q .last) (stateIn (now (tags .exit)) (now (l1d .exit)) (now (l2 .exit)) (now (ext .exit)))
-        ≡ step given (stateIn (now (tags .entry)) (now (l1d .entry)) (now (l2 .entry)) (now (ext .entry)))) ⌝ }
-    ensures refused { λ q. ⌜ (times ≡ 1 → q .last .number ≢ 0 → now (tags .exit) ≡ now (tags .entry)) ⌝ }
-    ensures all { λ q. ⌜ (times ≡ 0 →
-        ran (stateIn (now (tags .exit)) (now (l1d .exit)) (now (l2 .exit)) (now (ext .exit))) (q .consumed) (q .count) (q .stop) (now (answers .exit))
-        ≡ runFrom (now (trace .entry)) (length (now (trace .entry))) 0
-        (stateIn (now (tags .entry)) (now (l1d .entry)) (now (l2 .entry)) (now (ext .entry))) 0 (now (answers .entry))) ⌝ }
-    ensures up { λ q. ⌜ (2 ≤ times → times * 10 ≤ length (now (answers .entry)) →
-        ran (stateIn (now (tags .exit)) (now (l1d .exit)) (now (l2 .exit)) (now (ext .exit))) (q .consumed) (q .count) (q .stop) (now (answers .exit))
-        ≡ allUp given times (stateIn (now (tags .entry)) (now (l1d .entry)) (now (l2 .entry)) (now (ext .entry))) (now (answers .entry))) ⌝ }
+    ensures one { λ q. ⌜ (times ≡ 1 → 10 ≤ length (now (answers .entry)) → length (now (words .entry)) ≡ recordWords →
+        answerOf (q .last) (stateIn (now (words .exit)) (now (l1d .exit)) (now (l2 .exit)) (now (ext .exit)))
+        ≡ step given (stateIn (now (words .entry)) (now (l1d .entry)) (now (l2 .entry)) (now (ext .entry)))) ⌝ }
+    ensures whole { λ q. ⌜ (times ≡ 1 → 10 ≤ length (now (answers .entry)) → length (now (words .entry)) ≡ chipWords → (p : List ℕ) →
+        withL1p NoWay (linesIn (now (words .exit))) p (answerOf (q .last) (stateIn (now (words .exit)) (now (l1d .exit)) (now (l2 .exit)) (now (ext .exit))))
+        ≡ chipStep given (chipIn (now (words .entry)) (now (l1d .entry)) (now (l2 .entry)) (now (ext .entry)) p)) ⌝ }
+    ensures refused { λ q. ⌜ (times ≡ 1 → q .last .number ≢ 0 → now (words .exit) ≡ now (words .entry)) ⌝ }
+    ensures all { λ q. ⌜ (times ≡ 0 → length (now (words .entry)) ≡ chipWords → (p : List ℕ) →
+        chipRan (chipIn (now (words .exit)) (now (l1d .exit)) (now (l2 .exit)) (now (ext .exit)) p) (q .consumed) (q .count) (q .stop) (now (answers .exit))
+        ≡ chipRunFrom (now (trace .entry)) (length (now (trace .entry))) 0
+        (chipIn (now (words .entry)) (now (l1d .entry)) (now (l2 .entry)) (now (ext .entry)) p) 0 (now (answers .entry))) ⌝ }
+    ensures up { λ q. ⌜ (2 ≤ times → times * 10 ≤ length (now (answers .entry)) → length (now (words .entry)) ≡ recordWords →
+        ran (stateIn (now (words .exit)) (now (l1d .exit)) (now (l2 .exit)) (now (ext .exit))) (q .consumed) (q .count) (q .stop) (now (answers .exit))
+        ≡ allUp given times (stateIn (now (words .entry)) (now (l1d .entry)) (now (l2 .entry)) (now (ext .entry))) (now (answers .entry))) ⌝ }
 {
     let mut at: usize = 0;
     let mut count: usize = 0;
-    let mut sets = L2::sets(tags::mode_of(tags));
-    let mut sram = L2::sram(tags::l2len_of(tags), tags::mode_of(tags));
+    let mut sets = sets_of(words);
+    let mut sram = sram_of(words);
     let end = end_of(times, trace);
     while at < end {
         let d = next(times, given, trace, at);
@@ -130,7 +181,7 @@ pub fn run(
         }
         let c = d.command;
         if 2 <= c.code {
-            let n = commands::execute(tags, sram, sets, c, l1d, l2, ext);
+            let n = chip_commands::execute(words, sram, sets, c, l1d, l2, ext);
             if times == 1 {
                 return Ended {
                     consumed: 1,
@@ -140,13 +191,13 @@ pub fn run(
                 };
             }
             put_answer(answers, count, n, 0, 0);
-            sets = L2::sets(tags::mode_of(tags));
-            sram = L2::sram(tags::l2len_of(tags), tags::mode_of(tags));
+            sets = sets_of(words);
+            sram = sram_of(words);
             at += d.used;
             count += 1;
             continue;
         }
-        let a = access::access(tags, sram, sets, c, l1d, l2, ext);
+        let a = access(words, sram, sets, c, l1d, l2, ext);
         if times == 1 {
             return Ended {
                 consumed: 1,

@@ -13,14 +13,14 @@ use lib.ListN.{length, getD, set, length-set}
 use lib.Seq.{getD-set-same, getD-set-other, set-getD}
 use lib.Dec.{eqb, ltb}
 use Rattle.model.specs.Lines.{l1dPut, l2Put, l1dUse, l2Use, l1dGet, l2Get, used2, used4}
-use Rattle.model.specs.Records.{State, state, noL1dSet, noL2Set, l1dSetAt, l2SetAt, l1dLineAt, l2LineAt, withL1dSet, withL2Set, withCounts, l1dLines, l2Lines, counted, withL1dLine, withL2Line}
+use Rattle.model.specs.Records.{State, state, Shape, noL1dSet, noL2Set, l1dSetAt, l2SetAt, l1dLineAt, l2LineAt, withL1dSet, withL2Set, withCounts, l1dLines, l2Lines, counted, withL1dLine, withL2Line}
 use Rattle.model.specs.declared.Line.{Line}
 use Rattle.model.specs.declared.Order2.{Order2}
 use Rattle.model.specs.declared.Order4.{Order4}
 use Rattle.model.specs.declared.L1dSet.{L1dSet}
 use Rattle.model.specs.declared.L2Set.{L2Set}
 use Rattle.model.specs.declared.Record.{Record}
-use Rattle.lists.specs.Listed.{listed, listed-get, listed-same, listed-few, listed-set}
+use Rattle.lists.specs.Listed.{listed, listed-get, listed-same, listed-few, listed-set, length-listed}
 
 -- ---- words
 -- how many words a record has: five at the head, five for each of 128 sets, nine for each of 512
@@ -91,6 +91,17 @@ l1d-at ws i h = let e : 0 + i ≡ i = omega arith in listed-get (l1dIn ws) 0 128
 pub l2-at : (ws : List ℕ) (j : ℕ) → j < 512 → l2SetAt (recordIn ws) j ≡ l2In ws j
 unfolding recordIn
 l2-at ws j h = let e : 0 + j ≡ j = omega arith in listed-get (l2In ws) 0 512 j noL2Set h ∙ ap (l2In ws) e
+
+-- the arrays have the lengths of the record's type
+pub shaped : (ws : List ℕ) → Shape (recordIn ws)
+unfolding recordIn l1dIn l2In
+shaped ws =
+    record {
+      l1dSets = length-listed (l1dIn ws) 0 128;
+      l1dWays = λ s h. let e = l1d-at ws s h in rw e refl;
+      l2Sets = length-listed (l2In ws) 0 512;
+      l2Ways = λ t h. let e = l2-at ws t h in rw e refl;
+    }
 
 -- ---- only the words from p to q (without q) are others
 pub record Only (ws vs : List ℕ) (p q : ℕ) : Type 0 where

@@ -9,11 +9,10 @@ use native.Mathlib.Omega.{arith}
 use lib.ListN.{length, getD, length-append}
 use lib.Dec.{ltb, eqb}
 use borrow.Author.Tests.{ltb-true, ltb-false, eqb-true, eqb-false, eq-eqb, ne-eqb}
-use Rattle.lists.specs.Listed.{length-listed}
 use Rattle.model.specs.Basics.{each}
 use Rattle.model.specs.Bytes.{little, littleBytes}
 use Rattle.model.specs.Memories.{externalBase}
-use Rattle.model.specs.Records.{State, state, sramOf, Shape}
+use Rattle.model.specs.Records.{State, state, sramOf}
 use Rattle.model.specs.Access.{readAccess, writeAccess}
 use Rattle.model.specs.Reports.{Report, readReport, writeReport}
 use Rattle.model.specs.Refusals.{lentDue, sizeOk, lowestDue, unless, valueOk}
@@ -26,20 +25,10 @@ use Rattle.model.specs.declared.Command.{Command}
 use Rattle.agreement.proofs.Good.{Well, Anything, layoutOf}
 use Rattle.agreement.proofs.Tested.{due-well}
 use Rattle.agreement.proofs.Unaligned.{all-fit, read-up, due-fits, written-byte, read-up-bytes, write-up-bytes}
-use Rattle.tags.specs.Words.{recordIn, l1dIn, l2In, l1d-at, l2-at}
+use Rattle.tags.specs.Words.{recordIn, shaped}
 use Rattle.unaligned.specs.Upwards.{restAt, byteOf, Sofar, sofar, andThen, upTo, upDone}
 
--- ---- the arrays of a record in words have the lengths of its type
-shaped : (ws : List ℕ) → Shape (recordIn ws)
-unfolding recordIn l1dIn l2In
-shaped ws =
-    record {
-      l1dSets = length-listed (l1dIn ws) 0 128;
-      l1dWays = λ s h. let e = l1d-at ws s h in rw e refl;
-      l2Sets = length-listed (l2In ws) 0 512;
-      l2Ways = λ t h. let e = l2-at ws t h in rw e refl;
-    }
-
+-- ---- a record in words that passes checks 1 and 2
 pub lent-well : (ws d m e : List ℕ) → lentDue (state (recordIn ws) d m e) ≡ 0 → Well (state (recordIn ws) d m e)
 lent-well ws d m e h = due-well (state (recordIn ws) d m e) (shaped ws) h
 

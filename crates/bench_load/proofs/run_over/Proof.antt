@@ -36,6 +36,9 @@ slice-aggregate-run-on-3 c =
 slice-aggregate-run-on-4 : tie.Need-slice-aggregate-run-on-4
 slice-aggregate-run-on-4 c = search needs
 
+slice-aggregate-run-on-5 : tie.Need-slice-aggregate-run-on-5
+slice-aggregate-run-on-5 c = search needs
+
 run-on-requires : tie.Need-run-on-requires
 run-on-requires c κs = search needs
 
@@ -55,5 +58,6 @@ run-over-spec =
     array-borrow-prefix-ext
     slice-aggregate-run-on-3
     slice-aggregate-run-on-4
+    slice-aggregate-run-on-5
     run-on-requires
     returns-2)

@@ -1,9 +1,10 @@
--- `by_value::frame` meets its contract: the words stand for the record before and after (pack, unpack), and the frame on
--- them is that of 02, U14.
-use Rattle.model.specs.Records.{state}
-use Rattle.model.specs.declared.Record.{Record}
-use Rattle.agreement.specs.Frames.{Framed, frameCall}
-use mathlib.Core.Path.{_≡_, ap, _∙_}
+-- `by_value::frame` meets its contract: the words stand for the record before and after (pack, unpack), and the frame
+-- on them is that of 02, U14.
+use mathlib.Core.Path.{ap, _∙_}
+use Rattle.program.specs.Fetches.{Chip}
+use Rattle.program.specs.Runs.{chipFrameCall}
+use Rattle.camera_calls.specs.Told.{toldChipFramed}
+use Rattle.by_value.specs.Called.{chip-of, of-chip}
 use borrow.Author.Needs.{needs}
 use Rattle.by_value.proofs.frame.Statement.{statement}
 use Rattle.by_value.proofs.frame.Tie as tie
@@ -37,10 +38,12 @@ same-length-3 c = search needs
 
 returns : tie.Need-returns
 returns c =
-    let p-frame = c .before .before .before .before .before .before .before .before .before .before in let p-pack = p-frame .before .before .before .before .before .before in let a = p-pack .before .before .before .before .before .before .args in let f = p-frame .frame in let x = f .result in
-    ap (λ (q : Record). record { number = x .number; turn = x .turn; sums = x .sums; next = state q (f .last .1 .1 .1 .0) (f .last .1 .1 .1 .1 .0) (f .last .1 .1 .1 .1 .1 .0) }) (c .before .unpack .ensures)
+    let p-unpack = c .before in let p-frame = c .before .before .before .before .before .before .before .before .before .before in let p-pack = p-frame .before .before .before .before .before .before in
+    let a = p-pack .before .before .before .before .before .before .before .args in let f = p-frame .frame in
+    ap (λ (k : Chip). toldChipFramed (f .result) k)
+    (of-chip (f .last .0) (p-unpack .unpack .result) (p-unpack .unpack .ensures) (f .last .1 .1 .1 .0) (f .last .1 .1 .1 .1 .0) (f .last .1 .1 .1 .1 .1 .0) (a .l1p .now))
     ∙ f .ensures .0
-    ∙ ap (λ (q : Record). frameCall (a .turn) (a .pixels .now) (state q (a .l1d .now) (a .l2 .now) (a .ext .now))) (p-pack .pack .ensures)
+    ∙ ap (λ (k : Chip). chipFrameCall (a .turn) (a .pixels .now) k) (chip-of (p-pack .pack .last .1 .0) (a .r) (p-pack .pack .ensures) (a .l1d .now) (a .l2 .now) (a .ext .now) (a .l1p .now))
 
 pub frame-spec : {M : Type 1} → statement M
 frame-spec =

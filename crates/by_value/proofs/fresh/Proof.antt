@@ -1,5 +1,7 @@
--- `by_value::fresh` meets its contract: the fresh start on words, whose record is then taken out (answered).
+-- `by_value::fresh` meets its contract: the fresh start on words, whose record is then taken out (answered). What
+-- record stood there before does not count (`chipFresh` does not look at it).
 use mathlib.Core.Path.{_∙_}
+use Rattle.program.specs.Chip.{chipFresh}
 use borrow.Author.Needs.{needs}
 use Rattle.by_value.proofs.fresh.Statement.{statement}
 use Rattle.by_value.proofs.fresh.Tie as tie
@@ -25,8 +27,14 @@ same-length-2 c = search needs
 same-length-3 : tie.Need-same-length-3
 same-length-3 c = search needs
 
+same-length-4 : tie.Need-same-length-4
+same-length-4 c = search needs
+
 returns : tie.Need-returns
-returns c = let o = c .before .before .before .before .before .before .before .before .before .fresh in c .answered .ensures (o .last .1 .0) (o .last .1 .1 .0) (o .last .1 .1 .1 .0) ∙ o .ensures
+unfolding chipFresh
+returns c =
+    let o = c .before .before .before .before .before .before .before .before .before .before .before .fresh in
+    λ r. c .answered .ensures (o .last .1 .0) (o .last .1 .1 .0) (o .last .1 .1 .1 .0) (o .last .1 .1 .1 .1 .0) ∙ o .ensures
 
 pub fresh-spec : {M : Type 1} → statement M
 fresh-spec =
@@ -39,4 +47,5 @@ fresh-spec =
     same-length
     same-length-2
     same-length-3
+    same-length-4
     returns)

@@ -1,10 +1,10 @@
--- `by_value::one_command` meets its contract: the words stand for the record before and after (pack, answered), and the
--- call on them is that of paper 01.
-use Rattle.model.specs.Records.{state}
-use Rattle.model.specs.declared.Record.{Record}
-use Rattle.model.specs.Calls.{oneCommand, called}
-use Rattle.model.specs.Trace.{command}
+-- `by_value::one_command` meets its contract: the words stand for the record before and after (pack, answered).
 use mathlib.Core.Path.{ap, _∙_}
+use Rattle.model.specs.Trace.{command}
+use Rattle.model.specs.Calls.{oneCommand}
+use Rattle.program.specs.Chip.{onData, chipCalled}
+use Rattle.program.specs.Fetches.{Chip}
+use Rattle.by_value.specs.Called.{chip-of}
 use borrow.Author.Needs.{needs}
 use Rattle.by_value.proofs.one_command.Statement.{statement}
 use Rattle.by_value.proofs.one_command.Tie as tie
@@ -38,9 +38,10 @@ same-length-3 c = search needs
 
 returns : tie.Need-returns
 returns c =
-    let p-call = c .before .before .before .before .before .before .before .before .before in let p-pack = p-call .before .before .before .before .before .before in let a = p-pack .before .before .before .before .before .args in let o = p-call .carry-out in
-    c .answered .ensures (o .last .1 .1 .1 .1 .1 .0) (o .last .1 .1 .1 .1 .1 .1 .0) (o .last .1 .1 .1 .1 .1 .1 .1 .0) ∙ o .ensures .0
-    ∙ ap (λ (q : Record). called (oneCommand (command (a .code) (a .first) (a .second) (a .value))) (state q (a .l1d .now) (a .l2 .now) (a .ext .now))) (p-pack .pack .ensures)
+    let p-call = c .before .before .before .before .before .before .before .before .before in let p-pack = p-call .before .before .before .before .before .before in
+    let a = p-pack .before .before .before .before .before .before .args in let o = p-call .carry-out in
+    c .answered .ensures (o .last .1 .1 .1 .1 .1 .0) (o .last .1 .1 .1 .1 .1 .1 .0) (o .last .1 .1 .1 .1 .1 .1 .1 .0) (a .l1p .now) ∙ o .ensures .0
+    ∙ ap (λ (k : Chip). chipCalled (onData (oneCommand (command (a .code) (a .first) (a .second) (a .value)))) k) (chip-of (p-pack .pack .last .1 .0) (a .r) (p-pack .pack .ensures) (a .l1d .now) (a .l2 .now) (a .ext .now) (a .l1p .now))
 
 pub one-command-spec : {M : Type 1} → statement M
 one-command-spec =

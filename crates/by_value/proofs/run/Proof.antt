@@ -1,9 +1,9 @@
 -- `by_value::run` meets its contract: the words stand for the record before and after (pack, unpack), and the run on
--- them is that of paper 01.
-use Rattle.model.specs.Records.{state}
-use Rattle.model.specs.declared.Record.{Record}
+-- them is that of the chip.
 use mathlib.Core.Path.{ap, _∙_}
-use Rattle.model.specs.Calls.{ran, runCall}
+use Rattle.program.specs.Fetches.{Chip}
+use Rattle.program.specs.Runs.{chipRan, chipRunCall}
+use Rattle.by_value.specs.Called.{chip-of, of-chip}
 use borrow.Author.Needs.{needs}
 use Rattle.by_value.proofs.run.Statement.{statement}
 use Rattle.by_value.proofs.run.Tie as tie
@@ -40,13 +40,12 @@ same-length-4 c = search needs
 
 returns : tie.Need-returns
 returns c =
-    let p-run-trace = c .before .before .before .before .before .before .before .before .before .before .before in
-    let p-pack = p-run-trace .before .before .before .before .before .before .before in
-    let p-start = p-pack .before .before .before .before .before .before .before in
-    let a = p-start .args in let x = (p-run-trace .run-trace) .result in
-    ap (λ (q : Record). ran (state q ((p-run-trace .run-trace) .last .1 .1 .0) ((p-run-trace .run-trace) .last .1 .1 .1 .0) ((p-run-trace .run-trace) .last .1 .1 .1 .1 .0)) (x .consumed) (x .count) (x .stop) ((p-run-trace .run-trace) .last .1 .1 .1 .1 .1 .0)) ((c .unpack) .ensures)
-    ∙ (p-run-trace .run-trace) .ensures .0
-    ∙ ap (λ (q : Record). runCall (a .trace .now) (a .answers .now) (state q (a .l1d .now) (a .l2 .now) (a .ext .now))) ((p-pack .pack) .ensures)
+    let p-run = c .before .before .before .before .before .before .before .before .before .before .before in let p-pack = p-run .before .before .before .before .before .before .before in
+    let a = p-pack .before .before .before .before .before .before .before .before .args in let o = p-run .run-trace in let x = o .result in
+    ap (λ (k : Chip). chipRan k (x .consumed) (x .count) (x .stop) (o .last .1 .1 .1 .1 .1 .1 .0))
+    (of-chip (o .last .0) (c .unpack .result) (c .unpack .ensures) (o .last .1 .1 .0) (o .last .1 .1 .1 .0) (o .last .1 .1 .1 .1 .0) (a .l1p .now))
+    ∙ o .ensures .0
+    ∙ ap (λ (k : Chip). chipRunCall (a .trace .now) (a .answers .now) k) (chip-of (p-pack .pack .last .1 .0) (a .r) (p-pack .pack .ensures) (a .l1d .now) (a .l2 .now) (a .ext .now) (a .l1p .now))
 
 pub run-spec : {M : Type 1} → statement M
 run-spec =

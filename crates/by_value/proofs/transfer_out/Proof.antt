@@ -1,9 +1,11 @@
 -- `by_value::transfer_out` meets its contract: the words stand for the record before and after (pack, answered).
-use Rattle.model.specs.Records.{state}
-use Rattle.model.specs.declared.Record.{Record}
-use Rattle.model.specs.Calls.{Reply, transferOut, called}
-use Rattle.calls.specs.Handed.{withBytes}
 use mathlib.Core.Path.{ap, _∙_}
+use Rattle.model.specs.Calls.{transferOut}
+use Rattle.program.specs.Chip.{onData, chipCalled}
+use Rattle.program.specs.Fetches.{Chip}
+use Rattle.by_value.specs.Called.{chip-of}
+use Rattle.program.specs.Fetches.{ChipReply}
+use Rattle.chip_answers.specs.Told.{withChipBytes}
 use borrow.Author.Needs.{needs}
 use Rattle.by_value.proofs.transfer_out.Statement.{statement}
 use Rattle.by_value.proofs.transfer_out.Tie as tie
@@ -40,9 +42,10 @@ same-length-4 c = search needs
 
 returns : tie.Need-returns
 returns c =
-    let p-call = c .before .before .before .before .before .before .before .before .before .before .before in let p-pack = p-call .before .before .before .before .before .before .before in let a = p-pack .before .before .before .before .before .before .args in let o = p-call .transfer-out in
-    ap (λ (q : Reply). withBytes q (o .last .1 .1 .0)) (c .answered .ensures (o .last .1 .1 .1 .0) (o .last .1 .1 .1 .1 .0) (o .last .1 .1 .1 .1 .1 .0)) ∙ o .ensures .0
-    ∙ ap (λ (q : Record). called (transferOut (a .address) (a .buffer .now)) (state q (a .l1d .now) (a .l2 .now) (a .ext .now))) (p-pack .pack .ensures)
+    let p-call = c .before .before .before .before .before .before .before .before .before .before .before in let p-pack = p-call .before .before .before .before .before .before .before in
+    let a = p-pack .before .before .before .before .before .before .before .args in let o = p-call .transfer-out in
+    ap (λ (q : ChipReply). withChipBytes q (o .last .1 .1 .0)) (c .answered .ensures (o .last .1 .1 .1 .0) (o .last .1 .1 .1 .1 .0) (o .last .1 .1 .1 .1 .1 .0) (a .l1p .now)) ∙ o .ensures .0
+    ∙ ap (λ (k : Chip). chipCalled (onData (transferOut (a .address) (a .buffer .now))) k) (chip-of (p-pack .pack .last .1 .0) (a .r) (p-pack .pack .ensures) (a .l1d .now) (a .l2 .now) (a .ext .now) (a .l1p .now))
 
 pub transfer-out-spec : {M : Type 1} → statement M
 transfer-out-spec =

@@ -1,7 +1,9 @@
 -- `by_value::view` meets its contract: the words stand for the record (pack), and the view goes by them.
-use Rattle.model.specs.declared.Record.{Record}
+use mathlib.Core.List.{[]}
 use mathlib.Core.Path.{ap, _∙_}
-use Rattle.model.specs.Calls.{viewCall}
+use Rattle.program.specs.Fetches.{Chip}
+use Rattle.program.specs.Chip.{chipView}
+use Rattle.by_value.specs.Called.{chip-of}
 use borrow.Author.Needs.{needs}
 use Rattle.by_value.proofs.view.Statement.{statement}
 use Rattle.by_value.proofs.view.Tie as tie
@@ -20,8 +22,8 @@ view-requires c κs = search needs
 
 returns : tie.Need-returns
 returns c =
-    let p-pack = c .before .before .before in let p-start = p-pack .before .before .before .before in
-    let a = p-start .args in (c .view) .ensures ∙ ap (λ (q : Record). viewCall q (a .l2 .now) (a .ext .now) (a .address)) ((p-pack .pack) .ensures)
+    let p-pack = c .before .before .before in let a = p-pack .before .before .before .before .args in
+    c .view .ensures ∙ ap (λ (k : Chip). chipView (a .address) k .bytes) (chip-of (p-pack .pack .last .1 .0) (a .r) (p-pack .pack .ensures) [] (a .l2 .now) (a .ext .now) [])
 
 pub view-spec : {M : Type 1} → statement M
 view-spec =

@@ -2,9 +2,6 @@
 use borrow.Author.Needs.{needs}
 use Rattle.c_answers.proofs.answer_for_c.Statement.{statement}
 use Rattle.c_answers.proofs.answer_for_c.Tie as tie
-use Rattle.c_answers.proofs.answer_for_c.Reads as reads
-use Rattle.c_answers.proofs.answer_for_c.Lts as lts
-use Rattle.c_answers.proofs.left_for_c.Reads as left-for-c-reads
 
 left-for-c-requires : tie.Need-left-for-c-requires
 left-for-c-requires c κs = search needs

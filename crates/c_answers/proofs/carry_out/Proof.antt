@@ -1,14 +1,9 @@
--- A command with its answer for C. Why: `tells` joins the contract of calls::carry_out to that of `answer_for_c`;
--- the number is the same in both answers, so a refused command leaves the words as calls says.
-use Rattle.c_answers.specs.Told.{tells, refuses}
+-- `c_answers::carry_out` meets its contract: the call's answer, told to C (`tells`), whose number is the same.
 use mathlib.Core.Path.{_∙_}
+use Rattle.c_answers.specs.Told.{tells, refuses}
 use borrow.Author.Needs.{needs}
 use Rattle.c_answers.proofs.carry_out.Statement.{statement}
 use Rattle.c_answers.proofs.carry_out.Tie as tie
-use Rattle.c_answers.proofs.carry_out.Reads as reads
-use Rattle.c_answers.proofs.carry_out.Lts as lts
-use Rattle.c_answers.proofs.answer_for_c.Reads as answer-for-c-reads
-use Rattle.calls.proofs.carry_out.Reads as carry-out-reads
 
 carry-out-requires : tie.Need-carry-out-requires
 carry-out-requires c κs = search needs
@@ -30,9 +25,8 @@ same-length-4 c = search needs
 
 returns : tie.Need-returns
 returns c =
-    let p-carry-out = c .before .before .before .before .before .before .before .before .before in
-    let x = (p-carry-out .carry-out) in let e = (c .answer-for-c) .ensures in
-    (tells (x .result) ((c .answer-for-c) .result) _ _ e (x .ensures .0), λ n. x .ensures .1 (λ z. n (refuses (x .result) ((c .answer-for-c) .result) e ∙ z)))
+    let x = c .before .before .before .before .before .before .before .before .before .carry-out in let r = c .answer-for-c .result in let e = c .answer-for-c .ensures in
+    (tells (x .result) r _ _ e (x .ensures .0), λ n. x .ensures .1 (λ z. n (refuses (x .result) r e ∙ z)))
 
 pub carry-out-spec : {M : Type 1} → statement M
 carry-out-spec =

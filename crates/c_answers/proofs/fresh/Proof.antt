@@ -1,12 +1,8 @@
--- A fresh start with its answer for C: `tells` joins the contract of calls::fresh to that of `answer_for_c`.
+-- `c_answers::fresh` meets its contract: the call's answer, told to C (`tells`), whose number is the same.
 use Rattle.c_answers.specs.Told.{tells}
 use borrow.Author.Needs.{needs}
 use Rattle.c_answers.proofs.fresh.Statement.{statement}
 use Rattle.c_answers.proofs.fresh.Tie as tie
-use Rattle.c_answers.proofs.fresh.Reads as reads
-use Rattle.c_answers.proofs.fresh.Lts as lts
-use Rattle.c_answers.proofs.answer_for_c.Reads as answer-for-c-reads
-use Rattle.calls.proofs.fresh.Reads as fresh-reads
 
 fresh-requires : tie.Need-fresh-requires
 fresh-requires c κs = search needs
@@ -26,11 +22,13 @@ same-length-3 c = search needs
 same-length-4 : tie.Need-same-length-4
 same-length-4 c = search needs
 
+same-length-5 : tie.Need-same-length-5
+same-length-5 c = search needs
+
 returns : tie.Need-returns
 returns c =
-    let p-fresh = c .before .before .before .before .before .before .before .before .before in
-    let x = (p-fresh .fresh) in let e = (c .answer-for-c) .ensures in
-    tells (x .result) ((c .answer-for-c) .result) _ _ e (x .ensures)
+    let x = c .before .before .before .before .before .before .before .before .before .before .before .fresh in let r = c .answer-for-c .result in let e = c .answer-for-c .ensures in
+    tells (x .result) r _ _ e (x .ensures)
 
 pub fresh-spec : {M : Type 1} → statement M
 fresh-spec =
@@ -42,4 +40,5 @@ fresh-spec =
     same-length-2
     same-length-3
     same-length-4
+    same-length-5
     returns)

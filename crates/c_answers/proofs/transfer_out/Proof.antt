@@ -1,6 +1,6 @@
 -- `c_answers::transfer_out` meets its contract: the call's answer, told to C, and its bytes.
-use Rattle.c_answers.specs.Told.{tells-bytes, refuses}
 use mathlib.Core.Path.{_∙_}
+use Rattle.c_answers.specs.Told.{tells-bytes, refuses}
 use borrow.Author.Needs.{needs}
 use Rattle.c_answers.proofs.transfer_out.Statement.{statement}
 use Rattle.c_answers.proofs.transfer_out.Tie as tie
@@ -28,8 +28,7 @@ same-length-5 c = search needs
 
 returns : tie.Need-returns
 returns c =
-    let x = c .before .before .before .before .before .before .before .before .before .before .before .transfer-out in let r = c .answer-for-c .result in
-    let e = c .answer-for-c .ensures in
+    let x = c .before .before .before .before .before .before .before .before .before .before .before .transfer-out in let r = c .answer-for-c .result in let e = c .answer-for-c .ensures in
     let t = tells-bytes (x .result) r _ _ _ e (x .ensures .0) in
     (t .0, (t .1, λ n. x .ensures .1 (λ z. n (refuses (x .result) r e ∙ z))))
 

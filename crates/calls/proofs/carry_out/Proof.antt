@@ -1,18 +1,27 @@
 -- `calls::carry_out` meets its contract: the checks, then the one step of the loop. Assumes nothing.
-use Rattle.tags.specs.Words.{recordIn}
-use Rattle.model.specs.Records.{state}
+use Prim.Native.Nat.{ℕ, _≤_}
 use mathlib.Core.Path.{refl, ap, _∙_}
-use Rattle.calls.specs.Done.{call-refused, call-done}
-use Rattle.access.specs.Serving.{answerOf}
-use Rattle.model.specs.Calls.{call}
+use native.Mathlib.Omega.{arith}
+use lib.ListN.{length-replicate}
+use Rattle.model.specs.Calls.{oneCommand}
 use Rattle.model.specs.Trace.{command}
 use Rattle.model.specs.declared.Command.{Command}
-use lib.ListN.{length-replicate}
-use native.Mathlib.Omega.{arith}
-use Prim.Native.Nat.{ℕ, _≤_}
+use Rattle.access.specs.declared.Answer.{Answer}
+use Rattle.program.specs.Fetches.{Chip}
+use Rattle.program.specs.Chip.{onData, chipCalled}
+use Rattle.l1p_tags.specs.Lines.{chipIn}
+use Rattle.chip_answers.specs.Told.{chipAnswerOf}
+use Rattle.calls.specs.Done.{command-refused, command-done}
 use borrow.Author.Needs.{needs}
 use Rattle.calls.proofs.carry_out.Statement.{statement}
 use Rattle.calls.proofs.carry_out.Tie as tie
+
+-- ---- the way back: the arguments, and the chip that was lent
+abbrev at-start : tie.After-lent-due → tie.Start
+at-start c = c .before .before .before .before .before .before .before .before .before .before
+
+abbrev chipAt : tie.After-lent-due → Chip
+chipAt c = let a = at-start c .args in chipIn (a .words .now) (a .l1d .now) (a .l2 .now) (a .ext .now) (a .l1p .now)
 
 lent-due-requires : tie.Need-lent-due-requires
 lent-due-requires c κs = search needs
@@ -34,10 +43,11 @@ same-length-4 c = search needs
 
 returns : tie.Need-returns
 returns c =
-    let p-start = c .before .before .before .before .before .before .before .before .before .before .before in
-    let a = p-start .args in let z = state (recordIn (a .tags .now)) (a .l1d .now) (a .l2 .now) (a .ext .now) in
-    let asks = command (a .code) (a .first) (a .second) (a .value) in
-    rw ((c .numbered) .ensures) (call-refused z ((c .before .before .lent-due) .result) ((c .before .before .lent-due) .ensures) asks ((c .before .if1) .taken), λ _. refl)
+    let p-due = c .before .before in let a = at-start p-due .args in let x = chipAt p-due in let o = p-due .lent-due in (
+      ap (λ (y : Answer). chipAnswerOf y x) (c .numbered .ensures)
+          ∙ command-refused x (o .result) (o .ensures) (command (a .code) (a .first) (a .second) (a .value)) (c .before .if1 .taken),
+      λ _. refl,
+    )
 
 command-of-requires : tie.Need-command-of-requires
 command-of-requires c κs = search needs
@@ -66,15 +76,12 @@ same-length-8 c = search needs
 returns-2 : tie.Need-returns-2
 returns-2 c =
     let p-run = c .before .before .before .before .before .before .before .before .before .before in
-    let p-command-of = p-run .before .before .before .before .before .before .before in
-    let p-if1 = p-command-of .before in let p-lent-due = p-if1 .before in
-    let p-start = p-lent-due .before .before .before .before .before .before .before .before .before in
-    let a = p-start .args in let z = state (recordIn (a .tags .now)) (a .l1d .now) (a .l2 .now) (a .ext .now) in
-    let q = (p-run .run) .result in let y = state (recordIn ((p-run .run) .last .0)) ((p-run .run) .last .1 .1 .1 .1 .0) ((p-run .run) .last .1 .1 .1 .1 .1 .0) ((p-run .run) .last .1 .1 .1 .1 .1 .1 .0) in
-    let room : 10 ≤ 10 = omega arith in (
-      call-done z ((p-lent-due .lent-due) .result) ((p-lent-due .lent-due) .ensures) ((p-command-of .command-of) .result) (answerOf (q .last) y) ((p-if1 .if1) .left)
-          ((p-run .run) .ensures .0 refl (rw (length-replicate {A = ℕ} 10 0) room)) ∙ ap (λ (k : Command). call k z) ((p-command-of .command-of) .ensures),
-      (p-run .run) .ensures .1 .0 refl,
+    let p-of = p-run .before .before .before .before .before .before .before in let p-if1 = p-of .before in let p-due = p-if1 .before in
+    let x = chipAt p-due in let o = p-due .lent-due in let r = p-run .run in let bs = at-start p-due .args .l1p .now in let room : 10 ≤ 10 = omega arith in (
+      command-done x (o .result) (o .ensures) (p-of .command-of .result)
+          (chipAnswerOf (r .result .last) (chipIn (r .last .0) (r .last .1 .1 .1 .1 .0) (r .last .1 .1 .1 .1 .1 .0) (r .last .1 .1 .1 .1 .1 .1 .0) bs)) (p-if1 .if1 .left)
+          (r .ensures .1 .0 refl (rw (length-replicate {A = ℕ} 10 0) room) (at-start p-due .pre) bs) ∙ ap (λ (k : Command). chipCalled (onData (oneCommand k)) x) (p-of .command-of .ensures),
+      r .ensures .1 .1 .0 refl,
     )
 
 pub carry-out-spec : {M : Type 1} → statement M

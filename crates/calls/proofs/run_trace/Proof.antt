@@ -1,9 +1,8 @@
 -- `calls::run_trace` meets its contract: the checks, then the loop over the trace. Assumes nothing.
-use Rattle.tags.specs.Words.{recordIn}
-use Rattle.model.specs.Records.{state}
 use mathlib.Core.Path.{refl, sym, _∙_}
+use Rattle.program.specs.Runs.{chipRan}
+use Rattle.l1p_tags.specs.Lines.{chipIn}
 use Rattle.calls.specs.Done.{run-refused, run-done}
-use Rattle.model.specs.Calls.{ran}
 use borrow.Author.Needs.{needs}
 use Rattle.calls.proofs.run_trace.Statement.{statement}
 use Rattle.calls.proofs.run_trace.Tie as tie
@@ -25,9 +24,8 @@ same-length-4 c = search needs
 
 returns : tie.Need-returns
 returns c =
-    let p-start = c .before .before .before .before .before .before .before .before .before .before .before .before in
-    let a = p-start .args in let z = state (recordIn (a .tags .now)) (a .l1d .now) (a .l2 .now) (a .ext .now) in
-    (run-refused z ((c .before .lent-due) .result) ((c .before .lent-due) .ensures) (a .trace .now) (a .answers .now) ((c .if1) .taken), λ _. refl)
+    let p-due = c .before in let a = p-due .before .before .before .before .before .before .before .before .before .before .before .before .args in let x = chipIn (a .words .now) (a .l1d .now) (a .l2 .now) (a .ext .now) (a .l1p .now) in
+    (run-refused x (p-due .lent-due .result) (p-due .lent-due .ensures) (a .trace .now) (a .answers .now) (c .if1 .taken), λ _. refl)
 
 command-of-requires : tie.Need-command-of-requires
 command-of-requires c κs = search needs
@@ -53,13 +51,12 @@ same-length-9 c = search needs
 returns-2 : tie.Need-returns-2
 returns-2 c =
     let p-run = c .before .before .before .before .before .before .before .before .before .before in
-    let p-if1 = p-run .before .before .before .before .before .before .before in let p-lent-due = p-if1 .before in
-    let p-start = p-lent-due .before .before .before .before .before .before .before .before .before .before .before in
-    let a = p-start .args in let z = state (recordIn (a .tags .now)) (a .l1d .now) (a .l2 .now) (a .ext .now) in
-    let q = (p-run .run) .result in let y = state (recordIn ((p-run .run) .last .0)) ((p-run .run) .last .1 .1 .1 .1 .0) ((p-run .run) .last .1 .1 .1 .1 .1 .0) ((p-run .run) .last .1 .1 .1 .1 .1 .1 .0) in (
-      run-done z ((p-lent-due .lent-due) .result) ((p-lent-due .lent-due) .ensures) (a .trace .now) (a .answers .now) (ran y (q .consumed) (q .count) (q .stop) ((p-run .run) .last .1 .1 .1 .1 .1 .1 .1 .0)) ((p-if1 .if1) .left)
-          ((p-run .run) .ensures .1 .1 .0 refl),
-      λ n. absurd (n (sym ((p-lent-due .lent-due) .ensures) ∙ (p-if1 .if1) .left)),
+    let p-if1 = p-run .before .before .before .before .before .before .before in let p-due = p-if1 .before in
+    let a = p-due .before .before .before .before .before .before .before .before .before .before .before .before .args in let x = chipIn (a .words .now) (a .l1d .now) (a .l2 .now) (a .ext .now) (a .l1p .now) in let r = p-run .run in let q = r .result in
+    let k = chipIn (r .last .0) (r .last .1 .1 .1 .1 .0) (r .last .1 .1 .1 .1 .1 .0) (r .last .1 .1 .1 .1 .1 .1 .0) (a .l1p .now) in (
+      run-done x (p-due .lent-due .result) (p-due .lent-due .ensures) (a .trace .now) (a .answers .now) (chipRan k (q .consumed) (q .count) (q .stop) (r .last .1 .1 .1 .1 .1 .1 .1 .0)) (p-if1 .if1 .left)
+          (r .ensures .1 .1 .1 .0 refl (p-due .before .before .before .before .before .before .before .before .before .before .before .before .pre) (a .l1p .now)),
+      λ n. absurd (n (sym (p-due .lent-due .ensures) ∙ p-if1 .if1 .left)),
     )
 
 pub run-trace-spec : {M : Type 1} → statement M

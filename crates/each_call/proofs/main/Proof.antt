@@ -3,19 +3,12 @@ use Prim.Native.Nat.{_≤_, _-_}
 use borrow.Author.Needs.{needs}
 use Rattle.each_call.proofs.main.Statement.{statement}
 use Rattle.each_call.proofs.main.Tie as tie
-use Rattle.each_call.proofs.main.Reads as reads
-use Rattle.each_call.proofs.main.Lts as lts
-use Rattle.by_value.proofs.fresh.Reads as fresh-reads
-use Rattle.each_call.proofs.one.Reads as one-reads
-use Rattle.each_call.proofs.run_over.Reads as run-over-reads
-use Rattle.each_call.proofs.told.Reads as told-reads
-use Rattle.io.proofs.large_buffer.Reads as large-buffer-reads
 
 abbrev Inv-loop : tie.InvT-loop
-Inv-loop l1d₀ l2₀ ext₀ r₀ list k₀ l1d l2 ext r k = k ≤ 93
+Inv-loop l1d₀ l2₀ ext₀ l1p₀ r₀ list k₀ l1d l2 ext l1p r k = k ≤ 122
 
 abbrev μ-loop : tie.MeasureT-loop
-μ-loop l1d₀ l2₀ ext₀ r₀ list k₀ l1d l2 ext r k = 93 - k
+μ-loop l1d₀ l2₀ ext₀ l1p₀ r₀ list k₀ l1d l2 ext l1p r k = 122 - k
 
 large-buffer-requires : tie.Need-large-buffer-requires Inv-loop μ-loop
 large-buffer-requires c κs = search needs
@@ -31,6 +24,9 @@ slice-aggregate-fresh-2 c = search needs
 
 slice-aggregate-fresh-3 : tie.Need-slice-aggregate-fresh-3 Inv-loop μ-loop
 slice-aggregate-fresh-3 c = search needs
+
+slice-aggregate-fresh-4 : tie.Need-slice-aggregate-fresh-4 Inv-loop μ-loop
+slice-aggregate-fresh-4 c = search needs
 
 fresh-requires : tie.Need-fresh-requires Inv-loop μ-loop
 fresh-requires c κs = search needs
@@ -106,6 +102,7 @@ main-spec =
     slice-aggregate-fresh
     slice-aggregate-fresh-2
     slice-aggregate-fresh-3
+    slice-aggregate-fresh-4
     fresh-requires
     told-requires
     loop-holds

@@ -11,10 +11,10 @@ use Rattle.each_call.proofs.wide.Reads as wide-reads
 use Rattle.memory.proofs.load8.Reads as load8-reads
 
 abbrev Inv-loop : tie.InvT-loop
-Inv-loop l1d l2 ext answers k₀ k = k ≤ 6
+Inv-loop l1d l2 ext l1p answers k₀ k = k ≤ 6
 
 abbrev μ-loop : tie.MeasureT-loop
-μ-loop l1d l2 ext answers k₀ k = 6 - k
+μ-loop l1d l2 ext l1p answers k₀ k = 6 - k
 
 slice-aggregate-run : tie.Need-slice-aggregate-run Inv-loop μ-loop
 slice-aggregate-run c = search needs

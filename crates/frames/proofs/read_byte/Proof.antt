@@ -35,7 +35,7 @@ same-length-4 c = search needs
 returns : tie.Need-returns
 returns c =
     let p-run = c .before .before .before .before .before .before .before .before .before .before in
-    let room : 10 ≤ 10 = omega arith in let e = p-run .run .ensures .0 refl (rw (length-replicate {A = ℕ} 10 0) room) in
+    let room : 10 ≤ 10 = omega arith in let e = p-run .run .ensures .0 refl (rw (length-replicate {A = ℕ} 10 0) room) (p-run .before .before .before .before .before .before .before .before .before .before .before .pre) in
     (ap (λ (x : Reply). x .value % 256) e, ap (λ (x : Reply). x .next) e)
 
 pub read-byte-spec : {M : Type 1} → statement M

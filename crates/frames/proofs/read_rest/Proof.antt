@@ -35,7 +35,7 @@ same-length-5 c = c .before .before .before .before .before .before .before .bef
 returns : tie.Need-returns
 returns c =
     let p-run = c .before .before .before .before .before .before .before .before .before .before in let p-start = p-run .before .before .before .before .before .before .before .before .before .before .before .before in let long = p-start .pre .1 .1 in
-    let e = p-run .run .ensures .1 .1 .1 (omega arith) (omega arith) in
+    let e = p-run .run .ensures .1 .1 .1 .1 (omega arith) (omega arith) (p-start .pre .0) in
     (ap (λ (r : Run). r .next) e, ap (λ (r : Run). r .answers) e)
 
 pub read-rest-spec : {M : Type 1} → statement M

@@ -33,7 +33,7 @@ same-length-4 c = c .before .before .before .before .before .before .before .bef
 returns : tie.Need-returns
 returns c =
     let p-run = c .before .before .before .before .before .before .before .before .before in let room : 10 ≤ 10 = omega arith in
-    ap (λ (r : Reply). r .next) (p-run .run .ensures .0 refl (rw (length-replicate {A = ℕ} 10 0) room))
+    ap (λ (r : Reply). r .next) (p-run .run .ensures .0 refl (rw (length-replicate {A = ℕ} 10 0) room) (p-run .before .before .before .before .before .before .before .before .before .before .before .pre))
 
 pub send-home-spec : {M : Type 1} → statement M
 send-home-spec =

@@ -41,7 +41,7 @@ returns c =
     let z = state (recordIn (a .tags .now)) (a .l1d .now) (a .l2 .now) (a .ext .now) in
     let y = state (recordIn (r .last .0)) (r .last .1 .1 .1 .1 .0) (r .last .1 .1 .1 .1 .1 .0) (r .last .1 .1 .1 .1 .1 .1 .0) in
     let room : 10 ≤ 10 = omega arith in
-    let e = r .ensures .0 refl (rw (length-replicate {A = ℕ} 10 0) room) in (
+    let e = r .ensures .0 refl (rw (length-replicate {A = ℕ} 10 0) room) (p-start .pre .0) in (
       e,
       answer-small (a .code) (a .address) (a .value) z y (r .result .last) e
           (λ i. omega (arith, p-known6 .slice-known6 .given i)) (λ i. omega (arith, p-known7 .slice-known7 .given i)) (λ i. omega (arith, p-known8 .slice-known8 .given i)),

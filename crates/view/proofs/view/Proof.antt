@@ -1,13 +1,15 @@
 -- `view::view` meets its contract: empty where a number is due; else the 64 bytes at the address, of external memory
 -- (Then2) or of SRAM (Else2).
-use Rattle.view.specs.Seen.{Seen, view-refused, view-sram, view-external, view-tells, is-low, is-high}
+use Rattle.view.specs.Seen.{Seen, view-refused, view-sram, view-external, view-seen, is-low, is-high}
 use Rattle.tags.specs.Words.{recordIn}
 use Rattle.model.specs.Memories.{externalBase}
-use Rattle.model.specs.Refusals.{viewDue}
+use Rattle.program.specs.Chip.{chipViewDue}
+use Rattle.l1p_tags.specs.Lines.{linesIn, chipIn}
 use Prim.Native.Nat.{_≤_, _<_}
 use native.Mathlib.Omega.{arith}
 use mathlib.Core.Path.{_≡_, sym, ap, _∙_}
 use mathlib.Core.Bool.{not}
+use mathlib.Core.List.{[]}
 use borrow.Author.Needs.{needs}
 use Rattle.view.proofs.view.Statement.{statement}
 use Rattle.view.proofs.view.Tie as tie
@@ -17,13 +19,13 @@ abbrev at-start : tie.After-view-due → tie.Start
 at-start c = c .before .before .before .before
 
 -- ---- behind the checks: no number is due, so that the bytes are there
-accepted : (c : tie.Else1) → let a = at-start (c .before) .args in viewDue (recordIn (a .tags .now)) (a .l2 .now) (a .ext .now) (a .address) ≡ 0
+accepted : (c : tie.Else1) → let a = at-start (c .before) .args in chipViewDue (a .address) (chipIn (a .words .now) [] (a .l2 .now) (a .ext .now) []) ≡ 0
 accepted c = sym (c .before .view-due .ensures) ∙ c .if1 .left
 
 seen : (c : tie.Else1) → let a = at-start (c .before) .args in Seen (a .l2 .now) (a .ext .now) (a .address)
 seen c =
     let a = at-start (c .before) .args in
-    view-tells (recordIn (a .tags .now)) (a .l2 .now) (a .ext .now) (a .address) (accepted c)
+    view-seen (recordIn (a .words .now)) (linesIn (a .words .now)) (a .l2 .now) (a .ext .now) (a .address) (accepted c)
 
 -- ---- by the test of the address
 external : (c : tie.Then2) → let a = at-start (c .before .before .before) .args in externalBase ≤ a .address
@@ -43,7 +45,7 @@ returns : tie.Need-returns
 returns c =
     let p-view-due = c .before .before in
     let a = at-start p-view-due .args in
-    view-refused (recordIn (a .tags .now)) (a .l2 .now) (a .ext .now) (a .address) (λ e. c .before .if1 .taken (p-view-due .view-due .ensures ∙ e))
+    view-refused (recordIn (a .words .now)) (linesIn (a .words .now)) (a .l2 .now) (a .ext .now) (a .address) (λ e. c .before .if1 .taken (p-view-due .view-due .ensures ∙ e))
 
 is-external-requires : tie.Need-is-external-requires
 is-external-requires c κs = search needs
@@ -72,7 +74,7 @@ returns-2 c =
     let p-if2 = p-external-place .before in
     let p-if1 = p-if2 .before .before in
     let a = at-start (p-if1 .before) .args in
-    view-external (recordIn (a .tags .now)) (a .l2 .now) (a .ext .now) (a .address) (accepted p-if1) (external p-if2)
+    view-external (recordIn (a .words .now)) (linesIn (a .words .now)) (a .l2 .now) (a .ext .now) (a .address) (accepted p-if1) (external p-if2)
     (p-external-place .external-place .result) (p-external-place .external-place .ensures .0)
 
 place-of-requires : tie.Need-place-of-requires
@@ -100,7 +102,7 @@ returns-3 c =
     let p-if1 = p-if2 .before .before in
     let a = at-start (p-if1 .before) .args in
     rw (p-place-of .place-of .ensures .0)
-    (view-sram (recordIn (a .tags .now)) (a .l2 .now) (a .ext .now) (a .address) (accepted p-if1) (in-sram p-if2))
+    (view-sram (recordIn (a .words .now)) (linesIn (a .words .now)) (a .l2 .now) (a .ext .now) (a .address) (accepted p-if1) (in-sram p-if2))
 
 pub view-spec : {M : Type 1} → statement M
 view-spec =

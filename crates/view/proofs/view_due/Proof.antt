@@ -1,126 +1,67 @@
--- `view::view_due` meets its contract: the tests in the order of their numbers. Each return is a law of specs/Due
--- over what the tests before it said.
-use Rattle.view.specs.Due.{Legal, Accepted, view-one, view-two, view-four, view-last}
+-- `view::view_due` meets its contract: the numbers in their order, of the memories and the record, of L1P's lines, of
+-- the address. The data side's words are lent as a part, whose record is that of all words (`lent-record`).
+use Rattle.view.specs.Due.{placeDue, due-lent, due-lines, due-place}
+use Rattle.model.specs.Refusals.{viewLentDue}
+use Rattle.model.specs.declared.Record.{Record}
 use Rattle.tags.specs.Words.{recordIn}
-use Rattle.model.specs.Memories.{sramLength}
-use Rattle.model.specs.Refusals.{unless, viewDue}
-use mathlib.Core.Path.{_≡_, refl, sym, _∙_}
+use Rattle.l1p_tags.specs.Lines.{linesIn}
+use Rattle.l1p_tags.specs.Lines.{lent-record, lent-length}
+use mathlib.Core.Path.{_≡_, sym, ap, _∙_}
 use borrow.Author.Needs.{needs}
 use Rattle.view.proofs.view_due.Statement.{statement}
 use Rattle.view.proofs.view_due.Tie as tie
 
--- the number by the last test, of the place
-by-place : (c : tie.After-place-ok) →
-    let a = c .before .before .before .before .before .before .before .before .before .before .before .before .before .before .before .before .before .args in
-    viewDue (recordIn (a .tags .now)) (a .l2 .now) (a .ext .now) (a .address) ≡ unless (c .place-ok .result) 5
-by-place c =
-    let p-l2len-of2 = c .before .before .before in let p-if3 = p-l2len-of2 .before in let p-if2 = p-if3 .before in
-    let p-well-formed = p-if2 .before in let p-if1 = p-well-formed .before in let p-wide2 = p-if1 .before in
-    let p-legal-external = p-wide2 .before in let p-wide = p-legal-external .before in
-    let p-l2len-of = p-wide .before in let p-legal-l2 = p-l2len-of .before in
-    let p-extlen-of = p-legal-l2 .before in let p-start = p-extlen-of .before .before .before .before in
-    let a = p-start .args in
-    let k : Legal (recordIn (a .tags .now)) (a .l2 .now) (a .ext .now) ((p-legal-l2 .legal-l2) .result) ((p-legal-external .legal-external) .result) ((p-wide .wide) .result) ((p-wide2 .wide2) .result) =
-    record { l2 = (p-legal-l2 .legal-l2) .ensures; ext = (p-legal-external .legal-external) .ensures; sized = (p-wide .wide) .ensures ∙ (p-l2len-of .l2len-of) .ensures; extSized = (p-wide2 .wide2) .ensures ∙ (p-extlen-of .extlen-of) .ensures } in
-    let y : Accepted (recordIn (a .tags .now)) (a .l2 .now) (a .ext .now) ((p-legal-l2 .legal-l2) .result) ((p-legal-external .legal-external) .result) ((p-wide .wide) .result) ((p-wide2 .wide2) .result) =
-    record { legal = k; lent = (p-if1 .if1) .taken; formed = sym ((p-well-formed .well-formed) .ensures) ∙ (p-if2 .if2) .taken } in
-    view-last y (a .address) ((p-if3 .if3) .taken) ((c .before .sram-length) .result) ((p-extlen-of .extlen-of) .result)
-    ((c .before .sram-length) .ensures ∙ (λ i. sramLength ((p-l2len-of2 .l2len-of2) .ensures i) ((c .before .before .mode-of) .ensures i))) ((p-extlen-of .extlen-of) .ensures) ((c .place-ok) .result) ((c .place-ok) .ensures)
+-- ---- the way back to the arguments, and the first number
+abbrev at-start : tie.After-lent-due → tie.Start
+at-start c = c .before .before .before .before .before
 
-extlen-of-requires : tie.Need-extlen-of-requires
-extlen-of-requires c κs = search needs
+lent : (c : tie.After-lent-due) → let a = at-start c .args in c .lent-due .result ≡ viewLentDue (recordIn (a .words .now)) (a .l2 .now) (a .ext .now)
+lent c = let a = at-start c .args in c .lent-due .ensures ∙ ap (λ (r : Record). viewLentDue r (a .l2 .now) (a .ext .now)) (lent-record (a .words .now))
 
-legal-l2-requires : tie.Need-legal-l2-requires
-legal-l2-requires c κs = search needs
+-- ---- the needs
+slice-aggregate-lent-due : tie.Need-slice-aggregate-lent-due
+slice-aggregate-lent-due c = let p = c .before .before .before .before in sym (lent-length (p .args .words .now) (p .pre))
 
-l2len-of-requires : tie.Need-l2len-of-requires
-l2len-of-requires c κs = search needs
-
-wide-requires : tie.Need-wide-requires
-wide-requires c κs = search needs
-
-legal-external-requires : tie.Need-legal-external-requires
-legal-external-requires c κs = search needs
-
-wide-requires-2 : tie.Need-wide-requires-2
-wide-requires-2 c κs = search needs
+lent-due-requires : tie.Need-lent-due-requires
+lent-due-requires c κs = let p = c .before .before .before .before in lent-length (p .args .words .now) (p .pre)
 
 returns : tie.Need-returns
 returns c =
-    let p-wide = c .before .before .before in let p-l2len-of = p-wide .before in
-    let p-legal-l2 = p-l2len-of .before in let p-extlen-of = p-legal-l2 .before in
-    let p-start = p-extlen-of .before .before .before .before in
-    let a = p-start .args in
-    let k : Legal (recordIn (a .tags .now)) (a .l2 .now) (a .ext .now) ((p-legal-l2 .legal-l2) .result) ((c .before .before .legal-external) .result) ((p-wide .wide) .result) ((c .before .wide2) .result) =
-    record { l2 = (p-legal-l2 .legal-l2) .ensures; ext = (c .before .before .legal-external) .ensures; sized = (p-wide .wide) .ensures ∙ (p-l2len-of .l2len-of) .ensures; extSized = (c .before .wide2) .ensures ∙ (p-extlen-of .extlen-of) .ensures } in
-    view-one k (a .address) ((c .if1) .left)
+    let p-lent = c .before in let a = at-start p-lent .args in
+    due-lent (recordIn (a .words .now)) (linesIn (a .words .now)) (a .l2 .now) (a .ext .now) (a .address) (p-lent .lent-due .result) (lent p-lent) (c .if1 .taken)
 
-well-formed-requires : tie.Need-well-formed-requires
-well-formed-requires c κs = search needs
+lines-ok-requires : tie.Need-lines-ok-requires
+lines-ok-requires c κs = search needs
 
 returns-2 : tie.Need-returns-2
 returns-2 c =
-    let p-wide2 = c .before .before .before in let p-legal-external = p-wide2 .before in
-    let p-wide = p-legal-external .before in let p-l2len-of = p-wide .before in
-    let p-legal-l2 = p-l2len-of .before in let p-extlen-of = p-legal-l2 .before in
-    let p-start = p-extlen-of .before .before .before .before in
-    let a = p-start .args in
-    let k : Legal (recordIn (a .tags .now)) (a .l2 .now) (a .ext .now) ((p-legal-l2 .legal-l2) .result) ((p-legal-external .legal-external) .result) ((p-wide .wide) .result) ((p-wide2 .wide2) .result) =
-    record { l2 = (p-legal-l2 .legal-l2) .ensures; ext = (p-legal-external .legal-external) .ensures; sized = (p-wide .wide) .ensures ∙ (p-l2len-of .l2len-of) .ensures; extSized = (p-wide2 .wide2) .ensures ∙ (p-extlen-of .extlen-of) .ensures } in
-    view-two k (a .address) ((c .before .before .if1) .taken) (sym ((c .before .well-formed) .ensures) ∙ (c .if2) .left)
+    let p-lines = c .before in let p-if1 = p-lines .before in let p-lent = p-if1 .before in let a = at-start p-lent .args in
+    due-lines (recordIn (a .words .now)) (linesIn (a .words .now)) (a .l2 .now) (a .ext .now) (a .address) (p-lent .lent-due .result) (lent p-lent) (p-if1 .if1 .left)
+    (p-lines .lines-ok .result) (p-lines .lines-ok .ensures) (c .if2 .left)
 
-l2len-of-requires-2 : tie.Need-l2len-of-requires-2
-l2len-of-requires-2 c κs = search needs
+slice-aggregate-place-due : tie.Need-slice-aggregate-place-due
+slice-aggregate-place-due c = let p = at-start (c .before .before .before .before) in sym (lent-length (p .args .words .now) (p .pre))
 
-mode-of-requires : tie.Need-mode-of-requires
-mode-of-requires c κs = search needs
-
-cast-sram-length : tie.Need-cast-sram-length
-cast-sram-length c = search needs
-
-sram-length-requires : tie.Need-sram-length-requires
-sram-length-requires c κs = search needs
-
-place-ok-requires : tie.Need-place-ok-requires
-place-ok-requires c κs = search needs
+place-due-requires : tie.Need-place-due-requires
+place-due-requires c κs = let p = at-start (c .before .before .before .before) in lent-length (p .args .words .now) (p .pre)
 
 returns-3 : tie.Need-returns-3
-returns-3 c = sym (by-place (c .before) ∙ rw (c .if4 .taken) refl)
-
-returns-4 : tie.Need-returns-4
-returns-4 c = sym (by-place (c .before) ∙ rw (c .if4 .left) refl)
-
-returns-5 : tie.Need-returns-5
-returns-5 c =
-    let p-if1 = c .before .before .before in let p-wide2 = p-if1 .before in
-    let p-legal-external = p-wide2 .before in let p-wide = p-legal-external .before in
-    let p-l2len-of = p-wide .before in let p-legal-l2 = p-l2len-of .before in
-    let p-extlen-of = p-legal-l2 .before in let p-start = p-extlen-of .before .before .before .before in
-    let a = p-start .args in
-    let k : Legal (recordIn (a .tags .now)) (a .l2 .now) (a .ext .now) ((p-legal-l2 .legal-l2) .result) ((p-legal-external .legal-external) .result) ((p-wide .wide) .result) ((p-wide2 .wide2) .result) =
-    record { l2 = (p-legal-l2 .legal-l2) .ensures; ext = (p-legal-external .legal-external) .ensures; sized = (p-wide .wide) .ensures ∙ (p-l2len-of .l2len-of) .ensures; extSized = (p-wide2 .wide2) .ensures ∙ (p-extlen-of .extlen-of) .ensures } in
-    let y : Accepted (recordIn (a .tags .now)) (a .l2 .now) (a .ext .now) ((p-legal-l2 .legal-l2) .result) ((p-legal-external .legal-external) .result) ((p-wide .wide) .result) ((p-wide2 .wide2) .result) =
-    record { legal = k; lent = (p-if1 .if1) .taken; formed = sym ((c .before .before .well-formed) .ensures) ∙ (c .before .if2) .taken } in
-    view-four y (a .address) ((c .if3) .left)
+returns-3 c =
+    let p-if2 = c .before .before in let p-lines = p-if2 .before in let p-if1 = p-lines .before in let p-lent = p-if1 .before in
+    let a = at-start p-lent .args in
+    c .place-due .ensures ∙ ap (λ (r : Record). placeDue r (a .address)) (lent-record (a .words .now))
+    ∙ due-place (recordIn (a .words .now)) (linesIn (a .words .now)) (a .l2 .now) (a .ext .now) (a .address) (p-lent .lent-due .result) (lent p-lent) (p-if1 .if1 .left)
+    (p-lines .lines-ok .result) (p-lines .lines-ok .ensures) (p-if2 .if2 .taken)
 
 pub view-due-spec : {M : Type 1} → statement M
 view-due-spec =
     tie.close
     (tie.spec
-    extlen-of-requires
-    legal-l2-requires
-    l2len-of-requires
-    wide-requires
-    legal-external-requires
-    wide-requires-2
+    slice-aggregate-lent-due
+    lent-due-requires
     returns
-    well-formed-requires
+    lines-ok-requires
     returns-2
-    l2len-of-requires-2
-    mode-of-requires
-    cast-sram-length
-    sram-length-requires
-    place-ok-requires
-    returns-3
-    returns-4
-    returns-5)
+    slice-aggregate-place-due
+    place-due-requires
+    returns-3)

@@ -1,0 +1,114 @@
+-- `camera_calls::transfer_out` meets its contract: the checks, then the transfer on the words in front, behind which
+-- L1P's stay as they were (`out-done`).
+use mathlib.Core.Path.{refl, sym, ap, _∙_}
+use mathlib.Core.List.{List, _++_}
+use Prim.Native.Nat.{ℕ}
+use lib.ListN.{drop, take-append-drop}
+use Rattle.model.specs.Calls.{transferOut}
+use Rattle.access.specs.declared.Answer.{Answer}
+use Rattle.program.specs.Fetches.{Chip}
+use Rattle.l1p_tags.specs.Lines.{chipIn, lent-length}
+use Rattle.chip_answers.specs.Told.{chipAnswerOf, withChipBytes}
+use Rattle.chip_answers.specs.Passed.{beside-refused}
+use Rattle.chip_answers.specs.Front.{front-passed}
+use Rattle.camera_calls.specs.Transfers.{out-done}
+use borrow.Author.Needs.{needs}
+use Rattle.camera_calls.proofs.transfer_out.Statement.{statement}
+use Rattle.camera_calls.proofs.transfer_out.Tie as tie
+
+-- ---- the way back: the arguments, and the chip that was lent
+abbrev at-start : tie.After-lent-due → tie.Start
+at-start c = c .before .before .before .before .before .before .before .before .before .before .before
+
+abbrev chipAt : tie.After-lent-due → Chip
+chipAt c = let a = at-start c .args in chipIn (a .words .now) (a .l1d .now) (a .l2 .now) (a .ext .now) (a .l1p .now)
+
+lent-due-requires : tie.Need-lent-due-requires
+lent-due-requires c κs = search needs
+
+numbered-requires : tie.Need-numbered-requires
+numbered-requires c κs = search needs
+
+same-length : tie.Need-same-length
+same-length c = search needs
+
+same-length-2 : tie.Need-same-length-2
+same-length-2 c = search needs
+
+same-length-3 : tie.Need-same-length-3
+same-length-3 c = search needs
+
+same-length-4 : tie.Need-same-length-4
+same-length-4 c = search needs
+
+returns : tie.Need-returns
+returns c =
+    let p-if1 = c .before in let p-lent-due = p-if1 .before in let a = at-start p-lent-due .args in let n = p-lent-due .lent-due in (
+      ap (λ (x : Answer). withChipBytes (chipAnswerOf x (chipAt p-lent-due)) (a .buffer .now)) (c .numbered .ensures)
+          ∙ beside-refused (chipAt p-lent-due) (n .result) (n .ensures) (transferOut (a .address) (a .buffer .now)) (p-if1 .if1 .taken),
+      λ _. refl,
+    )
+
+slice-relend-prefix-transfer-out : tie.Need-slice-relend-prefix-transfer-out
+slice-relend-prefix-transfer-out c = search needs
+
+slice-aggregate-transfer-out : tie.Need-slice-aggregate-transfer-out
+slice-aggregate-transfer-out c =
+    let p = c .before .before .before .before .before .before .before .before .before .before .before .before .before in sym (lent-length (p .args .words .now) (p .pre))
+
+transfer-out-requires : tie.Need-transfer-out-requires
+transfer-out-requires c κs =
+    let p-if1 = c .before .before .before .before .before in let p-lent-due = p-if1 .before in let p = at-start p-lent-due in let a = p .args in let n = p-lent-due .lent-due in (
+      lent-length (a .words .now) (p .pre),
+      front-passed (a .words .now) (a .l1d .now) (a .l2 .now) (a .ext .now) (a .l1p .now) (n .result) (n .ensures) (p-if1 .if1 .left),
+    )
+
+numbered-requires-2 : tie.Need-numbered-requires-2
+numbered-requires-2 c κs = search needs
+
+same-length-5 : tie.Need-same-length-5
+same-length-5 c = search needs
+
+same-length-6 : tie.Need-same-length-6
+same-length-6 c = search needs
+
+same-length-7 : tie.Need-same-length-7
+same-length-7 c = search needs
+
+same-length-8 : tie.Need-same-length-8
+same-length-8 c = search needs
+
+same-length-9 : tie.Need-same-length-9
+same-length-9 c = search needs
+
+returns-2 : tie.Need-returns-2
+returns-2 c =
+    let p-transfer = c .before .before .before .before .before .before .before .before .before in let p-if1 = p-transfer .before .before .before .before .before .before in let p-lent-due = p-if1 .before in
+    let p = at-start p-lent-due in let a = p .args in let n = p-lent-due .lent-due in let t = p-transfer .transfer-out in let ws = a .words .now in let vs = t .last .0 in
+    let m′ = t .last .1 .1 .1 .1 .0 in let e′ = t .last .1 .1 .1 .1 .1 .0 in let o′ = t .last .1 .1 .0 in let l = t .kept .0 ∙ lent-length ws (p .pre) in let q = c .numbered2 .ensures in (
+      ap (λ (x : Answer). withChipBytes (chipAnswerOf x (chipIn (vs ++ drop 5253 ws) (a .l1d .now) m′ e′ (a .l1p .now))) o′) q
+          ∙ out-done ws (a .l1d .now) (a .l2 .now) (a .ext .now) (a .l1p .now) (n .result) (n .ensures) (p-if1 .if1 .left) vs m′ e′ l (a .address) (a .buffer .now) (t .result) o′ (t .ensures .0),
+      λ k. ap (λ (us : List ℕ). us ++ drop 5253 ws) (t .ensures .1 (λ o. k (ap (λ (x : Answer). x .number) q ∙ o))) ∙ take-append-drop 5253 ws,
+    )
+
+pub transfer-out-spec : {M : Type 1} → statement M
+transfer-out-spec =
+    tie.close
+    (tie.spec
+    lent-due-requires
+    numbered-requires
+    same-length
+    same-length-2
+    same-length-3
+    same-length-4
+    returns
+    slice-relend-prefix-transfer-out
+    slice-aggregate-transfer-out
+    transfer-out-requires
+    numbered-requires-2
+    same-length-5
+    same-length-6
+    same-length-7
+    same-length-8
+    same-length-9
+    returns-2)
