@@ -120,7 +120,7 @@ static void clear(struct trace *t)
 
 /* ---- both sides */
 
-#define LENT(m) (m).l1d, (m).l1d_len, (m).l2, (m).l2_len, (m).ext, (m).ext_len
+#define LENT(m) (m).l1d, (m).l1d_len, (m).l2, (m).l2_len, (m).ext, (m).ext_len, (m).l1p, (m).l1p_len
 
 static c64x_answer library_call(union both *both, const struct lent *m, const struct command *q)
 {
@@ -215,6 +215,8 @@ static int same_record(const struct record *x, const struct record *y)
             if (!same_line(&x->l2[t].lines[w], &y->l2[t].lines[w])) return 0;
         if (memcmp(x->l2[t].order, y->l2[t].order, 4) != 0) return 0;
     }
+    for (int s = 0; s < 512; s++)
+        if (!same_line(&x->l1p[s].lines[0], &y->l1p[s].lines[0])) return 0;
     return 1;
 }
 
@@ -237,6 +239,7 @@ static void compare(const char *where)
     if (memcmp(lib.m.l1d, c.m.l1d, lib.m.l1d_len) != 0) differ(where, "L1D bytes");
     if (memcmp(lib.m.l2, c.m.l2, lib.m.l2_len) != 0) differ(where, "L2 bytes");
     if (memcmp(lib.m.ext, c.m.ext, lib.m.ext_len) != 0) differ(where, "external bytes");
+    if (memcmp(lib.m.l1p, c.m.l1p, lib.m.l1p_len) != 0) differ(where, "L1P bytes");
     if (lib.answers_len && memcmp(lib.answers, c.answers, lib.answers_len) != 0) differ(where, "answers");
 }
 
@@ -245,7 +248,8 @@ static void lend(struct side *s, size_t l, size_t e)
     free(s->m.l1d);
     free(s->m.l2);
     free(s->m.ext);
-    s->m = (struct lent){ room(16384), 16384, room(l), l, room(e), e };
+    free(s->m.l1p);
+    s->m = (struct lent){ room(16384), 16384, room(l), l, room(e), e, room(16384), 16384 };
 }
 
 static void fresh(const char *where, size_t l, size_t e)
@@ -401,6 +405,47 @@ static uint8_t some_frame(void)
     return same_frame("frame", (uint8_t)below(below(2) ? 2 : 256), below(8) ? C64X_FRAME_BYTES : lengths[below(6)]);
 }
 
+/* One fetch on both sides. */
+static struct fetched same_fetch(const char *where, uint32_t address)
+{
+    c64x_fetched x = c64x_fetch(&lib.r.library, address, LENT(lib.m));
+    struct fetched y = model_fetch(&c.r.model, &c.m, address);
+    compare_call(where, x.answer, y.answer, &y.report);
+    if (x.l1p_left.kind != y.l1p_left.kind || x.l1p_left.address != y.l1p_left.address) differ(where, "L1P's way");
+    if (memcmp(x.bytes, y.bytes, sizeof x.bytes) != 0) differ(where, "bytes");
+    return y;
+}
+
+/* L1P's own invalidations: of a block, or of all where the count is ALL. */
+#define ALL UINT32_MAX
+
+static c64x_answer library_l1p(uint32_t base, uint32_t count)
+{
+    c64x_record *r = &lib.r.library;
+    return count == ALL ? c64x_l1p_invalidate_all(r, LENT(lib.m))
+                        : c64x_l1p_invalidate_block(r, base, count, LENT(lib.m));
+}
+
+static struct answer model_l1p(uint32_t base, uint32_t count)
+{
+    struct record *r = &c.r.model;
+    return (struct answer){ count == ALL ? model_l1p_all(r, &c.m) : model_l1p_block(r, &c.m, base, count), 0, 0 };
+}
+
+/* A fetch from any address, or now and then an invalidation of L1P; the server of a fetch. */
+static uint8_t some_fetch(void)
+{
+    uint32_t a = some_address();
+    if (below(12) == 0) {
+        uint32_t count = below(10) ? below(below(8) ? 200 : 70000) : ALL;
+        uint32_t base = a & ~(below(20) ? 3u : 0);
+        c64x_answer x = library_l1p(base, count);
+        compare_call("L1P invalidation", x, model_l1p(base, count), &no_report);
+        return 0;
+    }
+    return same_fetch("fetch", a & ~(below(20) ? 31u : 0)).answer.server;
+}
+
 /* Writes the counts of dirty lines into a record. */
 static void count_dirty(struct record *r)
 {
@@ -417,7 +462,7 @@ static void damage(struct record *r)
     static const uint32_t steps[4] = { 64, 128, 8192, 32768 };
     struct l1d_set *s = &r->l1d[below(128)];
     struct l2_set *u = &r->l2[below(2) ? below(64) : below(512)];
-    struct line *x = below(2) ? &s->lines[below(2)] : &u->lines[below(4)];
+    struct line *x = below(2) ? &s->lines[below(2)] : below(2) ? &u->lines[below(4)] : &r->l1p[below(512)].lines[0];
     switch (below(12)) {
     case 0: ((uint8_t *)r)[below(sizeof *r)] = (uint8_t)(below(2) ? below(4) : below(256)); break;
     case 1: ((uint8_t *)r)[below(20)] = (uint8_t)(below(2) ? below(8) : below(256)); break;
@@ -457,7 +502,7 @@ static void same_checks(size_t *refused, size_t *passed)
 static void same_calls(struct trace *t)
 {
     size_t refused = 0, passed = 0, put_out[2][4] = { { 0 } }, unaligned = 0, two = 0, moved = 0, sent = 0;
-    size_t framed = 0, unframed = 0;
+    size_t framed = 0, unframed = 0, fetched[6] = { 0 };
     static const size_t ext[6] = { 128, 4096, 65536, 262144, 16777216 + 65536, 131072 };
     for (int round = 0; round < 160; round++) {
         fresh("random", 32768 * (1 + below(8)), ext[below(round % 16 ? 4 : 6)]);
@@ -507,6 +552,7 @@ static void same_calls(struct trace *t)
             moved += same_transfer(&f) == 0;
             sent += c.r.model.dirty_l1d < dirty;
             if (below(20) == 0) *(some_frame() == 0 ? &framed : &unframed) += 1;
+            for (int k = 0; k < 3; k++) fetched[some_fetch()]++;
             uint32_t seen_at = some_address() & ~(below(8) ? 63u : 0);
             size_t length = 63 + below(3);
             uint8_t seen[65] = { 0 }, seen_by_c[65] = { 0 };
@@ -528,6 +574,8 @@ static void same_calls(struct trace *t)
     printf("%zu non-aligned accesses, %zu of which had L2 fetch two lines: also the same\n", unaligned, two);
     printf("%zu transfers, %zu of which sent lines of L1D home: also the same\n", moved, sent);
     printf("%zu frames, and %zu that were refused: also the same\n", framed, unframed);
+    printf("fetches, %zu by SRAM, %zu by L2, %zu by external memory and %zu by L1P: also the same\n", fetched[2],
+           fetched[3], fetched[4], fetched[5]);
 }
 
 /* ---- the classes of a trace run */
@@ -944,6 +992,58 @@ static void frame(const char *name, size_t length, int put_back, uint8_t expecte
     row(name, &library_ns, &c_ns, 1);
 }
 
+/* Fetches of `count` lines, so many bytes apart, one after the other and round again: each meets what the one before
+   has left. Each has to be served by `server`. */
+static void fetch(const char *name, uint32_t address, uint32_t count, uint32_t apart, uint8_t server)
+{
+    static union both kept;
+    struct times library_ns = NO_TIME, c_ns = NO_TIME;
+    kept = c.r;
+    for (uint32_t i = 0; i < CALLS + count; i++) {
+        uint32_t a = address + i % count * apart;
+        double at = now();
+        c64x_fetched x = c64x_fetch(&lib.r.library, a, LENT(lib.m));
+        double until = now();
+        double from = now();
+        struct fetched y = model_fetch(&c.r.model, &c.m, a);
+        double end = now();
+        /* the first round brings the lines to where they are to be */
+        if (i >= count) {
+            if (until - at - clock_ns < library_ns.ns) library_ns.ns = until - at - clock_ns;
+            if (end - from - clock_ns < c_ns.ns) c_ns.ns = end - from - clock_ns;
+            if (y.answer.server != server) differ(name, "not the server that is expected");
+        }
+        compare_call(name, x.answer, y.answer, &y.report);
+        if (x.l1p_left.kind != y.l1p_left.kind || memcmp(x.bytes, y.bytes, sizeof x.bytes) != 0)
+            differ(name, "L1P's way or bytes");
+    }
+    compare(name);
+    lib.r = c.r = kept;
+    row(name, &library_ns, &c_ns, 1);
+}
+
+/* An invalidation of L1P; the record is put back each time. */
+static void l1p_invalidation(const char *name, uint32_t base, uint32_t count)
+{
+    static union both kept;
+    struct times library_ns = NO_TIME, c_ns = NO_TIME;
+    kept = c.r;
+    for (int i = 0; i < CALLS; i++) {
+        lib.r = kept;
+        double at = now();
+        c64x_answer x = library_l1p(base, count);
+        took(&library_ns, at);
+        c.r = kept;
+        at = now();
+        struct answer y = model_l1p(base, count);
+        took(&c_ns, at);
+        compare_call(name, x, y, &no_report);
+        if (i == 0 || i == CALLS - 1) compare(name);
+    }
+    lib.r = c.r = kept;
+    row(name, &library_ns, &c_ns, 1);
+}
+
 /* The technician's call. */
 static void view(const char *name, uint32_t address, uint8_t expected)
 {
@@ -1020,6 +1120,53 @@ static void transfers(struct trace *t)
     fill(t, 262144, 1 << 20, 7);
     lib.answers_len = c.answers_len = 0;
     each_transfer("external memory", EXTERNAL);
+}
+
+/* All of L1P is filled from an address on. */
+static void fill_l1p(uint32_t address)
+{
+    for (uint32_t a = 0; a < C64X_L1P_BYTES; a += C64X_L1P_LINE_BYTES) same_fetch("full L1P", address + a);
+}
+
+/* Fetches by each server, and L1P's invalidations. L1P has one way: lines at a distance of 16,384 bytes, or its
+   multiple, put each other out. L2 has four: of five at 65,536 bytes each misses there too, in every mode. */
+static void fetches(struct trace *t)
+{
+    head("a program fetch (L = 65,536, mode 1)");
+    start(t, 1, 1);
+    play("fetches", t);
+    lib.answers_len = c.answers_len = 0;
+    fetch("fetch, L1P hit", EXTERNAL, 1, 0, 5);
+    fetch("fetch, L1P hits all over", EXTERNAL, 512, 32, 5);
+    fetch("fetch, L1P miss, SRAM", 0, 2, 16384, 2);
+    fetch("fetch, L1P miss, L2 hit", EXTERNAL, 2, 16384, 3);
+    fetch("fetch, L1P miss, L2 miss", EXTERNAL, 5, 65536, 4);
+    same_dirty_word(EXTERNAL + 8);
+    fetch("fetch, L1P miss, L2 miss, dirty lines in L2", EXTERNAL, 5, 65536, 4);
+    l1p_invalidation("L1P block invalidate, 8 words", EXTERNAL, 8);
+    l1p_invalidation("L1P block invalidate, 4,096 words", EXTERNAL, 4096);
+    l1p_invalidation("L1P invalidate all", 0, ALL);
+    fill_l1p(EXTERNAL);
+    l1p_invalidation("L1P block invalidate, 4,096 words, all lines held", EXTERNAL, 4096);
+    l1p_invalidation("L1P block invalidate, 65,535 words, all lines held", EXTERNAL, 65535);
+    l1p_invalidation("L1P invalidate all, all lines held", 0, ALL);
+    direct("L2 block writeback-invalidate, 4,096 words, all lines of L1P held", 5, EXTERNAL, 4096, 0);
+    direct("mode change to the same mode, all lines of L1P held", 10, 1, 0, 0);
+    start(t, 1, 0);
+    play("fetches", t);
+    lib.answers_len = c.answers_len = 0;
+    fetch("fetch, L1P miss, mode 0, external memory", EXTERNAL, 2, 16384, 4);
+    start(t, 0, 1);
+    play("fetches", t);
+    lib.answers_len = c.answers_len = 0;
+    fetch("fetch, MAR bit 0", EXTERNAL, 2, 16384, 4);
+    fetch("fetch refused with 15 (the check and little more)", EXTERNAL + 4, 1, 0, 0);
+    head("a program fetch, all lines dirty (L = 262,144, mode 7)");
+    fill(t, 262144, 1 << 20, 7);
+    lib.answers_len = c.answers_len = 0;
+    fetch("fetch, L1P hit", EXTERNAL, 1, 0, 5);
+    fetch("fetch, L1P miss, L2 hit", EXTERNAL, 2, 16384, 3);
+    fetch("fetch, L1P miss, L2 miss", EXTERNAL, 5, 65536, 4);
 }
 
 /* Frames in modes 0 and 1 with either MAR bit, each after the other; then over 48 lines that the CPU has written; and
@@ -1170,6 +1317,7 @@ static void directs(struct trace *t)
     putting_out(t);
     transfers(t);
     frames(t);
+    fetches(t);
 
     head("the check of the whole record, and little more");
     static const uint32_t modes[5] = { 0, 1, 2, 3, 7 };

@@ -3,6 +3,7 @@
 #include <string.h>
 
 enum { L1D_LINE = 64, L1D_SETS = 128, L1D_WAYS = 2, L1D_BYTES = 16384, L2_LINE = 128, L2_SETS = 512, L2_WAYS = 4 };
+enum { L1P_LINE = 32, L1P_SETS = 512, L1P_BYTES = 16384 };
 
 #define EXTERNAL 0x80000000u
 #define MAR129 0x81000000u
@@ -16,6 +17,7 @@ struct machine {
     uint8_t *l1d;
     uint8_t *l2;
     uint8_t *ext;
+    uint8_t *l1p;
     uint32_t sram; /* S */
     uint32_t sets; /* of the L2 cache; 0 in mode 0 */
 };
@@ -55,7 +57,7 @@ static inline void set_up(struct machine *k)
 
 static inline struct machine machine_of(struct record *r, const struct lent *m)
 {
-    struct machine k = { r, m->l1d, m->l2, m->ext, 0, 0 };
+    struct machine k = { r, m->l1d, m->l2, m->ext, m->l1p, 0, 0 };
     set_up(&k);
     return k;
 }
@@ -156,6 +158,17 @@ static inline struct l2_set *l2_set_of(const struct machine *k, uint32_t address
     return &k->r->l2[address / L2_LINE & (k->sets - 1)];
 }
 
+/* The one line of L1P's set (02, U4), and its bytes. */
+static inline struct line *l1p_line_of(const struct machine *k, uint32_t address)
+{
+    return &k->r->l1p[address / L1P_LINE % L1P_SETS].lines[0];
+}
+
+static inline uint8_t *l1p_data(const struct machine *k, uint32_t address)
+{
+    return k->l1p + address % L1P_BYTES / L1P_LINE * L1P_LINE;
+}
+
 static inline uint8_t *l1d_data(const struct machine *k, const struct l1d_set *s, int w)
 {
     return k->l1d + ((size_t)w * L1D_SETS + (size_t)(s - k->r->l1d)) * L1D_LINE;
@@ -210,6 +223,16 @@ static inline int l2_line_ok(const struct record *r, uint64_t word, uint32_t t, 
     return word == 0 || (bits_ok(word) & ((a & (sets * L2_LINE - 1)) == t * L2_LINE) & external_ok(r, a, L2_LINE));
 }
 
+/* An L1P line is clean, and lies where L1D lines may, in L2 or not (02, U4). */
+static inline int l1p_line_ok(const struct record *r, const struct line *x, uint32_t s, uint32_t sram)
+{
+    uint64_t word = word_of(x);
+    uint32_t a = (uint32_t)(word >> 32);
+    if (word == 0) return 1;
+    if ((word & 0xFFFF) != 1 || (a & (L1P_BYTES - 1)) != s * L1P_LINE) return 0;
+    return a < EXTERNAL ? a + L1P_LINE <= sram : external_ok(r, a, L1P_LINE);
+}
+
 static inline int order4_ok(const uint8_t *o)
 {
     return (o[0] | o[1] | o[2] | o[3]) < 4 && (1 << o[0] | 1 << o[1] | 1 << o[2] | 1 << o[3]) == 15;
@@ -249,6 +272,8 @@ int model_well_formed(const struct record *r)
         if ((a | b | word_of(&v->lines[2]) | word_of(&v->lines[3])) != 0) return 0;
         if (memcmp(v->order, fresh4, 4) != 0) return 0;
     }
+    for (uint32_t s = 0; s < L1P_SETS; s++)
+        if (!l1p_line_ok(r, &r->l1p[s].lines[0], s, sram)) return 0;
     return dirty_l1d == r->dirty_l1d && dirty_l2 == r->dirty_l2;
 }
 
@@ -264,7 +289,7 @@ static uint8_t view_lent_due(const struct record *r, const struct lent *m)
 
 static uint8_t lent_due(const struct record *r, const struct lent *m)
 {
-    return m->l1d_len != L1D_BYTES ? 1 : view_lent_due(r, m);
+    return m->l1d_len != L1D_BYTES || m->l1p_len != L1P_BYTES ? 1 : view_lent_due(r, m);
 }
 
 static inline int place_ok(uint32_t sram, uint32_t extlen, uint32_t size, uint32_t address)
@@ -291,15 +316,22 @@ static int holds_range(const struct record *r, uint32_t mar)
     for (uint32_t t = 0; t < sets; t++)
         for (int w = 0; w < L2_WAYS; w++)
             if (r->l2[t].lines[w].valid && r->l2[t].lines[w].address >> 24 == mar) return 1;
+    for (int s = 0; s < L1P_SETS; s++)
+        if (r->l1p[s].lines[0].valid && r->l1p[s].lines[0].address >> 24 == mar) return 1;
     return 0;
+}
+
+static inline uint8_t block_due(uint32_t base, uint32_t count)
+{
+    if (base % 4 != 0) return 4;
+    return count > 65535 ? 7 : 0;
 }
 
 static inline uint8_t command_due(const struct machine *k, const struct command *c)
 {
     switch (c->code) {
     case 4: case 5: case 6: case 7: case 8:
-        if (c->first % 4 != 0) return 4;
-        return c->second > 65535 ? 7 : 0;
+        return block_due(c->first, c->second);
     case 10:
         return is_mode(c->first) && cache_size(c->first) <= k->r->l2len ? 0 : 8;
     case 11:
@@ -513,6 +545,40 @@ static inline void unaligned(struct machine *k, const struct unaligned *u, struc
     t->l1d_left = t->l2_left = (struct left){ 0, 0 };
 }
 
+/* ---- program fetches (02, U4) */
+
+/* The line of L1P at an address leaves, if it is there. */
+static inline void l1p_drop(const struct machine *k, uint32_t address)
+{
+    struct line *x = l1p_line_of(k, address);
+    if (holds(x, address)) empty(x);
+}
+
+static inline uint8_t fetch_due(const struct machine *k, uint32_t address)
+{
+    if (address % L1P_LINE != 0) return 15;
+    return place_ok(k->sram, k->r->extlen, L1P_LINE, address) ? 0 : 5;
+}
+
+/* What L1P does not hold comes from the home, whatever L1D has of it; with MAR bit 0 past L1P. */
+static inline void fetch(struct machine *k, uint32_t a, struct fetched *f)
+{
+    struct line *x = l1p_line_of(k, a);
+    uint8_t *data = l1p_data(k, a);
+    if (!cached(k->r, a)) {
+        f->answer.server = 4;
+        f->report.external_read = L1P_LINE;
+        data = k->ext + (a - EXTERNAL);
+    } else if (holds(x, a)) {
+        f->answer.server = 5;
+    } else {
+        f->l1p_left = left_of(x);
+        memcpy(data, reach_home(k, a, 0, L1P_LINE, &f->answer.server, &f->report), L1P_LINE);
+        fill(x, a);
+    }
+    memcpy(f->bytes, data, L1P_LINE);
+}
+
 /* ---- cache commands */
 
 static inline uint64_t block_end(uint32_t base, uint32_t count)
@@ -552,7 +618,7 @@ static void l1d_home(struct machine *k)
             if (k->r->l1d[s].lines[w].dirty) send_home(k, &k->r->l1d[s], w);
 }
 
-/* 2, 4: writeback; 3, 5: writeback-invalidate; 6: invalidate. */
+/* 2, 4: writeback; 3, 5: writeback-invalidate; 6: invalidate. With a line that leaves go its four in L1P. */
 static inline void l2_leave(struct machine *k, int code, struct line *x, const uint8_t *data)
 {
     if (x->dirty) {
@@ -560,7 +626,9 @@ static inline void l2_leave(struct machine *k, int code, struct line *x, const u
         x->dirty = 0;
         k->r->dirty_l2--;
     }
-    if (code != 2 && code != 4) empty(x);
+    if (code == 2 || code == 4) return;
+    for (uint32_t i = 0; i < L2_LINE; i += L1P_LINE) l1p_drop(k, x->address + i);
+    empty(x);
 }
 
 /* All of L1D goes home first, in every mode and for SRAM too (02, U10), so that no L2 line has halves there. */
@@ -592,6 +660,13 @@ static void l2_block(struct machine *k, int code, uint32_t base, uint32_t count)
     }
 }
 
+static void l1p_block(struct machine *k, uint32_t base, uint32_t count)
+{
+    if (count == 0) return;
+    uint64_t end = block_end(base, count);
+    for (uint64_t a = base & ~(uint32_t)(L1P_LINE - 1); a < end; a += L1P_LINE) l1p_drop(k, (uint32_t)a);
+}
+
 /* ---- transfers (02, U1) */
 
 static inline uint8_t transfer_due(const struct machine *k, uint32_t address, size_t length)
@@ -618,6 +693,7 @@ static void fresh_sets(struct record *r)
     static const struct l2_set l2 = { .order = { 3, 2, 1, 0 } };
     for (int s = 0; s < L1D_SETS; s++) r->l1d[s] = l1d;
     for (int t = 0; t < L2_SETS; t++) r->l2[t] = l2;
+    memset(r->l1p, 0, sizeof r->l1p);
     r->dirty_l1d = r->dirty_l2 = 0;
 }
 
@@ -671,7 +747,7 @@ PART void carry_out(struct machine *k, const struct command *c, struct answer *q
 
 uint8_t model_fresh(struct record *r, const struct lent *m)
 {
-    int legal = m->l1d_len == L1D_BYTES && legal_l2(m->l2_len) && legal_ext(m->ext_len);
+    int legal = m->l1d_len == L1D_BYTES && legal_l2(m->l2_len) && legal_ext(m->ext_len) && m->l1p_len == L1P_BYTES;
     r->l2len = legal ? (uint32_t)m->l2_len : 32768;
     r->extlen = legal ? (uint32_t)m->ext_len : 128;
     r->mode = r->mar128 = r->mar129 = r->frozen = 0;
@@ -679,6 +755,7 @@ uint8_t model_fresh(struct record *r, const struct lent *m)
     if (!legal) return 1;
     memset(m->l1d, 0, m->l1d_len);
     memset(m->l2, 0, m->l2_len);
+    memset(m->l1p, 0, m->l1p_len);
     return 0;
 }
 
@@ -743,6 +820,33 @@ struct framed model_frame(struct record *r, const struct lent *m, uint8_t turn, 
     }
     f.turn ^= 1;
     return f;
+}
+
+struct fetched model_fetch(struct record *r, const struct lent *m, uint32_t address)
+{
+    struct fetched f = { { lent_due(r, m), 0, 0 }, { { 0, 0 }, { 0, 0 }, 0, 0 }, { 0, 0 }, { 0 } };
+    if (f.answer.number) return f;
+    struct machine k = machine_of(r, m);
+    f.answer.number = fetch_due(&k, address);
+    if (!f.answer.number) fetch(&k, address, &f);
+    return f;
+}
+
+uint8_t model_l1p_block(struct record *r, const struct lent *m, uint32_t base, uint32_t count)
+{
+    uint8_t number = lent_due(r, m);
+    if (!number) number = block_due(base, count);
+    if (number) return number;
+    struct machine k = machine_of(r, m);
+    l1p_block(&k, base, count);
+    return 0;
+}
+
+uint8_t model_l1p_all(struct record *r, const struct lent *m)
+{
+    uint8_t number = lent_due(r, m);
+    if (!number) memset(r->l1p, 0, sizeof r->l1p);
+    return number;
 }
 
 /* ---- the trace */

@@ -24,6 +24,10 @@ struct l2_set {
     uint8_t order[4];
 };
 
+struct l1p_set {
+    struct line lines[1];
+};
+
 struct record {
     uint32_t l2len;
     uint32_t extlen;
@@ -35,9 +39,10 @@ struct record {
     uint32_t dirty_l2;
     struct l1d_set l1d[128];
     struct l2_set l2[512];
+    struct l1p_set l1p[512];
 };
 
-_Static_assert(sizeof(struct record) == 21012, "the record has C's layout of 21,012 bytes");
+_Static_assert(sizeof(struct record) == 25108, "the record has C's layout of 25,108 bytes");
 
 /* The lent memories. */
 struct lent {
@@ -47,6 +52,8 @@ struct lent {
     size_t l2_len;
     uint8_t *ext;
     size_t ext_len;
+    uint8_t *l1p;
+    size_t l1p_len;
 };
 
 /* A command by its code of the trace; numbers that a code does not take are 0. */
@@ -115,6 +122,21 @@ struct framed {
 };
 
 struct framed model_frame(struct record *r, const struct lent *m, uint8_t turn, const uint8_t *pixels, size_t length);
+
+/* A program fetch (paper 02, U4), which no trace has: its answer and report as a read's, what left the way of L1P, and
+   the line; all 0 where it is refused. */
+struct fetched {
+    struct answer answer;
+    struct report report;
+    struct left l1p_left;
+    uint8_t bytes[32];
+};
+
+struct fetched model_fetch(struct record *r, const struct lent *m, uint32_t address);
+
+/* L1P's own invalidations; all that they answer is the number. */
+uint8_t model_l1p_block(struct record *r, const struct lent *m, uint32_t base, uint32_t count);
+uint8_t model_l1p_all(struct record *r, const struct lent *m);
 
 struct run_result model_run(struct record *r, const struct lent *m, const uint8_t *trace, size_t trace_len,
                             uint8_t *answers, size_t answers_len);

@@ -16,8 +16,8 @@
 
 /* The calls, in the order of the codes of a trace; then the others. */
 enum {
-    FRESH = 13, READ_UNALIGNED, WRITE_UNALIGNED, TRANSFER_IN, TRANSFER_OUT, FRAME, RUN, VIEW, VIEW_NUMBER, SHORT_RUN_OF,
-    SHORT_RUN_NUMBER, PUT, LOAD, KINDS
+    FRESH = 13, READ_UNALIGNED, WRITE_UNALIGNED, TRANSFER_IN, TRANSFER_OUT, FRAME, FETCH, L1P_BLOCK, L1P_ALL, RUN, VIEW,
+    VIEW_NUMBER, SHORT_RUN_OF, SHORT_RUN_NUMBER, PUT, LOAD, KINDS
 };
 
 static const char *const names[KINDS] = {
@@ -40,6 +40,9 @@ static const char *const names[KINDS] = {
     "c64x_transfer_in",
     "c64x_transfer_out",
     "c64x_frame",
+    "c64x_fetch",
+    "c64x_l1p_invalidate_block",
+    "c64x_l1p_invalidate_all",
     "c64x_run",
     "c64x_view",
     "c64x_view_number",
@@ -58,7 +61,7 @@ struct call {
 };
 
 static c64x_record record, kept;
-static uint8_t l1d[C64X_L1D_BYTES], l2[262144], ext[EXT_BYTES], seen[C64X_VIEW_BYTES];
+static uint8_t l1d[C64X_L1D_BYTES], l2[262144], ext[EXT_BYTES], l1p[C64X_L1P_BYTES], seen[C64X_VIEW_BYTES];
 static uint8_t trace[65536], answers[10 * 65536], buffer[C64X_TRANSFER_BYTES];
 static const uint8_t digits[8] = { 1, 2, 3, 4, 5, 6, 7, 8 };
 static size_t l2_len, trace_len;
@@ -79,12 +82,18 @@ static uint32_t below(uint32_t bound)
     return (uint32_t)((seed >> 32) * bound >> 32);
 }
 
-#define LENT l1d, sizeof l1d, l2, l2_len, ext, sizeof ext
+#define LENT l1d, sizeof l1d, l2, l2_len, ext, sizeof ext, l1p, sizeof l1p
 
 /* By itself, so that the 260 bytes that come back have their place in the frame of this call and of no other. */
 static void __attribute__((noinline)) frame(uint32_t turn, uint32_t length)
 {
     c64x_frame(&record, (uint8_t)turn, buffer, length, LENT);
+}
+
+/* Likewise the 80 bytes of a fetch. */
+static void __attribute__((noinline)) fetch(uint32_t address)
+{
+    c64x_fetch(&record, address, LENT);
 }
 
 static void call(void)
@@ -111,6 +120,9 @@ static void call(void)
     case TRANSFER_IN: c64x_transfer_in(r, first, buffer, second, LENT); break;
     case TRANSFER_OUT: c64x_transfer_out(r, first, buffer, second, LENT); break;
     case FRAME: frame(first, second); break;
+    case FETCH: fetch(first); break;
+    case L1P_BLOCK: c64x_l1p_invalidate_block(r, first, second, LENT); break;
+    case L1P_ALL: c64x_l1p_invalidate_all(r, LENT); break;
     case RUN: c64x_run(r, trace, trace_len, LENT, answers, sizeof answers); break;
     case VIEW: c64x_view(r, first, l2, l2_len, ext, sizeof ext, seen, sizeof seen); break;
     case VIEW_NUMBER: c64x_view_number(r, first, l2, l2_len, ext, sizeof ext); break;
@@ -221,6 +233,8 @@ static void every_call(void)
         { TRANSFER_OUT, EXTERNAL, 65536, 0 }, { TRANSFER_OUT, 60, 8, 0 }, { TRANSFER_OUT, 0, 32768, 0 },
         { TRANSFER_OUT, 0, C64X_TRANSFER_BYTES, 0 }, { TRANSFER_OUT, 2, 4, 0 }, { TRANSFER_OUT, EXTERNAL, 262144, 0 },
         { FRAME, 0, C64X_FRAME_BYTES, 0 }, { FRAME, 1, C64X_FRAME_BYTES, 0 }, { FRAME, 0, 0, 0 },
+        { FETCH, EXTERNAL + 64, 0, 0 }, { FETCH, EXTERNAL + 0x50000, 0, 0 }, { FETCH, 64, 0, 0 }, { FETCH, 8, 0, 0 },
+        { FETCH, EXTERNAL - 32, 0, 0 }, { L1P_BLOCK, EXTERNAL, 65535, 0 }, { L1P_BLOCK, 2, 1, 0 }, { L1P_ALL, 0, 0, 0 },
         { FRESH, 0, 0, 0 }, { VIEW, EXTERNAL + 64, 0, 0 }, { VIEW, 64, 0, 0 }, { VIEW, 4, 0, 0 },
         { VIEW_NUMBER, EXTERNAL + 64, 0, 0 }, { VIEW_NUMBER, 4, 0, 0 },
         { PUT, 4, EXTERNAL, 5 }, { PUT, UINT32_MAX, UINT32_MAX, UINT64_MAX },
@@ -243,7 +257,7 @@ static void fresh(size_t l)
     if (c64x_fresh(&record, LENT).number != 0) abort();
 }
 
-/* Every line of both caches in use and dirty; those of L1D lie from an address on. */
+/* Every line of L1D and L2 in use and dirty, and L1P full; the lines of L1D and L1P lie from an address on. */
 static void fill(uint32_t mode, uint32_t from)
 {
     static const uint32_t lines[8] = { 0, 256, 512, 1024, 0, 0, 0, 2048 };
@@ -255,6 +269,7 @@ static void fill(uint32_t mode, uint32_t from)
         c64x_read(&record, 4, from + 64 * i, LENT);
         c64x_write(&record, 4, from + 64 * i, i, LENT);
     }
+    for (uint32_t i = 0; i < C64X_L1P_SETS; i++) c64x_fetch(&record, from + 32 * i, LENT);
 }
 
 int main(void)
@@ -296,6 +311,8 @@ int main(void)
             uint32_t to = q.kind < 2 ? q.second : EXTERNAL + below(EXT_BYTES);
             measure(below(2) ? TRANSFER_IN : TRANSFER_OUT, to & ~3u, 4 * below(300), 0);
             measure(VIEW, q.second & ~63u, 0, 0);
+            measure(FETCH, to & ~31u, 0, 0);
+            measure(L1P_BLOCK, to & ~3u, below(300), 0);
         }
         for (uint32_t turn = 0; turn < 2; turn++) measure(FRAME, turn, C64X_FRAME_BYTES, 0);
         trace_len = 0;

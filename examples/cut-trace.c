@@ -27,6 +27,7 @@ struct command {
 };
 
 static uint8_t l1d[C64X_L1D_BYTES];
+static uint8_t l1p[C64X_L1P_BYTES];
 static uint8_t l2[L2_BYTES];
 static uint8_t ext[EXTERNAL_BYTES];
 static c64x_chip chip;
@@ -62,7 +63,7 @@ static size_t read_trace(const char *name)
 static c64x_ran run(const uint8_t *bytes, size_t length)
 {
     memset(ext, 0, sizeof ext);
-    c64x_answer started = c64x_chip_start(&chip, l1d, sizeof l1d, l2, sizeof l2, ext, sizeof ext);
+    c64x_answer started = c64x_chip_start(&chip, l1d, sizeof l1d, l2, sizeof l2, ext, sizeof ext, l1p, sizeof l1p);
     if (started.number != C64X_ACCEPTED) {
         fprintf(stderr, "cut-trace: %s\n", c64x_number_text(started.number));
         exit(2);

@@ -35,6 +35,7 @@ struct profile {
 };
 
 static uint8_t l1d[C64X_L1D_BYTES];
+static uint8_t l1p[C64X_L1P_BYTES];
 static uint8_t l2[L2_BYTES];
 static uint8_t ext[EXTERNAL_BYTES];
 static c64x_chip chip;
@@ -205,7 +206,7 @@ int main(int argc, char **argv)
     FILE *file = fopen(name, "rb");
     if (file == NULL)
         fail("cannot open", name, strerror(errno));
-    accepted(c64x_chip_start(&chip, l1d, sizeof l1d, l2, sizeof l2, ext, sizeof ext));
+    accepted(c64x_chip_start(&chip, l1d, sizeof l1d, l2, sizeof l2, ext, sizeof ext, l1p, sizeof l1p));
     accepted(c64x_chip_change_mar(&chip, 128, (uint32_t)bit));
     accepted(c64x_chip_change_mode(&chip, (uint32_t)mode));
 

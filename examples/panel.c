@@ -1,8 +1,10 @@
 /*
  * What the repair panel shows: a trace is run from a fresh start, and each answer is told in words, that of an access
  * with the lines that it put out and the bytes of external memory that it moved; at the end stands what all of them
- * did. Then come whether L1D is frozen, what the two caches hold and how many of their lines are dirty; what stands in
- * external memory itself; and what the camera's EDMA would take out of both memories.
+ * did. Then come whether L1D is frozen, what L1D and L2 hold and how many of their lines are dirty; what stands in
+ * external memory itself; what the camera's EDMA would take out of both memories; and what the program fetches that are
+ * made last get from there: who serves them, what leaves L1P and L2 for them, whether the CPU's data is another, and
+ * how many lines L1P holds then.
  *
  *   panel [TRACE]           TRACE is a file; without it a small trace of its own is run
  *   panel --load SEED N     with both MAR bits on, the load of this seed and N accesses
@@ -24,6 +26,7 @@
 static uint8_t l1d[C64X_L1D_BYTES];
 static uint8_t l2[L2_BYTES];
 static uint8_t ext[EXTERNAL_BYTES];
+static uint8_t l1p[C64X_L1P_BYTES];
 static c64x_chip chip;
 static uint8_t trace[TRACE_BYTES + 1];
 /* A command has a byte at least, so these are enough. */
@@ -34,6 +37,7 @@ static uint8_t answers[TRACE_BYTES * C64X_ANSWER_BYTES];
 static uint8_t own_l1d[C64X_L1D_BYTES];
 static uint8_t own_l2[L2_BYTES];
 static uint8_t own_ext[EXTERNAL_BYTES];
+static uint8_t own_l1p[C64X_L1P_BYTES];
 static c64x_chip own_chip;
 
 /* What all accesses put out of each cache, clean and dirty, and moved. */
@@ -201,6 +205,37 @@ static void show_transfer(uint32_t address)
                (unsigned long)chip.record.dirty_l1d);
 }
 
+/* A program fetch: who served it, what left L1P and L2 for it, its first word, and the lines that L1P holds then. */
+static void show_fetch(uint32_t address)
+{
+    c64x_fetched fetched = c64x_chip_fetch(&chip, address);
+    printf("a fetch at %08lX: ", (unsigned long)address);
+    if (fetched.answer.number != C64X_ACCEPTED) {
+        printf("%s\n", c64x_number_text(fetched.answer.number));
+        return;
+    }
+    printf("by %s", c64x_server_text(fetched.answer.server));
+    show_left("L1P", fetched.l1p_left);
+    show_left("L2", fetched.answer.l2_left);
+    printf("; %02X %02X %02X %02X; lines in L1P then: %lu\n", fetched.bytes[0], fetched.bytes[1], fetched.bytes[2],
+           fetched.bytes[3], (unsigned long)c64x_chip_l1p_lines(&chip));
+}
+
+/* What a technician looks for where a unit runs an old program: the CPU reads one word there, and a fetch gets another,
+   since it looks neither at L1D nor behind a line that L1P holds. The read comes last: it may bring a line into L1D. */
+static void show_stale(uint32_t address)
+{
+    c64x_fetched fetched = c64x_chip_fetch(&chip, address);
+    c64x_answer read = c64x_chip_read(&chip, 4, address);
+    uint32_t word = 0;
+    if (fetched.answer.number != C64X_ACCEPTED || read.number != C64X_ACCEPTED)
+        return;
+    for (int i = 3; i >= 0; i--)
+        word = word << 8 | fetched.bytes[i];
+    printf("the program at %08lX %s what the CPU reads there\n", (unsigned long)address,
+           word == read.value ? "is" : "is not");
+}
+
 /* Reads a file into the trace; its length, or exit. */
 static size_t read_trace(const char *name)
 {
@@ -252,10 +287,10 @@ static size_t make_load(const char *seed, const char *accesses)
     return writer.at + load.length;
 }
 
-static void start(c64x_chip *fresh, uint8_t *its_l1d, uint8_t *its_l2, uint8_t *its_ext)
+static void start(c64x_chip *fresh, uint8_t *its_l1d, uint8_t *its_l2, uint8_t *its_ext, uint8_t *its_l1p)
 {
-    c64x_answer started =
-        c64x_chip_start(fresh, its_l1d, C64X_L1D_BYTES, its_l2, L2_BYTES, its_ext, EXTERNAL_BYTES);
+    c64x_answer started = c64x_chip_start(fresh, its_l1d, C64X_L1D_BYTES, its_l2, L2_BYTES, its_ext, EXTERNAL_BYTES,
+                                          its_l1p, C64X_L1P_BYTES);
     if (started.number != C64X_ACCEPTED) {
         fprintf(stderr, "panel: %s\n", c64x_number_text(started.number));
         exit(1);
@@ -280,8 +315,8 @@ int main(int argc, char **argv)
     }
     struct totals totals;
     memset(&totals, 0, sizeof totals);
-    start(&chip, l1d, l2, ext);
-    start(&own_chip, own_l1d, own_l2, own_ext);
+    start(&chip, l1d, l2, ext, l1p);
+    start(&own_chip, own_l1d, own_l2, own_ext, own_l1p);
     c64x_ran run = c64x_chip_run(&chip, trace, length, answers, sizeof answers);
     show_answers(run.count, &totals);
     printf("%s after %zu of %zu bytes\n", run.stop == 0 ? "end" : c64x_number_text(run.stop), run.consumed, length);
@@ -290,5 +325,11 @@ int main(int argc, char **argv)
     show_behind();
     show_transfer(C64X_EXTERNAL_BASE);
     show_transfer(0);
+    /* the first two are lines of one set of L1P */
+    show_fetch(C64X_EXTERNAL_BASE);
+    show_fetch(0);
+    show_fetch(C64X_EXTERNAL_BASE + 0x1000);
+    show_stale(C64X_EXTERNAL_BASE);
+    show_stale(C64X_EXTERNAL_BASE + 0x1000);
     return run.stop == 0 ? 0 : 1;
 }

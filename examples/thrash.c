@@ -39,6 +39,7 @@ struct totals {
 };
 
 static uint8_t l1d[C64X_L1D_BYTES];
+static uint8_t l1p[C64X_L1P_BYTES];
 static uint8_t l2[L2_BYTES];
 static uint8_t ext[EXTERNAL_BYTES];
 static c64x_chip chip;
@@ -94,7 +95,7 @@ static void show_list(struct list list)
     struct totals totals;
     memset(&totals, 0, sizeof totals);
     memset(ext, 0, sizeof ext);
-    accepted(c64x_chip_start(&chip, l1d, sizeof l1d, l2, sizeof l2, ext, sizeof ext));
+    accepted(c64x_chip_start(&chip, l1d, sizeof l1d, l2, sizeof l2, ext, sizeof ext, l1p, sizeof l1p));
     accepted(c64x_chip_change_mar(&chip, 128, 1));
     accepted(c64x_chip_change_mode(&chip, list.mode));
     printf("mode %u: %u lines, %lu bytes apart, each %s, twice\n", list.mode, list.lines,

@@ -1,9 +1,11 @@
 /*
- * c64x.h: the data memory of TI's C64x processor, for programs in C and C++. An h behind a number: hexadecimal.
+ * c64x.h: the memory of TI's C64x processor, for programs in C and C++. An h behind a number: hexadecimal.
  *
  * A load or a store of the C64x meets up to three levels of memory:
  *
  *   L1D       a cache of 16 Kbytes, in 128 sets of 2 lines. A line is 64 bytes.
+ *   L1P       beside it, for the program: a cache of 16 Kbytes, in 512 sets of 1 line. A line is 32 bytes, and fetches
+ *             alone use it: loads and stores never look there.
  *   L2        32 to 256 Kbytes. The mode says how much of it is a cache of external memory, in sets of 4 lines of
  *             128 bytes. The rest is plain memory, called SRAM, at address 0.
  *   external  up to 32 Mbytes at address 80000000h. For each 16 Mbytes of it one bit, named MAR, says whether the
@@ -12,7 +14,7 @@
  * A line that the CPU has written in a cache is dirty: the memory behind it still has the old bytes, until the line
  * is written back. The calls below do what the processor does, and say which level served each access.
  *
- * ONE CHIP is one record and three memories. All four are yours, and they are the whole state: a copy of all four is
+ * ONE CHIP is one record and four memories. All five are yours, and they are the whole state: a copy of all five is
  * a copy of the chip.
  *
  *   record    a c64x_record: the mode, the MAR bits, whether L1D is frozen, how many lines are dirty, and which lines
@@ -20,9 +22,11 @@
  *   l1d       the bytes of L1D: exactly 16,384
  *   l2        the bytes of L2: a multiple of 32,768, from 32,768 to 262,144
  *   ext       the bytes of external memory: a multiple of 128, from 128 to 33,554,432
+ *   l1p       the bytes of L1P: exactly 16,384
  *
- * Each memory is lent to a call as a pointer and a length in bytes. Lend the same memories to every call on a chip.
- * The header c64x_chip.h keeps all four together, so that a call has one argument for them.
+ * Each memory is lent to a call as a pointer and a length in bytes. Lend the same memories to every call on a chip,
+ * L1P's also to one that fetches nothing; only the view, which looks behind the caches, is lent neither L1D nor L1P.
+ * The header c64x_chip.h keeps all five together, so that a call has one argument for them.
  *
  * WHAT A CALL ASKS OF YOU: no pointer is null (not even where the length is 0), what is lent to one call does not
  * overlap, and the record stands at an address that is a multiple of 4, as every c64x_record variable does.
@@ -33,30 +37,31 @@
  *    0  accepted
  *    1  a length is not one of those above, or not the one that the record was made for
  *    2  the record is not well formed: a mark other than 0 or 1, a line in a set that is not its own or held twice, a
- *       line of memory that may not be cached, an order that names a line twice, a wrong count of dirty lines, and the
- *       like
+ *       line of memory that may not be cached, an order that names a line twice, a wrong count of dirty lines, a dirty
+ *       line of L1P, and the like
  *    3  the size is not 1, 2, 4 or 8; of a non-aligned access: it is not 4 or 8
  *    4  the address is not a multiple of the size, but a non-aligned access may have any; a block's base, or a
  *       transfer's address, is not one of 4; a viewed address is not one of 64
- *    5  not all of the access, or of the viewed line, lies in SRAM or in external memory
+ *    5  not all of the access, of the fetched or of the viewed line, lies in SRAM or in external memory
  *    6  the value needs more bytes than the size
  *    7  a block's count is above 65,535
  *    8  the mode is not 0, 1, 2, 3 or 7, or its cache is larger than L2
  *    9  the MAR is not 128 or 129, or the bit is above 1
- *   10  a MAR bit is to become 0 while a cache holds a line of that range
+ *   10  a MAR bit is to become 0 while a cache, L1P too, holds a line of that range
  *   11  the trace is damaged; of a command to be written: a code that traces lack, or a number that is too wide
  *   12  fewer than 10 answer bytes are left
  *   13  the length of a transfer is 0, not a multiple of 4, or above 262,140
  *   14  not all of the transfer lies in SRAM or in external memory
+ *   15  the address of a fetch is not a multiple of 32
  *   16  fewer bytes of the output are left than the command, or the whole load, has
  *   17  L1D is to be frozen or thawed by a number above 1
  *   18  no short run: its number is above 4,680, it has more than four digits, or a digit is above 7
  *   19  external memory has fewer than 6,144 bytes: there is no room for two frames
  *   20  the frame does not have 3,072 bytes
  *
- * Where several are due, the lowest counts (only in a trace 11, then 12, come before 3 to 10 and 17). A refused call
- * changes nothing: no byte of the record, of a memory or of a buffer. (The one exception is c64x_fresh; see there. A
- * run that is stopped by 11 or 12 keeps what it did before.)
+ * Where several are due, the lowest counts (only in a trace 11, then 12, come before 3 to 10 and 17; and of a fetch 15
+ * comes before 5). A refused call changes nothing: no byte of the record, of a memory or of a buffer. (The one
+ * exception is c64x_fresh; see there. A run that is stopped by 11 or 12 keeps what it did before.)
  *
  * PADDING. The record has bytes between its fields that mean nothing. No call looks at them. An accepted call may
  * change them, so compare two records field by field and not with memcmp.
@@ -90,10 +95,12 @@ extern "C" {
  * record by value; since 2.4 the L2 commands reach all of L1D; since 2.5 L1D can be frozen, and a byte of the record
  * that was padding says whether it is; since 3.0 two counts of dirty lines stand in front of the record's sets; since
  * 4.0 an answer also tells which lines an access put out and how many bytes of external memory it moved; since 4.1
- * there are non-aligned accesses; since 4.2 there are transfers; since 4.3 there are frames.
+ * there are non-aligned accesses; since 4.2 there are transfers; since 4.3 there are frames; since 5.0 there are
+ * program fetches: every call but the view is lent L1P's bytes too, behind external memory, the sets of L1P stand
+ * behind all that the record had, and there is a server 5.
  */
-#define C64X_VERSION_MAJOR 4
-#define C64X_VERSION_MINOR 3
+#define C64X_VERSION_MAJOR 5
+#define C64X_VERSION_MINOR 0
 
 /* The stack that a call needs at most, in bytes. */
 #define C64X_STACK_BYTES 4096
@@ -105,6 +112,10 @@ extern "C" {
 #define C64X_L2_SETS 512
 #define C64X_L2_WAYS 4
 #define C64X_L2_LINE_BYTES 128
+#define C64X_L1P_BYTES 16384
+#define C64X_L1P_SETS 512
+#define C64X_L1P_WAYS 1
+#define C64X_L1P_LINE_BYTES 32
 #define C64X_EXTERNAL_BASE UINT32_C(0x80000000)
 /* One answer of a run. */
 #define C64X_ANSWER_BYTES 10
@@ -157,10 +168,15 @@ typedef struct {
     c64x_order4 order;
 } c64x_l2_set;
 
+/* One line, so there is no order of use. It is never dirty: nothing writes to L1P. */
+typedef struct {
+    c64x_line lines[C64X_L1P_WAYS];
+} c64x_l1p_set;
+
 /*
  * The lengths of L2 and of external memory, the L2 mode, the MAR bits (0 or 1), whether L1D is frozen (1) or not (0),
- * how many lines of L1D and of L2 are dirty, and the sets of both caches. How many sets of L2 are in use goes by the
- * mode: none in mode 0, 64 in mode 1, 128 in 2, 256 in 3, 512 in 7. A number other than 0 or 1 for a MAR bit or for
+ * how many lines of L1D and of L2 are dirty, and the sets of the three caches. How many sets of L2 are in use goes by
+ * the mode: none in mode 0, 64 in mode 1, 128 in 2, 256 in 3, 512 in 7. A number other than 0 or 1 for a MAR bit or for
  * `frozen`, or a count that is not that of the lines marked dirty, is refused with 2.
  */
 typedef struct {
@@ -174,6 +190,7 @@ typedef struct {
     uint32_t dirty_l2;
     c64x_l1d_set l1d[C64X_L1D_SETS];
     c64x_l2_set l2[C64X_L2_SETS];
+    c64x_l1p_set l1p[C64X_L1P_SETS];
 } c64x_record;
 
 /*
@@ -199,8 +216,8 @@ typedef struct {
  * What a call returns.
  *   value             what an accepted read has read; 0 for every other call
  *   number            0, or why the call was refused: the table above
- *   server            who served an accepted read or write: 1 L1D, 2 SRAM, 3 the L2 cache, 4 external memory (also
- *                     where the L2 cache had to fetch the line first); 0 for every other call
+ *   server            who served an accepted read, write or fetch: 1 L1D, 2 SRAM, 3 the L2 cache, 4 external memory
+ *                     (also where the L2 cache had to fetch the line first), 5 L1P; 0 for every other call
  *   l1d_left          what the access put out of L1D, dirty or clean as it was when its way was chosen. Only a read of
  *                     what L1D does not hold brings a line into it, and not while L1D is frozen: a hit, and every
  *                     write, has kind 0
@@ -217,8 +234,9 @@ typedef struct {
  * What moves between L1D, SRAM and the L2 cache does not count.
  *
  * L1D lines that go because their L2 line is put out are told by neither `left`: no way was chosen for them. A refused
- * call, and every call that is no read or write, has kind 0 in both and counts of 0, whatever it wrote back or moved. A
- * non-aligned access has its counts, and kind 0 in both `left`. The answers of a run carry none of this: to see what an
+ * call, and every call that is no read, write or fetch, has kind 0 in both and counts of 0, whatever it wrote back or
+ * moved. A fetch has kind 0 in `l1d_left`, which it never looks at, and its L1P way beside the answer. A non-aligned
+ * access has its counts, and kind 0 in both `left`. The answers of a run carry none of this: to see what an
  * access puts out, make it as a call of its own.
  */
 typedef struct {
@@ -284,6 +302,18 @@ typedef struct {
     uint32_t sums[C64X_FRAME_COLUMNS];
 } c64x_framed;
 
+/*
+ * What c64x_fetch returns.
+ *   answer    number, server, `l2_left` and the counts, as of a read; its value is 0: the bytes stand below
+ *   l1p_left  what the fetch put out of L1P: kind 0 for a hit and with MAR bit 0, else 1 or 2, since no line is dirty
+ *   bytes     the line, the byte at the address first; all 0 where the fetch was refused
+ */
+typedef struct {
+    c64x_answer answer;
+    c64x_left l1p_left;
+    uint8_t bytes[C64X_L1P_LINE_BYTES];
+} c64x_fetched;
+
 C64X_ASSERT(sizeof(size_t) == 8, "the library is for 64 bits");
 C64X_ASSERT(sizeof(c64x_line) == 8, "c64x_line");
 C64X_ASSERT(offsetof(c64x_line, valid) == 0, "c64x_line");
@@ -299,7 +329,9 @@ C64X_ASSERT(sizeof(c64x_l1d_set) == 20, "c64x_l1d_set");
 C64X_ASSERT(offsetof(c64x_l1d_set, order) == 16, "c64x_l1d_set");
 C64X_ASSERT(sizeof(c64x_l2_set) == 36, "c64x_l2_set");
 C64X_ASSERT(offsetof(c64x_l2_set, order) == 32, "c64x_l2_set");
-C64X_ASSERT(sizeof(c64x_record) == 21012, "c64x_record");
+C64X_ASSERT(sizeof(c64x_l1p_set) == 8, "c64x_l1p_set");
+C64X_ASSERT(offsetof(c64x_l1p_set, lines) == 0, "c64x_l1p_set");
+C64X_ASSERT(sizeof(c64x_record) == 25108, "c64x_record");
 C64X_ASSERT(offsetof(c64x_record, l2len) == 0, "c64x_record");
 C64X_ASSERT(offsetof(c64x_record, extlen) == 4, "c64x_record");
 C64X_ASSERT(offsetof(c64x_record, mode) == 8, "c64x_record");
@@ -310,6 +342,7 @@ C64X_ASSERT(offsetof(c64x_record, dirty_l1d) == 12, "c64x_record");
 C64X_ASSERT(offsetof(c64x_record, dirty_l2) == 16, "c64x_record");
 C64X_ASSERT(offsetof(c64x_record, l1d) == 20, "c64x_record");
 C64X_ASSERT(offsetof(c64x_record, l2) == 2580, "c64x_record");
+C64X_ASSERT(offsetof(c64x_record, l1p) == 21012, "c64x_record");
 C64X_ASSERT(sizeof(c64x_left) == 8, "c64x_left");
 C64X_ASSERT(offsetof(c64x_left, address) == 0, "c64x_left");
 C64X_ASSERT(offsetof(c64x_left, kind) == 4, "c64x_left");
@@ -342,16 +375,21 @@ C64X_ASSERT(sizeof(c64x_framed) == 260, "c64x_framed");
 C64X_ASSERT(offsetof(c64x_framed, number) == 0, "c64x_framed");
 C64X_ASSERT(offsetof(c64x_framed, turn) == 1, "c64x_framed");
 C64X_ASSERT(offsetof(c64x_framed, sums) == 4, "c64x_framed");
+C64X_ASSERT(sizeof(c64x_fetched) == 80, "c64x_fetched");
+C64X_ASSERT(offsetof(c64x_fetched, answer) == 0, "c64x_fetched");
+C64X_ASSERT(offsetof(c64x_fetched, l1p_left) == 40, "c64x_fetched");
+C64X_ASSERT(offsetof(c64x_fetched, bytes) == 48, "c64x_fetched");
+C64X_ASSERT(C64X_L1P_BYTES == C64X_L1P_SETS * C64X_L1P_LINE_BYTES, "L1P has a line for each set");
 C64X_ASSERT(C64X_FRAME_BYTES == C64X_FRAME_ROWS * C64X_FRAME_COLUMNS, "a frame has a byte for each pixel");
 
-/* The three memories, as every call but the view is lent them. */
+/* The four memories, as every call but the view is lent them. */
 #define C64X_LENT \
-    uint8_t *l1d, size_t l1d_len, uint8_t *l2, size_t l2_len, uint8_t *ext, size_t ext_len
+    uint8_t *l1d, size_t l1d_len, uint8_t *l2, size_t l2_len, uint8_t *ext, size_t ext_len, uint8_t *l1p, size_t l1p_len
 
 /*
  * The chip after reset: mode 0, both MAR bits 0, L1D not frozen, nothing in the caches. What stood in the record before
- * does not matter. The bytes of L1D and L2 become 0, external memory is kept. Refused: 1 only. The record then becomes
- * that of a fresh chip with 32,768 bytes of L2 and 128 of external memory; no memory changes.
+ * does not matter. The bytes of L1D, L2 and L1P become 0, external memory is kept. Refused: 1 only. The record then
+ * becomes that of a fresh chip with 32,768 bytes of L2 and 128 of external memory; no memory changes.
  */
 c64x_answer c64x_fresh(c64x_record *record, C64X_LENT);
 
@@ -380,6 +418,35 @@ c64x_answer c64x_read_unaligned(c64x_record *record, uint32_t size, uint32_t add
 c64x_answer c64x_write_unaligned(c64x_record *record, uint32_t size, uint32_t address, uint64_t value, C64X_LENT);
 
 /*
+ * A program fetch: the 32 bytes of one line of L1P, from an address that is a multiple of 32. L1P holds lines of SRAM,
+ * and of external memory where the MAR bit is 1; with bit 0 the bytes come from external memory itself and nothing is
+ * kept. What L1P does not hold comes as for a read: from SRAM, from the L2 cache, which fetches its 128 bytes where it
+ * has to and puts a line out for them, or in mode 0 from external memory, of which 32 bytes are read then. The line
+ * comes into the one way of its set, address / 32 % 512, and what stood there leaves; `l1p_left` tells it.
+ *
+ * A FETCH DOES NOT SEE WHAT WAS JUST WRITTEN. It never looks in L1D, so what is dirty there is not in its bytes. And a
+ * line that L1P holds stays as it was fetched: writes, transfers, and L2 lines that are put out leave it alone. It goes
+ * by
+ *
+ *   c64x_l1p_invalidate_block and c64x_l1p_invalidate_all,
+ *   c64x_l2_writeback_invalidate_all, c64x_l2_writeback_invalidate_block, c64x_l2_invalidate_block and c64x_frame, each
+ *   where it lies inside a line that the L2 cache holds and that the command acts on; in mode 0 there is none,
+ *   every accepted mode change, and a fetch of another line of its set.
+ *
+ * So a program that is loaded or changed is fetched as it is now after c64x_l2_writeback_invalidate_block and
+ * c64x_l1p_invalidate_block over it. L1P is never frozen. A trace has no fetches. Refused: 1, 2, 15, 5, in this order.
+ */
+c64x_fetched c64x_fetch(c64x_record *record, uint32_t address, C64X_LENT);
+
+/*
+ * Lines leave L1P: those of a block (as below: a line belongs to it if one of its 32 bytes does), or all. Nothing can
+ * be lost by that, no line of L1P being dirty, and no byte of any memory changes. A trace has neither. Refused: 1 and
+ * 2, the block also 4 and 7.
+ */
+c64x_answer c64x_l1p_invalidate_block(c64x_record *record, uint32_t base, uint32_t count, C64X_LENT);
+c64x_answer c64x_l1p_invalidate_all(c64x_record *record, C64X_LENT);
+
+/*
  * The cache commands, on all lines or on those of a block. A block is the address of its first byte (`base`) and a
  * `count` of 4-byte words; a line belongs to it if a byte of it does. It may lie anywhere.
  *
@@ -393,8 +460,9 @@ c64x_answer c64x_write_unaligned(c64x_record *record, uint32_t size, uint32_t ad
  * none. With an L2 line of the block goes the L1D line inside it that does not belong to the block: a dirty one goes
  * into the L2 line (invalidate drops it), and it leaves L1D. So after c64x_l2_writeback_all and
  * c64x_l2_writeback_invalidate_all no line is dirty in either cache, in any mode, and SRAM and external memory have all
- * that was written to them, but for what an invalidate has lost. The order of use stays as it is in every set.
- * Refused: 1 and 2, and blocks 4 and 7.
+ * that was written to them, but for what an invalidate has lost. The order of use stays as it is in every set. With
+ * each L2 line that leaves by a command go the lines of L1P inside it, up to four; a writeback, after which the L2 line
+ * stays, and the L1D commands leave L1P alone. Refused: 1 and 2, and blocks 4 and 7.
  */
 c64x_answer c64x_l2_writeback_all(c64x_record *record, C64X_LENT);
 c64x_answer c64x_l2_writeback_invalidate_all(c64x_record *record, C64X_LENT);
@@ -407,7 +475,8 @@ c64x_answer c64x_l1d_invalidate_all(c64x_record *record, C64X_LENT);
 
 /*
  * Another L2 mode, or the same again. The L2 cache has no bytes in mode 0, 32,768 in mode 1, 65,536 in 2, 131,072 in
- * 3 and 262,144 in 7; SRAM is what is left of L2. All dirty lines are written back and all lines leave. SRAM that
+ * 3 and 262,144 in 7; SRAM is what is left of L2. All dirty lines are written back and all lines leave, those of L1P
+ * too, whose bytes stay as they are. SRAM that
  * both the old and the new mode have is kept; every later byte of L2 becomes 0. A frozen L1D stays frozen. Refused: 1,
  * 2, 8.
  */
@@ -440,8 +509,8 @@ c64x_answer c64x_freeze(c64x_record *record, uint32_t frozen, C64X_LENT);
  *   external  no cache is looked at, in any mode and with either MAR bit. A transfer out brings what stands in external
  *             memory itself, not what is dirty in a cache. After a transfer in the CPU goes on seeing each line that a
  *             cache holds, and a dirty one goes over the new bytes when it is written back. To share a place with the
- *             EDMA, let it begin and end at multiples of 128, and between the last read or write of it and the transfer
- *             make both c64x_l2_writeback_invalidate_block and c64x_l1d_writeback_invalidate_block over it.
+ *             EDMA, let it begin and end at multiples of 128, and between the last access or fetch of it and the
+ *             transfer make both c64x_l2_writeback_invalidate_block and c64x_l1d_writeback_invalidate_block over it.
  *
  * The buffer overlaps nothing else that is lent. Its length is a multiple of 4, from 4 to C64X_TRANSFER_BYTES; every
  * other length gets 13, however large it is, and then the buffer is not looked at. A refused transfer out leaves its
@@ -467,7 +536,7 @@ c64x_answer c64x_transfer_out(c64x_record *record, uint32_t address, uint8_t *bu
  * nothing else is changed.
  *
  *   uint8_t turn = 0;
- *   c64x_framed framed = c64x_frame(&record, turn, pixels, sizeof pixels, l1d, .., ext, ext_len);
+ *   c64x_framed framed = c64x_frame(&record, turn, pixels, sizeof pixels, l1d, .., l1p, l1p_len);
  *   turn = framed.turn;
  *
  * The pixels overlap nothing else that is lent. `length` is their number, C64X_FRAME_BYTES; every other one gets 20,

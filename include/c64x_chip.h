@@ -1,12 +1,12 @@
 /*
  * c64x_chip.h: the calls of c64x.h with one argument for the whole chip, and names and texts for the numbers.
  *
- * A c64x_chip holds the record and says where the three memories stand. The memories stay yours: the chip only points
+ * A c64x_chip holds the record and says where the four memories stand. The memories stay yours: the chip only points
  * to them. A chip of 64 Kbytes of L2 and as much external memory:
  *
- *   static uint8_t l1d[C64X_L1D_BYTES], l2[65536], ext[65536];
+ *   static uint8_t l1d[C64X_L1D_BYTES], l2[65536], ext[65536], l1p[C64X_L1P_BYTES];
  *   static c64x_chip chip;
- *   c64x_answer answer = c64x_chip_start(&chip, l1d, sizeof l1d, l2, sizeof l2, ext, sizeof ext);
+ *   c64x_answer answer = c64x_chip_start(&chip, l1d, sizeof l1d, l2, sizeof l2, ext, sizeof ext, l1p, sizeof l1p);
  *   if (answer.number == C64X_ACCEPTED)
  *       answer = c64x_chip_read(&chip, 4, C64X_EXTERNAL_BASE);
  *   puts(c64x_number_text(answer.number));
@@ -35,6 +35,7 @@ enum {
     C64X_STOPPED_ANSWERS = 12,
     C64X_REFUSED_TRANSFER_LENGTH = 13,
     C64X_REFUSED_TRANSFER_PLACE = 14,
+    C64X_REFUSED_FETCH_ALIGNMENT = 15,
     C64X_REFUSED_ROOM = 16,
     C64X_REFUSED_FREEZE = 17,
     C64X_REFUSED_SHORT_RUN = 18,
@@ -48,7 +49,8 @@ enum {
     C64X_SERVER_L1D = 1,
     C64X_SERVER_SRAM = 2,
     C64X_SERVER_L2_CACHE = 3,
-    C64X_SERVER_EXTERNAL = 4
+    C64X_SERVER_EXTERNAL = 4,
+    C64X_SERVER_L1P = 5
 };
 
 /* What an access put out of a cache: the kinds of c64x_left. */
@@ -78,6 +80,7 @@ static inline const char *c64x_number_text(unsigned number)
     case C64X_STOPPED_ANSWERS: return "stopped: fewer than 10 answer bytes are left";
     case C64X_REFUSED_TRANSFER_LENGTH: return "refused: the transfer's length is 0, no multiple of 4 or above 262140";
     case C64X_REFUSED_TRANSFER_PLACE: return "refused: the transfer is not wholly in SRAM or in external memory";
+    case C64X_REFUSED_FETCH_ALIGNMENT: return "refused: the address of a fetch is not a multiple of 32";
     case C64X_REFUSED_ROOM: return "refused: too few bytes of the output are left";
     case C64X_REFUSED_FREEZE: return "refused: neither 1, which freezes L1D, nor 0, which thaws it";
     case C64X_REFUSED_SHORT_RUN: return "refused: no short run has this number or these digits";
@@ -96,6 +99,7 @@ static inline const char *c64x_server_text(unsigned server)
     case C64X_SERVER_SRAM: return "SRAM";
     case C64X_SERVER_L2_CACHE: return "L2 cache";
     case C64X_SERVER_EXTERNAL: return "external memory";
+    case C64X_SERVER_L1P: return "L1P";
     default: return "unknown server";
     }
 }
@@ -121,10 +125,12 @@ typedef struct {
     size_t l2_len;
     uint8_t *ext;
     size_t ext_len;
+    uint8_t *l1p;
+    size_t l1p_len;
 } c64x_chip;
 
 #define C64X_CHIP_LENT(chip) \
-    (chip)->l1d, (chip)->l1d_len, (chip)->l2, (chip)->l2_len, (chip)->ext, (chip)->ext_len
+    (chip)->l1d, (chip)->l1d_len, (chip)->l2, (chip)->l2_len, (chip)->ext, (chip)->ext_len, (chip)->l1p, (chip)->l1p_len
 
 /* The chip after reset, over the memories that it has already. */
 static inline c64x_answer c64x_chip_fresh(c64x_chip *chip)
@@ -134,7 +140,7 @@ static inline c64x_answer c64x_chip_fresh(c64x_chip *chip)
 
 /* A new chip over these memories, after reset. */
 static inline c64x_answer c64x_chip_start(c64x_chip *chip, uint8_t *l1d, size_t l1d_len, uint8_t *l2, size_t l2_len,
-                                          uint8_t *ext, size_t ext_len)
+                                          uint8_t *ext, size_t ext_len, uint8_t *l1p, size_t l1p_len)
 {
     chip->l1d = l1d;
     chip->l1d_len = l1d_len;
@@ -142,6 +148,8 @@ static inline c64x_answer c64x_chip_start(c64x_chip *chip, uint8_t *l1d, size_t 
     chip->l2_len = l2_len;
     chip->ext = ext;
     chip->ext_len = ext_len;
+    chip->l1p = l1p;
+    chip->l1p_len = l1p_len;
     return c64x_chip_fresh(chip);
 }
 
@@ -163,6 +171,21 @@ static inline c64x_answer c64x_chip_read_unaligned(c64x_chip *chip, uint32_t siz
 static inline c64x_answer c64x_chip_write_unaligned(c64x_chip *chip, uint32_t size, uint32_t address, uint64_t value)
 {
     return c64x_write_unaligned(&chip->record, size, address, value, C64X_CHIP_LENT(chip));
+}
+
+static inline c64x_fetched c64x_chip_fetch(c64x_chip *chip, uint32_t address)
+{
+    return c64x_fetch(&chip->record, address, C64X_CHIP_LENT(chip));
+}
+
+static inline c64x_answer c64x_chip_l1p_invalidate_block(c64x_chip *chip, uint32_t base, uint32_t count)
+{
+    return c64x_l1p_invalidate_block(&chip->record, base, count, C64X_CHIP_LENT(chip));
+}
+
+static inline c64x_answer c64x_chip_l1p_invalidate_all(c64x_chip *chip)
+{
+    return c64x_l1p_invalidate_all(&chip->record, C64X_CHIP_LENT(chip));
 }
 
 static inline c64x_answer c64x_chip_l2_writeback_all(c64x_chip *chip)
@@ -239,6 +262,16 @@ static inline c64x_ran c64x_chip_run(c64x_chip *chip, const uint8_t *trace, size
                                      size_t answers_len)
 {
     return c64x_run(&chip->record, trace, trace_len, C64X_CHIP_LENT(chip), answers, answers_len);
+}
+
+/* How many lines L1P holds. */
+static inline uint32_t c64x_chip_l1p_lines(const c64x_chip *chip)
+{
+    uint32_t held = 0;
+    int set;
+    for (set = 0; set < C64X_L1P_SETS; set++)
+        held += chip->record.l1p[set].lines[0].valid != 0;
+    return held;
 }
 
 /* The trace of a load for a chip with this one's external memory, to be run on it. */

@@ -3,9 +3,9 @@
  * C10, what each cache command does to a dirty line and L2's to lines that L1D alone holds, each number of the refusal
  * table with nothing changed, and short runs at the ends of each length; a frozen L1D; which lines accesses put out,
  * and the bytes of external memory that they move; non-aligned accesses; transfers of SRAM and of external memory, and
- * of a place that the CPU shares; frames of the camera; the trace of the worked example, C3 and C4 are written through
- * c64x_put_command; a load by hand; after these the counts of dirty lines. It is compiled as C and as C++. Prints how
- * many checks passed; exit status 1 where one failed.
+ * of a place that the CPU shares; frames of the camera; program fetches, and what takes lines out of L1P; the trace of
+ * the worked example, C3 and C4 are written through c64x_put_command; a load by hand; after these the counts of dirty
+ * lines. It is compiled as C and as C++. Prints how many checks passed; exit status 1 where one failed.
  */
 #include <stdio.h>
 #include <string.h>
@@ -14,8 +14,8 @@
 
 #define EXT C64X_EXTERNAL_BASE
 
-static uint8_t l1d[C64X_L1D_BYTES], l2[65536], ext[65536];
-static uint8_t l1d_before[C64X_L1D_BYTES], l2_before[65536], ext_before[65536];
+static uint8_t l1d[C64X_L1D_BYTES], l2[65536], ext[65536], l1p[C64X_L1P_BYTES];
+static uint8_t l1d_before[C64X_L1D_BYTES], l2_before[65536], ext_before[65536], l1p_before[C64X_L1P_BYTES];
 static c64x_chip chip, chip_before;
 static int passed, failed;
 
@@ -72,7 +72,8 @@ static void start(size_t l2_len)
     memset(l1d, 1, sizeof l1d);
     memset(l2, 2, sizeof l2);
     memset(ext, 0, sizeof ext);
-    CHECK(done(c64x_chip_start(&chip, l1d, sizeof l1d, l2, l2_len, ext, sizeof ext)));
+    memset(l1p, 3, sizeof l1p);
+    CHECK(done(c64x_chip_start(&chip, l1d, sizeof l1d, l2, l2_len, ext, sizeof ext, l1p, sizeof l1p)));
     CHECK(dirty_are(0, 0));
 }
 
@@ -82,13 +83,15 @@ static void keep(void)
     memcpy(l1d_before, l1d, sizeof l1d);
     memcpy(l2_before, l2, sizeof l2);
     memcpy(ext_before, ext, sizeof ext);
+    memcpy(l1p_before, l1p, sizeof l1p);
 }
 
 /* No byte has changed since `keep`, padding included. */
 static int kept(void)
 {
     return memcmp(&chip_before, &chip, sizeof chip) == 0 && memcmp(l1d_before, l1d, sizeof l1d) == 0 &&
-           memcmp(l2_before, l2, sizeof l2) == 0 && memcmp(ext_before, ext, sizeof ext) == 0;
+           memcmp(l2_before, l2, sizeof l2) == 0 && memcmp(ext_before, ext, sizeof ext) == 0 &&
+           memcmp(l1p_before, l1p, sizeof l1p) == 0;
 }
 
 static int refused(c64x_answer answer, unsigned number)
@@ -508,7 +511,7 @@ static int eight_from_61(const uint8_t *memory)
 static void unaligned_anywhere(void)
 {
     const uint64_t value = UINT64_C(0x8877665544332211);
-    CHECK(C64X_VERSION_MAJOR == 4 && C64X_VERSION_MINOR >= 1);
+    CHECK(C64X_VERSION_MAJOR >= 5);
     start(sizeof l2);
     CHECK(unaligned(write8(61, value), C64X_SERVER_SRAM, 0, 0, 0) && eight_from_61(l2));
     CHECK(unaligned(c64x_chip_read_unaligned(&chip, 4, 62), C64X_SERVER_SRAM, 0x55443322, 0, 0));
@@ -663,7 +666,7 @@ static int around_kept(size_t length)
    of each set. A frozen L1D makes no difference. */
 static void transfers_of_sram(void)
 {
-    CHECK(C64X_VERSION_MAJOR == 4 && C64X_VERSION_MINOR >= 2 && C64X_TRANSFER_BYTES == 262140);
+    CHECK(C64X_VERSION_MAJOR >= 5 && C64X_TRANSFER_BYTES == 262140);
     for (unsigned mode = 0; mode < 2; mode++)
         for (unsigned freeze = 0; freeze < 2; freeze++)
             for (int in = 0; in < 2; in++) {
@@ -832,7 +835,7 @@ static int frame_refused(c64x_framed framed, unsigned number, unsigned turn)
    places: the sums are the camera's, and the places come in turn. */
 static void frames(void)
 {
-    CHECK(C64X_VERSION_MAJOR == 4 && C64X_VERSION_MINOR >= 3);
+    CHECK(C64X_VERSION_MAJOR >= 5);
     CHECK(C64X_FRAME_ROWS == 48 && C64X_FRAME_COLUMNS == 64 && C64X_FRAME_BYTES == 3072);
     for (unsigned mode = 0; mode < 3; mode++)
         for (unsigned bit = 0; bit < 2; bit++)
@@ -907,13 +910,176 @@ static void frame_refusals(void)
     CHECK(frame_refused(c64x_chip_frame(&chip, 6, &one, SIZE_MAX), C64X_REFUSED_LENGTH, 0));
     /* 6,144 bytes are enough, 128 less are not, whatever the length */
     memset(ext, 0, sizeof ext);
-    CHECK(done(c64x_chip_start(&chip, l1d, sizeof l1d, l2, sizeof l2, ext, 6144)));
+    CHECK(done(c64x_chip_start(&chip, l1d, sizeof l1d, l2, sizeof l2, ext, 6144, l1p, sizeof l1p)));
     c64x_framed first = frame(0, C64X_FRAME_BYTES, 9), second = frame(first.turn, C64X_FRAME_BYTES, 9);
     CHECK(first.number == C64X_ACCEPTED && first.turn == 1 && second.number == C64X_ACCEPTED && second.turn == 0);
-    CHECK(done(c64x_chip_start(&chip, l1d, sizeof l1d, l2, sizeof l2, ext, 6016)));
+    CHECK(done(c64x_chip_start(&chip, l1d, sizeof l1d, l2, sizeof l2, ext, 6016, l1p, sizeof l1p)));
     keep();
     CHECK(frame_refused(frame(0, C64X_FRAME_BYTES, 1), C64X_REFUSED_FRAME_ROOM, 0));
     CHECK(frame_refused(c64x_chip_frame(&chip, 255, &one, 1), C64X_REFUSED_FRAME_ROOM, 1));
+}
+
+/* ---- program fetches */
+
+static int l1p_holds(uint32_t address)
+{
+    const c64x_line *line = &chip.record.l1p[address / C64X_L1P_LINE_BYTES % C64X_L1P_SETS].lines[0];
+    return line->valid && !line->dirty && line->address == address;
+}
+
+/* Accepted, by this server, with this kind and line of L1P's way; L1D and the value have no part in it. */
+static int fetched_by(c64x_fetched fetched, unsigned server, unsigned kind, uint32_t address)
+{
+    return is(fetched.answer, C64X_ACCEPTED, server, 0) && left_is(fetched.answer.l1d_left, C64X_LEFT_NONE, 0) &&
+           left_is(fetched.l1p_left, kind, address);
+}
+
+/* So many bytes of external memory were read and written, and this left L2. */
+static int fetch_moved(c64x_fetched fetched, unsigned read, unsigned written, unsigned kind, uint32_t address)
+{
+    return left_is(fetched.answer.l2_left, kind, address) && fetched.answer.external_read == read &&
+           fetched.answer.external_written == written;
+}
+
+static int fetch_refused(c64x_fetched fetched, unsigned number)
+{
+    static const uint8_t zero[C64X_L1P_LINE_BYTES] = {0};
+    return refused(fetched.answer, number) && left_is(fetched.l1p_left, C64X_LEFT_NONE, 0) &&
+           memcmp(fetched.bytes, zero, sizeof zero) == 0;
+}
+
+/* The line's bytes are those at a place of external memory. */
+static int bytes_are(c64x_fetched fetched, uint32_t address)
+{
+    return memcmp(fetched.bytes, ext + (address - EXT), C64X_L1P_LINE_BYTES) == 0;
+}
+
+static void counted_memory(void)
+{
+    for (size_t i = 0; i < sizeof ext; i++)
+        ext[i] = (uint8_t)(i ^ i >> 8);
+}
+
+/* Each server in turn, and L1P's one way. */
+static void fetches(void)
+{
+    CHECK(C64X_VERSION_MAJOR == 5 && sizeof chip.record == 4 * 6277 && offsetof(c64x_record, l1p) == 4 * 5253);
+    start(sizeof l2);
+    CHECK(l1p[0] == 0 && memcmp(l1p, l1p + 1, sizeof l1p - 1) == 0 && c64x_chip_l1p_lines(&chip) == 0);
+    counted_memory();
+    /* past L1P */
+    keep();
+    c64x_fetched fetched = c64x_chip_fetch(&chip, EXT + 64);
+    CHECK(fetched_by(fetched, C64X_SERVER_EXTERNAL, C64X_LEFT_NONE, 0) && bytes_are(fetched, EXT + 64) && kept());
+    CHECK(fetch_moved(fetched, 32, 0, C64X_LEFT_NONE, 0));
+    /* mode 0 */
+    CHECK(done(c64x_chip_change_mar(&chip, 128, 1)));
+    fetched = c64x_chip_fetch(&chip, EXT + 64);
+    CHECK(fetched_by(fetched, C64X_SERVER_EXTERNAL, C64X_LEFT_EMPTY, 0) && bytes_are(fetched, EXT + 64));
+    CHECK(fetch_moved(fetched, 32, 0, C64X_LEFT_NONE, 0) && memcmp(l1p + 64, ext + 64, 32) == 0);
+    keep();
+    fetched = c64x_chip_fetch(&chip, EXT + 64);
+    CHECK(fetched_by(fetched, C64X_SERVER_L1P, C64X_LEFT_NONE, 0) && bytes_are(fetched, EXT + 64) && kept());
+    CHECK(fetch_moved(fetched, 0, 0, C64X_LEFT_NONE, 0));
+    /* SRAM, which puts the line out */
+    CHECK(is(c64x_chip_write(&chip, 4, 16384 + 64, 0x04030201), C64X_ACCEPTED, C64X_SERVER_SRAM, 0));
+    fetched = c64x_chip_fetch(&chip, 16384 + 64);
+    CHECK(fetched_by(fetched, C64X_SERVER_SRAM, C64X_LEFT_CLEAN, EXT + 64) && fetched.bytes[3] == 4);
+    CHECK(!l1p_holds(EXT + 64) && l1p_holds(16384 + 64) && c64x_chip_l1p_lines(&chip) == 1);
+    /* L2, which fetches 128 bytes; a dirty line leaves it with what L1D holds of it */
+    CHECK(done(c64x_chip_change_mode(&chip, 1)) && c64x_chip_l1p_lines(&chip) == 0);
+    fetched = c64x_chip_fetch(&chip, EXT + 32);
+    CHECK(fetched_by(fetched, C64X_SERVER_EXTERNAL, C64X_LEFT_EMPTY, 0));
+    CHECK(fetch_moved(fetched, 128, 0, C64X_LEFT_EMPTY, 0) && clean(l2_line(EXT)) && l1d_line(EXT) == NULL);
+    fetched = c64x_chip_fetch(&chip, EXT + 96);
+    CHECK(fetched_by(fetched, C64X_SERVER_L2_CACHE, C64X_LEFT_EMPTY, 0) && bytes_are(fetched, EXT + 96));
+    CHECK(c64x_chip_read(&chip, 4, EXT).server == C64X_SERVER_L2_CACHE);
+    CHECK(c64x_chip_write(&chip, 4, EXT, 9).server == C64X_SERVER_L1D && dirty_are(1, 0));
+    for (unsigned i = 1; i < 4; i++)
+        CHECK(c64x_chip_fetch(&chip, EXT + 8192 * i).answer.number == C64X_ACCEPTED);
+    fetched = c64x_chip_fetch(&chip, EXT + 4 * 8192);
+    CHECK(fetch_moved(fetched, 128, 128, C64X_LEFT_DIRTY, EXT) && l1d_line(EXT) == NULL && dirty_are(0, 0));
+    CHECK(l1p_holds(EXT + 32) && l1p_holds(EXT + 96));
+}
+
+/* What a fetch does not see, and what takes lines out of L1P. */
+static void l1p_lines_leave(void)
+{
+    uint8_t frame_bytes[128];
+    memset(frame_bytes, 0x77, sizeof frame_bytes);
+    for (unsigned mode = 0; mode < 2; mode++) {
+        for (unsigned command = 0; command < 9; command++) {
+            int gone = 0;
+            cached(mode);
+            counted_memory();
+            for (uint32_t a = 0; a < 160; a += 32)
+                CHECK(c64x_chip_fetch(&chip, EXT + a).answer.number == C64X_ACCEPTED);
+            CHECK(c64x_chip_fetch(&chip, 4096).answer.number == C64X_ACCEPTED);
+            switch (command) {
+            case 0: CHECK(c64x_chip_write(&chip, 4, EXT, 9).number == C64X_ACCEPTED); break;
+            case 1: CHECK(done(c64x_chip_transfer_in(&chip, EXT, frame_bytes, sizeof frame_bytes))); break;
+            case 2: CHECK(done(c64x_chip_l2_writeback_all(&chip))); break;
+            case 3: CHECK(done(c64x_chip_l2_writeback_block(&chip, EXT, 32))); break;
+            case 4: CHECK(done(c64x_chip_l1d_invalidate_all(&chip))); break;
+            case 5: CHECK(done(c64x_chip_l2_writeback_invalidate_block(&chip, EXT + 124, 1))), gone = mode; break;
+            case 6: CHECK(done(c64x_chip_l2_invalidate_block(&chip, EXT, 1))), gone = mode; break;
+            case 7: CHECK(done(c64x_chip_l2_writeback_invalidate_all(&chip))), gone = mode; break;
+            default: CHECK(done(c64x_chip_l1p_invalidate_block(&chip, EXT, 32))), gone = 1; break;
+            }
+            for (uint32_t a = 0; a < 128; a += 32)
+                CHECK(l1p_holds(EXT + a) == !gone);
+            CHECK(l1p_holds(EXT + 128) == !(command == 7 && mode));
+            CHECK(l1p_holds(4096));
+            CHECK(done(c64x_chip_l1p_invalidate_all(&chip)) && c64x_chip_l1p_lines(&chip) == 0);
+        }
+    }
+    /* held dirty in L1D alone, then home and dropped: only then it is seen */
+    cached(1);
+    dirty_line(EXT);
+    CHECK(c64x_chip_read(&chip, 1, EXT).value != 0 && c64x_chip_fetch(&chip, EXT).bytes[0] == 0);
+    CHECK(done(c64x_chip_l2_writeback_invalidate_block(&chip, EXT, 16)));
+    CHECK(c64x_chip_fetch(&chip, EXT).bytes[0] == ext[0] && ext[0] != 0);
+    /* one line, or two, by a block of a few words */
+    CHECK(c64x_chip_fetch(&chip, EXT + 32).answer.number == C64X_ACCEPTED);
+    CHECK(done(c64x_chip_l1p_invalidate_block(&chip, EXT + 28, 1)) && !l1p_holds(EXT) && l1p_holds(EXT + 32));
+    CHECK(done(c64x_chip_l1p_invalidate_block(&chip, EXT + 28, 0)) && l1p_holds(EXT + 32));
+    CHECK(done(c64x_chip_l1p_invalidate_block(&chip, EXT + 28, 2)) && !l1p_holds(EXT + 32));
+}
+
+static void fetch_refusals(void)
+{
+    cached(0);
+    keep();
+    CHECK(fetch_refused(c64x_chip_fetch(&chip, EXT + 16), C64X_REFUSED_FETCH_ALIGNMENT));
+    CHECK(fetch_refused(c64x_chip_fetch(&chip, EXT - 1), C64X_REFUSED_FETCH_ALIGNMENT));
+    CHECK(fetch_refused(c64x_chip_fetch(&chip, EXT - 32), C64X_REFUSED_PLACE));
+    CHECK(fetch_refused(c64x_chip_fetch(&chip, EXT + 65536), C64X_REFUSED_PLACE));
+    CHECK(fetch_refused(c64x_chip_fetch(&chip, 65536), C64X_REFUSED_PLACE));
+    CHECK(refused(c64x_chip_l1p_invalidate_block(&chip, EXT + 2, 65536), C64X_REFUSED_ALIGNMENT));
+    CHECK(refused(c64x_chip_l1p_invalidate_block(&chip, EXT, 65536), C64X_REFUSED_COUNT));
+    /* a MAR bit stays while L1P holds a line */
+    CHECK(c64x_chip_fetch(&chip, EXT).answer.number == C64X_ACCEPTED);
+    keep();
+    CHECK(refused(c64x_chip_change_mar(&chip, 128, 0), C64X_REFUSED_LINE_HELD));
+    /* a dirty line of L1P, and one in another set */
+    chip.record.l1p[0].lines[0].dirty = 1;
+    keep();
+    CHECK(fetch_refused(c64x_chip_fetch(&chip, EXT + 1), C64X_REFUSED_RECORD));
+    CHECK(refused(c64x_chip_read(&chip, 1, 0), C64X_REFUSED_RECORD));
+    CHECK(c64x_chip_view_number(&chip, 0) == C64X_REFUSED_RECORD && kept());
+    chip.record.l1p[0].lines[0].dirty = 0;
+    chip.record.l1p[0].lines[0].address = EXT + 32;
+    keep();
+    CHECK(refused(c64x_chip_l1p_invalidate_all(&chip), C64X_REFUSED_RECORD));
+    /* its buffer has 16,384 bytes for every call but the view */
+    chip.l1p_len = sizeof l1p - 1;
+    keep();
+    CHECK(fetch_refused(c64x_chip_fetch(&chip, EXT + 1), C64X_REFUSED_LENGTH));
+    CHECK(refused(c64x_chip_read(&chip, 1, 0), C64X_REFUSED_LENGTH));
+    CHECK(refused(c64x_chip_l1p_invalidate_all(&chip), C64X_REFUSED_LENGTH));
+    chip.record.l1p[0].lines[0].address = EXT;
+    CHECK(c64x_chip_view_number(&chip, 0) == C64X_ACCEPTED);
+    chip.l1p_len = sizeof l1p;
 }
 
 static void refusals(void)
@@ -1142,7 +1308,7 @@ static void texts(void)
     for (unsigned number = C64X_REFUSED_FRAME_ROOM; number <= C64X_REFUSED_FRAME_LENGTH; number++)
         for (unsigned a = 0; a < number; a++)
             CHECK(strcmp(c64x_number_text(number), c64x_number_text(a)) != 0);
-    for (unsigned a = 0; a <= 5; a++)
+    for (unsigned a = 0; a <= 6; a++)
         for (unsigned b = 0; b < a; b++)
             CHECK(strcmp(c64x_server_text(a), c64x_server_text(b)) != 0);
     for (unsigned a = 0; a <= 4; a++)
@@ -1150,9 +1316,9 @@ static void texts(void)
             CHECK(strcmp(c64x_left_text(a), c64x_left_text(b)) != 0);
     for (unsigned a = 0; a <= 15; a++)
         CHECK(strcmp(c64x_number_text(a), c64x_number_text(C64X_REFUSED_ROOM)) != 0);
-    CHECK(strcmp(c64x_number_text(15), c64x_number_text(255)) == 0);
     CHECK(strcmp(c64x_number_text(21), c64x_number_text(255)) == 0);
-    CHECK(strcmp(c64x_server_text(5), c64x_server_text(255)) == 0);
+    CHECK(strcmp(c64x_server_text(5), "L1P") == 0 && C64X_SERVER_L1P == 5);
+    CHECK(strcmp(c64x_server_text(6), c64x_server_text(255)) == 0);
     CHECK(strcmp(c64x_left_text(4), c64x_left_text(255)) == 0);
 }
 
@@ -1176,6 +1342,9 @@ int main(void)
     transfer_refusals();
     frames();
     frame_refusals();
+    fetches();
+    l1p_lines_leave();
+    fetch_refusals();
     refusals();
     short_runs();
     writing();

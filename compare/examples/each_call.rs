@@ -4,24 +4,26 @@
 use oracle::calls::frame;
 use oracle::gen::Setup;
 use oracle::trace::ANSWER_BYTES;
-use oracle::{Command, Unaligned};
+use oracle::{Command, Left, Program, Unaligned};
 
 /// What comes next: a command, a non-aligned access, a transfer of so many bytes at an address (in:
 /// bytes that are all `value`; out: into a buffer of 128 such bytes, whose front is lent), a frame of
 /// so many bytes (of a buffer of 3,076, all `value`, but in row k of 48 the pixel of column k is k),
-/// a view of an address, or a run over a trace.
+/// a fetch or an invalidation of L1P, a view of an address, or a run over a trace.
 enum Next {
     Call(Command),
     Access(Unaligned),
     In { length: usize, address: u32, value: u8 },
     Out { length: usize, address: u32, value: u8 },
     Frame { length: usize, turn: u8, value: u8 },
+    L1p(Program),
     View(u32),
     Run(&'static [u8]),
 }
 
 use Command::*;
 use Next::*;
+use Program::*;
 
 const LIST: &[Next] = &[
     Call(Mar { number: 128, bit: 1 }),
@@ -117,11 +119,50 @@ const LIST: &[Next] = &[
     Frame { length: 3076, turn: 0, value: 7 },
     Frame { length: 3072, turn: 6, value: 255 },
     Call(Read { size: 1, address: 0x80000041 }),
+    L1p(Fetch { address: 0x0 }),
+    L1p(Fetch { address: 0x0 }),
+    Call(Write { size: 1, address: 0x1F, value: 7 }),
+    L1p(Fetch { address: 0x0 }),
+    L1p(InvalidateBlock { base: 0x1C, count: 1 }),
+    L1p(Fetch { address: 0x0 }),
+    L1p(Fetch { address: 0x80000040 }),
+    L1p(Fetch { address: 0x80000060 }),
+    L1p(Fetch { address: 0x80000040 }),
+    L1p(Fetch { address: 0x80004040 }),
+    Call(L2BlockWritebackInvalidate { base: 0x80000000, count: 32 }),
+    L1p(Fetch { address: 0x80000060 }),
+    L1p(Fetch { address: 0x80004040 }),
+    L1p(InvalidateAll),
+    L1p(Fetch { address: 0x80004040 }),
+    L1p(Fetch { address: 0x11 }),
+    L1p(Fetch { address: 0x8000 }),
+    L1p(Fetch { address: 0x80010000 }),
+    L1p(InvalidateBlock { base: 0x2, count: 1 }),
+    L1p(InvalidateBlock { base: 0x0, count: 65536 }),
+    Call(Mode { mode: 0 }),
+    L1p(Fetch { address: 0x80004040 }),
+    Call(Mar { number: 128, bit: 0 }),
+    L1p(InvalidateBlock { base: 0x80004000, count: 32 }),
+    Call(Mar { number: 128, bit: 0 }),
+    L1p(Fetch { address: 0x80004040 }),
+    L1p(Fetch { address: 0x80004040 }),
+    Call(Mar { number: 128, bit: 1 }),
+    Call(Mode { mode: 1 }),
     Run(&[
         11, 129, 1, 1, 0, 1, 128, 129, 128, 128, 8, 1, 1, 128, 129, 128, 128, 8, 4, 10, 2, 0, 1,
         128, 129, 128, 128, 8, 12, 2,
     ]),
 ];
+
+/// What left a way, as two numbers: 0 no way was chosen, 1 it was empty, 2 clean, 3 dirty; the address.
+fn told(left: Left) -> (u32, u32) {
+    match left {
+        Left::None => (0, 0),
+        Left::Empty => (1, 0),
+        Left::Clean { address } => (2, address),
+        Left::Dirty { address } => (3, address),
+    }
+}
 
 fn main() {
     let mut setup = Setup::fresh(65_536, 65_536);
@@ -150,10 +191,29 @@ fn main() {
                 for row in 0..48 {
                     pixels[usize::from(row) * 65] = row;
                 }
-                let Setup { record, l1d, l2, ext } = &mut setup;
-                let framed = frame(record, l1d, l2, ext, *turn, &pixels[..*length]);
+                let Setup { record, l1d, l2, ext, l1p } = &mut setup;
+                let framed = frame(record, l1d, l2, ext, l1p, *turn, &pixels[..*length]);
                 println!("{} {} {}", framed.number, framed.turn, framed.sums[0]);
                 println!("{} {} {}", framed.sums[1], framed.sums[47], framed.sums[63]);
+            }
+            L1p(call @ Fetch { .. }) => {
+                let fetched = setup.program(call);
+                let (answer, report) = (fetched.reply.answer, fetched.reply.report);
+                println!("{} {} {}", answer.number, answer.server, fetched.bytes[0]);
+                println!(
+                    "{} {} {}",
+                    fetched.bytes[31], report.external_read, report.external_written
+                );
+                println!(
+                    "{} {} {}",
+                    told(report.l2_left).0,
+                    told(fetched.l1p_left).0,
+                    told(fetched.l1p_left).1
+                );
+            }
+            L1p(call) => {
+                let answer = setup.program(call).reply.answer;
+                println!("{} {} {}", answer.number, answer.server, answer.value);
             }
             View(address) => {
                 let bytes = setup.look(*address);

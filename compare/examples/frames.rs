@@ -54,8 +54,8 @@ fn added_up(mode: &str, bit: &str, file: &str) -> (Vec<Sums>, [usize; 2]) {
     assert_eq!((setup.mar(128, number(bit)).number, setup.mode(number(mode)).number), (0, 0));
     let (mut profiles, mut turn) = (Vec::new(), 0);
     for pixels in fs::read(file).expect("a file").chunks_exact(FRAME_BYTES) {
-        let Setup { record, l1d, l2, ext } = &mut setup;
-        let framed = frame(record, l1d, l2, ext, turn, pixels);
+        let Setup { record, l1d, l2, ext, l1p } = &mut setup;
+        let framed = frame(record, l1d, l2, ext, l1p, turn, pixels);
         assert_eq!(framed.number, 0);
         profiles.push(framed.sums);
         turn = framed.turn;

@@ -30,6 +30,7 @@ fn refusal(number: u8) -> &'static str {
     match number {
         13 => "refused: the transfer's length is 0, no multiple of 4 or above 262140",
         14 => "refused: the transfer is not wholly in SRAM or in external memory",
+        15 => "refused: the address of a fetch is not a multiple of 32",
         17 => "refused: neither 1, which freezes L1D, nor 0, which thaws it",
         number => REFUSALS[usize::from(number)],
     }
@@ -51,7 +52,7 @@ const REFUSALS: [&str; 13] = [
     "stopped: fewer than 10 answer bytes are left",
 ];
 
-const SERVERS: [&str; 5] = ["", "L1D", "SRAM", "L2 cache", "external memory"];
+const SERVERS: [&str; 6] = ["", "L1D", "SRAM", "L2 cache", "external memory", "L1P"];
 
 /// Both MAR bits on, then the load of a seed for 65,536 bytes of external memory.
 fn load(seed: u32, accesses: u64) -> Vec<u8> {
@@ -201,5 +202,40 @@ fn panel(trace: &[u8]) -> String {
         };
         text += &format!("a transfer out at {address:08X}: {taken}\n");
     }
+    for address in [0x8000_0000, 0, 0x8000_1000] {
+        text += &fetch(&mut setup, address);
+    }
+    for address in [0x8000_0000, 0x8000_1000] {
+        text += &stale(&mut setup, address);
+    }
     text
+}
+
+/// A program fetch, and how many lines L1P holds after it.
+fn fetch(setup: &mut Setup, address: u32) -> String {
+    let fetched = setup.fetch(address);
+    let answer = fetched.reply.answer;
+    if answer.number != 0 {
+        return format!("a fetch at {address:08X}: {}\n", refusal(answer.number));
+    }
+    let [a, b, c, d] = [0, 1, 2, 3].map(|place| fetched.bytes[place]);
+    format!(
+        "a fetch at {address:08X}: by {}{}{}; {a:02X} {b:02X} {c:02X} {d:02X}; lines in L1P then: {}\n",
+        SERVERS[usize::from(answer.server)],
+        left("L1P", fetched.l1p_left),
+        left("L2", fetched.reply.report.l2_left),
+        setup.record.held_in_l1p()
+    )
+}
+
+/// Whether a fetch gets what the CPU reads.
+fn stale(setup: &mut Setup, address: u32) -> String {
+    let fetched = setup.fetch(address);
+    let read = setup.read(4, address);
+    if fetched.reply.answer.number != 0 || read.number != 0 {
+        return String::new();
+    }
+    let same = read.value.to_le_bytes()[..4] == fetched.bytes[..4];
+    let is = if same { "is" } else { "is not" };
+    format!("the program at {address:08X} {is} what the CPU reads there\n")
 }

@@ -6,12 +6,13 @@ use std::mem::{align_of, offset_of, size_of};
 use std::ops::{Deref, DerefMut};
 use std::ptr;
 
+use oracle::fetches::FETCHED_BYTES;
 use oracle::frames::{place_of, COLUMNS, FRAME_BYTES};
 use oracle::gen::{encode, Frame, Rng, Transfer};
-use oracle::geometry::{L1d, L2};
-use oracle::record::{L1dSet, L2Set, Line, Record};
+use oracle::geometry::{L1d, L1p, L2};
+use oracle::record::{L1dSet, L1pSet, L2Set, Line, Record};
 use oracle::trace::ANSWER_BYTES;
-use oracle::{Command, Direction, Left, Report, Unaligned};
+use oracle::{Command, Direction, Fetched, Left, Program, Report, Unaligned};
 
 /// The structs name their padding, so that it can be filled and compared.
 /// Equality is that of the fields: an accepted call may change padding.
@@ -40,6 +41,12 @@ pub struct CL2Set {
 }
 
 #[repr(C)]
+#[derive(Clone, Copy, PartialEq, Eq, Debug)]
+pub struct CL1pSet {
+    pub lines: [CLine; 1],
+}
+
+#[repr(C)]
 #[derive(Clone, Copy, Debug)]
 pub struct CRecord {
     pub l2len: u32,
@@ -52,6 +59,7 @@ pub struct CRecord {
     pub dirty_l2: u32,
     pub l1d: [CL1dSet; 128],
     pub l2: [CL2Set; 512],
+    pub l1p: [CL1pSet; 512],
 }
 
 /// What left a way that was chosen: by kind 0 to 3, none was chosen, it was empty, a clean
@@ -186,18 +194,36 @@ pub struct CFramed {
     pub sums: [u32; COLUMNS],
 }
 
+/// What a fetch gives back; an invalidation of L1P is made to look like one.
+#[repr(C)]
+#[derive(Clone, Copy)]
+pub struct CFetched {
+    pub answer: CAnswer,
+    pub l1p_left: CLeft,
+    pub bytes: [u8; FETCHED_BYTES],
+}
+
+impl CFetched {
+    /// An answer without a line of L1P.
+    pub fn of(answer: CAnswer) -> CFetched {
+        CFetched { answer, l1p_left: CLeft::NONE, bytes: [0; FETCHED_BYTES] }
+    }
+}
+
 const _: () = {
     assert!(size_of::<CLine>() == 8 && offset_of!(CLine, dirty) == 1);
     assert!(offset_of!(CLine, padding) == 2 && offset_of!(CLine, address) == 4);
     assert!(size_of::<CL1dSet>() == 20 && offset_of!(CL1dSet, order) == 16);
     assert!(offset_of!(CL1dSet, padding) == 18);
     assert!(size_of::<CL2Set>() == 36 && offset_of!(CL2Set, order) == 32);
+    assert!(size_of::<CL1pSet>() == 8);
     assert!(size_of::<CRecord>() == RECORD_BYTES && align_of::<CRecord>() == 4);
     assert!(offset_of!(CRecord, extlen) == 4 && offset_of!(CRecord, mode) == 8);
     assert!(offset_of!(CRecord, mar128) == 9 && offset_of!(CRecord, mar129) == 10);
     assert!(offset_of!(CRecord, frozen) == 11);
     assert!(offset_of!(CRecord, dirty_l1d) == 12 && offset_of!(CRecord, dirty_l2) == 16);
     assert!(offset_of!(CRecord, l1d) == 20 && offset_of!(CRecord, l2) == 2_580);
+    assert!(offset_of!(CRecord, l1p) == 21_012);
     assert!(size_of::<CLeft>() == 8 && align_of::<CLeft>() == 4);
     assert!(offset_of!(CLeft, address) == 0 && offset_of!(CLeft, kind) == 4);
     assert!(size_of::<CAnswer>() == 40 && offset_of!(CAnswer, value) == 0);
@@ -213,9 +239,12 @@ const _: () = {
     assert!(size_of::<CFramed>() == 260 && align_of::<CFramed>() == 4);
     assert!(offset_of!(CFramed, number) == 0 && offset_of!(CFramed, turn) == 1);
     assert!(offset_of!(CFramed, sums) == 4);
+    assert!(size_of::<CFetched>() == 80 && align_of::<CFetched>() == 8);
+    assert!(offset_of!(CFetched, answer) == 0 && offset_of!(CFetched, l1p_left) == 40);
+    assert!(offset_of!(CFetched, bytes) == 48);
 };
 
-pub const RECORD_BYTES: usize = 21_012;
+pub const RECORD_BYTES: usize = 25_108;
 
 impl PartialEq for CLine {
     fn eq(&self, other: &CLine) -> bool {
@@ -241,6 +270,7 @@ impl PartialEq for CRecord {
             && (self.dirty_l1d, self.dirty_l2) == (other.dirty_l1d, other.dirty_l2)
             && self.l1d == other.l1d
             && self.l2 == other.l2
+            && self.l1p == other.l1p
     }
 }
 
@@ -261,6 +291,9 @@ impl CRecord {
             pad_lines_like(&mut ours.lines, &theirs.lines);
         }
         for (ours, theirs) in self.l2.iter_mut().zip(&other.l2) {
+            pad_lines_like(&mut ours.lines, &theirs.lines);
+        }
+        for (ours, theirs) in self.l1p.iter_mut().zip(&other.l1p) {
             pad_lines_like(&mut ours.lines, &theirs.lines);
         }
     }
@@ -289,6 +322,9 @@ pub fn padding_of(seed: u64) -> Box<CRecord> {
         set.lines.iter_mut().for_each(|line| rng.fill(&mut line.padding));
     }
     for line in record.l2.iter_mut().flat_map(|set| &mut set.lines) {
+        rng.fill(&mut line.padding);
+    }
+    for line in record.l1p.iter_mut().flat_map(|set| &mut set.lines) {
         rng.fill(&mut line.padding);
     }
     record
@@ -323,7 +359,7 @@ impl DerefMut for Held {
     }
 }
 
-/// Declares the calls that take a record, some numbers and three memories.
+/// Declares the calls that take a record, some numbers and four memories.
 macro_rules! calls {
     ($($name:ident($($number:ident: $kind:ty),*);)*) => {
         extern "C" {
@@ -336,6 +372,8 @@ macro_rules! calls {
                 l2_len: usize,
                 ext: *mut u8,
                 ext_len: usize,
+                l1p: *mut u8,
+                l1p_len: usize,
             ) -> CAnswer;)*
         }
     };
@@ -360,9 +398,24 @@ calls! {
     c64x_freeze(frozen: u32);
     c64x_transfer_in(address: u32, buffer: *const u8, length: usize);
     c64x_transfer_out(address: u32, buffer: *mut u8, length: usize);
+    c64x_l1p_invalidate_block(base: u32, count: u32);
+    c64x_l1p_invalidate_all();
 }
 
 extern "C" {
+    fn c64x_fetch(
+        record: *mut CRecord,
+        address: u32,
+        l1d: *mut u8,
+        l1d_len: usize,
+        l2: *mut u8,
+        l2_len: usize,
+        ext: *mut u8,
+        ext_len: usize,
+        l1p: *mut u8,
+        l1p_len: usize,
+    ) -> CFetched;
+
     fn c64x_frame(
         record: *mut CRecord,
         turn: u8,
@@ -374,6 +427,8 @@ extern "C" {
         l2_len: usize,
         ext: *mut u8,
         ext_len: usize,
+        l1p: *mut u8,
+        l1p_len: usize,
     ) -> CFramed;
 
     fn c64x_run(
@@ -386,6 +441,8 @@ extern "C" {
         l2_len: usize,
         ext: *mut u8,
         ext_len: usize,
+        l1p: *mut u8,
+        l1p_len: usize,
         answers: *mut u8,
         answers_len: usize,
     ) -> CRun;
@@ -420,16 +477,17 @@ pub struct Lent<'a> {
     pub l1d: &'a mut [u8],
     pub l2: &'a mut [u8],
     pub ext: &'a mut [u8],
+    pub l1p: &'a mut [u8],
 }
 
 impl Lent<'_> {
     /// The same memories, lent once more.
     pub fn again(&mut self) -> Lent<'_> {
-        Lent { l1d: &mut *self.l1d, l2: &mut *self.l2, ext: &mut *self.ext }
+        Lent { l1d: &mut *self.l1d, l2: &mut *self.l2, ext: &mut *self.ext, l1p: &mut *self.l1p }
     }
 }
 
-/// A call that is lent the record and the three memories. Each is a place of its
+/// A call that is lent the record and the four memories. Each is a place of its
 /// own, so no two overlap, and the call keeps none of them.
 macro_rules! call_lent {
     ($name:ident, $record:expr, $lent:expr $(, $number:expr)*) => {
@@ -443,6 +501,8 @@ macro_rules! call_lent {
                 $lent.l2.len(),
                 $lent.ext.as_mut_ptr(),
                 $lent.ext.len(),
+                $lent.l1p.as_mut_ptr(),
+                $lent.l1p.len(),
             )
         }
     };
@@ -485,6 +545,17 @@ pub fn unaligned(record: &mut CRecord, access: &Unaligned, lent: Lent) -> CAnswe
         Unaligned::Write { size, address, value } => {
             call_lent!(c64x_write_unaligned, record, lent, size, address, value)
         }
+    }
+}
+
+/// A fetch, or an invalidation of L1P.
+pub fn program(record: &mut CRecord, call: &Program, lent: Lent) -> CFetched {
+    match *call {
+        Program::Fetch { address } => call_lent!(c64x_fetch, record, lent, address),
+        Program::InvalidateBlock { base, count } => {
+            CFetched::of(call_lent!(c64x_l1p_invalidate_block, record, lent, base, count))
+        }
+        Program::InvalidateAll => CFetched::of(call_lent!(c64x_l1p_invalidate_all, record, lent)),
     }
 }
 
@@ -655,7 +726,7 @@ pub fn column_sums(pixels: &[u8]) -> [u32; COLUMNS] {
 pub fn by_bytes(
     record: &mut CRecord,
     access: &Unaligned,
-    lent: Lent,
+    mut lent: Lent,
     downwards: bool,
 ) -> Vec<CAnswer> {
     let mut bytes: Vec<u32> = (0..access.size()).collect();
@@ -671,8 +742,7 @@ pub fn by_bytes(
                 Command::Write { size, address, value: value >> (8 * byte) & 0xFF }
             }
         };
-        let lent = Lent { l1d: &mut *lent.l1d, l2: &mut *lent.l2, ext: &mut *lent.ext };
-        answers.push(direct(record, &command, lent));
+        answers.push(direct(record, &command, lent.again()));
     }
     answers
 }
@@ -695,6 +765,8 @@ pub fn run(record: &mut CRecord, trace: &[u8], lent: Lent, answers: &mut [u8]) -
             lent.l2.len(),
             lent.ext.as_mut_ptr(),
             lent.ext.len(),
+            lent.l1p.as_mut_ptr(),
+            lent.l1p.len(),
             answers.as_mut_ptr(),
             answers.len(),
         )
@@ -754,6 +826,10 @@ fn l2_set(set: &L2Set) -> CL2Set {
     }
 }
 
+fn l1p_set(set: &L1pSet) -> CL1pSet {
+    CL1pSet { lines: [line(&set.lines[0])] }
+}
+
 /// The record in C's layout, its padding 0. C has a byte for the mode, for each
 /// MAR bit and for the freeze: the reference model's record must hold no larger
 /// numbers there.
@@ -770,6 +846,7 @@ pub fn record_of(record: &Record) -> Box<CRecord> {
         dirty_l2: record.dirty_l2,
         l1d: std::array::from_fn(|set| l1d_set(&record.l1d[set])),
         l2: std::array::from_fn(|set| l2_set(&record.l2[set])),
+        l1p: std::array::from_fn(|set| l1p_set(&record.l1p[set])),
     })
 }
 
@@ -785,6 +862,7 @@ pub fn same_record(ours: &CRecord, theirs: &Record) -> bool {
         && ours.dirty_l2 == theirs.dirty_l2
         && ours.l1d.iter().zip(&theirs.l1d).all(|(ours, theirs)| *ours == l1d_set(theirs))
         && ours.l2.iter().zip(&theirs.l2).all(|(ours, theirs)| *ours == l2_set(theirs))
+        && ours.l1p.iter().zip(&theirs.l1p).all(|(ours, theirs)| *ours == l1p_set(theirs))
 }
 
 fn left_of(left: Left) -> CLeft {
@@ -794,6 +872,11 @@ fn left_of(left: Left) -> CLeft {
         Left::Clean { address } => CLeft::clean(address),
         Left::Dirty { address } => CLeft::dirty(address),
     }
+}
+
+/// What left the way of L1P, in C's numbers.
+pub fn l1p_left_of(fetched: &Fetched) -> CLeft {
+    left_of(fetched.l1p_left)
 }
 
 /// A report of the reference model in C's numbers.
@@ -814,6 +897,11 @@ fn way_of(lines: &[CLine], address: u32) -> Option<usize> {
 /// Whether L1D holds the line of this address.
 pub fn l1d_holds(record: &CRecord, address: u32) -> bool {
     way_of(&record.l1d[L1d::set_of(address)].lines, L1d::line_address(address)).is_some()
+}
+
+/// Whether L1P holds the line of this address.
+pub fn l1p_holds(record: &CRecord, address: u32) -> bool {
+    way_of(&record.l1p[L1p::set_of(address)].lines, L1p::line_address(address)).is_some()
 }
 
 /// Whether L2 holds the line of this address.
@@ -866,13 +954,27 @@ pub fn left_by_records(before: &CRecord, after: &CRecord, address: u32) -> (CLef
     (l1d, l2)
 }
 
+/// What they say of the way of L1P that a fetch chose, if it chose one.
+pub fn l1p_left_by_records(before: &CRecord, after: &CRecord, address: u32) -> CLeft {
+    let was = &before.l1p[L1p::set_of(address)].lines[0];
+    if l1p_holds(before, address) || !l1p_holds(after, address) {
+        return CLeft::NONE;
+    }
+    told(was, was.dirty == 1)
+}
+
 /// A set in words: for each way valid, dirty and address, then the order.
 fn set_words(lines: &[CLine], order: &[u8]) -> String {
     let ways: Vec<String> = lines
         .iter()
         .map(|line| format!("{} {} {:#x}", line.valid, line.dirty, line.address))
         .collect();
-    format!("[{}] order {order:?}", ways.join(", "))
+    let ways = ways.join(", ");
+    match order {
+        // L1P has no order of use.
+        [] => format!("[{ways}]"),
+        _ => format!("[{ways}] order {order:?}"),
+    }
 }
 
 /// Where the bytes of two records differ whose fields may be the same.
@@ -933,6 +1035,13 @@ pub fn record_difference(ours: &CRecord, theirs: &CRecord) -> String {
             found.push(format!("L2 set {set} is {ours}, expected {theirs}"));
         }
     }
+    for (set, (ours, theirs)) in ours.l1p.iter().zip(&theirs.l1p).enumerate() {
+        if ours != theirs {
+            let ours = set_words(&ours.lines, &[]);
+            let theirs = set_words(&theirs.lines, &[]);
+            found.push(format!("L1P set {set} is {ours}, expected {theirs}"));
+        }
+    }
     let more = found.len().saturating_sub(3);
     found.truncate(3);
     let mut text = found.join("; ");
@@ -953,7 +1062,7 @@ mod tests {
     use oracle::{Direction, Left, Line, Record, Report, Unaligned};
 
     /// 2 for each of 128 sets of L1D, 2 for each line.
-    const PADDING_BYTES: usize = 128 * 2 + (128 * 2 + 512 * 4) * 2;
+    const PADDING_BYTES: usize = 128 * 2 + (128 * 2 + 512 * 4 + 512) * 2;
 
     #[test]
     fn padding_is_no_field() {
@@ -1080,9 +1189,9 @@ mod tests {
                 for filling in [2, 3] {
                     let drawn = Transfer { direction, address: 0x8000_0000, length, filling };
                     let mut buffer = Buffer::of(&drawn);
-                    let Setup { l1d, l2, ext, .. } = &mut setup;
+                    let Setup { l1d, l2, ext, l1p, .. } = &mut setup;
                     let stood = ext.clone();
-                    let lent = Lent { l1d, l2, ext };
+                    let lent = Lent { l1d, l2, ext, l1p };
                     let answer = transfer(&mut record, &drawn, &mut buffer, lent);
                     assert_eq!(answer.number, number, "{drawn:?}");
                     let given = drawn.buffer().unwrap_or_default();
@@ -1113,8 +1222,8 @@ mod tests {
                 let drawn = Frame { turn: 6, length, filling };
                 let (mut setup, mut pixels) = (start.clone(), Buffer::of_frame(&drawn));
                 let mut record = record_of(&setup.record);
-                let Setup { l1d, l2, ext, .. } = &mut setup;
-                let lent = Lent { l1d, l2, ext };
+                let Setup { l1d, l2, ext, l1p, .. } = &mut setup;
+                let lent = Lent { l1d, l2, ext, l1p };
                 let framed = frame(&mut record, &drawn, &mut pixels, lent);
                 assert_eq!(pixels.whole(), Buffer::of_frame(&drawn).whole());
                 let sums = if number == 0 { column_sums(pixels.bytes()) } else { [0; 64] };
@@ -1130,8 +1239,8 @@ mod tests {
             };
             let mut setup = start.clone();
             let mut record = record_of(&setup.record);
-            let Setup { l1d, l2, ext, .. } = &mut setup;
-            let lent = Lent { l1d, l2, ext };
+            let Setup { l1d, l2, ext, l1p, .. } = &mut setup;
+            let lent = Lent { l1d, l2, ext, l1p };
             let read = calls.make(&mut record, &[7; 3_072], lent);
             assert_eq!(
                 (read[0], read[64], read.len()),
@@ -1148,9 +1257,9 @@ mod tests {
         setup.mode(1);
         let access = Unaligned::Read { size: 4, address: 0x8000_003E };
         for (downwards, values) in [(false, [62, 63, 64, 65]), (true, [65, 64, 63, 62])] {
-            let Setup { mut l1d, mut l2, mut ext, .. } = setup.clone();
+            let Setup { mut l1d, mut l2, mut ext, mut l1p, .. } = setup.clone();
             let mut record = record_of(&setup.record);
-            let lent = Lent { l1d: &mut l1d, l2: &mut l2, ext: &mut ext };
+            let lent = Lent { l1d: &mut l1d, l2: &mut l2, ext: &mut ext, l1p: &mut l1p };
             let bytes = by_bytes(&mut record, &access, lent, downwards);
             let told = bytes.iter().map(|byte| (byte.number, byte.server, byte.value));
             let servers = [4, 1, 3, 1];

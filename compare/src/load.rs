@@ -200,7 +200,8 @@ fn bytes_differ(ours: &[u8], theirs: &[u8], length: usize) -> Wrong {
 fn run_over(trace: &[u8], case: &Case, met: &mut Met) -> Result<(), Wrong> {
     let mut setup = Setup::fresh(32_768, case.e);
     let mut record = record_of(&setup.record);
-    let lent = Lent { l1d: &mut setup.l1d, l2: &mut setup.l2, ext: &mut setup.ext };
+    let lent =
+        Lent { l1d: &mut setup.l1d, l2: &mut setup.l2, ext: &mut setup.ext, l1p: &mut setup.l1p };
     let mut answers = vec![0xEE; ANSWER_BYTES * case.accesses as usize];
     let mut run = boundary::run(&mut record, trace, lent, &mut answers);
     plant::load_run(&mut run, &mut answers);

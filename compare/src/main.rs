@@ -34,7 +34,7 @@ compare: the calls of the boundary against the reference model
   --bench-trace PATH   the program bench-trace, to be compared as well
   --section NAME       only this section: records, lists, traces, refusals, views,
                        short-runs, writing, two-runs, dropped, reaching, load, frozen,
-                       thrashing, transfers, frames
+                       thrashing, transfers, frames, fetches
   --group K            only group K of that section
   --input K            nothing but input K of bench-trace
   --now PATH           a file that says which group is being run
@@ -171,7 +171,7 @@ fn run(arguments: &Arguments) -> Result<bool, String> {
     }
     let numbers = NUMBERS.map(|number| format!("{number}: {}", met.numbers[number]));
     println!("numbers met: {}", numbers.join(", "));
-    println!("servers met, 0 to 4: {:?}; modes: {:?}", met.servers, met.modes);
+    println!("servers met, 0 to 5: {:?}; modes: {:?}", met.servers, met.modes);
     println!(
         "refused calls and views with every byte of the record kept: {}; global writebacks with \
          nothing left dirty: {}; memories set against flat memory: {} after calls ({} with a line \
@@ -348,6 +348,44 @@ fn run(arguments: &Arguments) -> Result<bool, String> {
         frames.left_out,
         frames.by_calls
     );
+    let programs = &met.programs;
+    println!(
+        "fetches, L1P block and whole invalidations by number: {:?}; fetches by server, thawed and \
+         frozen: {:?}, by mode, with MAR bit 0 and 1: {:?}, of SRAM: {}; what L1P told, none, empty, \
+         clean: {:?}, L2: {:?}; of lines dirty in L1D by SRAM, L2 and external memory: {:?}; L2 lines \
+         that a half made dirty: {}; 15 before 5 and 4 before 7: {:?}; 5 at the ends: {:?}",
+        programs.numbers,
+        programs.servers,
+        programs.modes,
+        programs.sram,
+        programs.l1p,
+        programs.l2,
+        programs.beside_l1d,
+        programs.halves,
+        programs.several,
+        programs.ends
+    );
+    println!(
+        "L1P: lines that invalidations took and left beside them {:?}; commands of codes 3 to 6 and 10, \
+         and frames, that dropped lines {:?}, that left some L2 did not hold {:?}, all four of an L2 line \
+         {}; writes to lines held {}, L2 lines put out with some {}, transfers in over some {:?}; 10 by \
+         L1P alone {}, 1 by its length alone {}; bytes by flat memory, written, of those others {:?}, \
+         fetches with both {}, refused {}; in lists with drops {}; over other bytes {}",
+        programs.taken,
+        programs.dropped,
+        programs.kept,
+        programs.four,
+        programs.written,
+        programs.put_out,
+        programs.transfers,
+        programs.mar,
+        programs.lengths,
+        programs.flat,
+        programs.both,
+        programs.flat_refused,
+        programs.history,
+        programs.moved
+    );
     let faults = met.possible_faults();
     println!(
         "ill-formed records made: {}; of each fault in each mode: {} at least",
@@ -491,6 +529,7 @@ fn met_everything(met: &Met) -> bool {
         && met.unaligned.met_everything()
         && met.transfers.met_everything()
         && met.frames.met_everything()
+        && met.programs.met_everything()
         && met.loads.iter().all(|&count| count > 500)
         && met.long_runs > 0
         && met.short_runs == 4_681

@@ -7,26 +7,31 @@ use std::panic::{catch_unwind, AssertUnwindSafe};
 use oracle::calls::{fresh_start, look, look_number};
 use oracle::covered::Covered;
 use oracle::dropped::History;
+use oracle::fetches::FETCHED_BYTES;
 use oracle::flat::Flat;
 use oracle::frames::{place_of, FRAME_BYTES, LEAST_EXTERNAL};
 use oracle::gen::{
     code, Fault, Frame, Setup, Transfer, FAULTS, LEGAL_MODES, LONGEST_BUFFER, RANGE_BYTES,
 };
 use oracle::geometry::{
-    external_length_is_legal, l2_length_is_legal, sram_size, L1d, EXTERNAL_BASE, L1D_BYTES, L2,
+    external_length_is_legal, l2_length_is_legal, sram_size, L1d, L1p, EXTERNAL_BASE, L1D_BYTES,
+    L1P_BYTES, L2,
 };
 use oracle::machine::{SERVER_EXTERNAL, SERVER_L1D, SERVER_L2};
 use oracle::short_runs;
 use oracle::trace::{decode, ANSWER_BYTES};
 use oracle::transfers::LONGEST_TRANSFER;
 use oracle::wellformed::is_well_formed;
-use oracle::{Answer, Command, Direction, Framed, Record, Reply, RunResult, Unaligned};
+use oracle::written::Written;
+use oracle::{
+    Answer, Command, Direction, Fetched, Framed, Program, Record, Reply, RunResult, Unaligned,
+};
 
 use crate::boundary::{
-    self, byte_difference, column_sums, dirty_line, dirty_marks, l1d_holds, l1d_is_dirty, l2_holds,
-    l2_is_dirty, left_by_records, padding_of, record_difference, record_of, report_of, same_record,
-    Buffer, CAnswer, CFramed, CLeft, CLine, CRecord, CReport, CRunNumber, CShortRun, FrameCalls,
-    Held, Lent,
+    self, byte_difference, column_sums, dirty_line, dirty_marks, l1d_holds, l1d_is_dirty,
+    l1p_holds, l1p_left_by_records, l1p_left_of, l2_holds, l2_is_dirty, left_by_records,
+    padding_of, record_difference, record_of, report_of, same_record, Buffer, CAnswer, CFetched,
+    CFramed, CLeft, CLine, CRecord, CReport, CRunNumber, CShortRun, FrameCalls, Held, Lent,
 };
 use crate::now;
 use crate::plant;
@@ -47,6 +52,8 @@ pub enum OddPlace {
     L1dDirty { set: usize, way: usize },
     L2Valid { set: usize, way: usize },
     L2Dirty { set: usize, way: usize },
+    L1pValid { set: usize },
+    L1pDirty { set: usize },
 }
 
 /// Where a list of calls begins: a record with its memories, bytes of C's
@@ -77,6 +84,7 @@ pub enum Op {
     Unaligned(Unaligned),
     Transfer(Transfer),
     Frame(Frame),
+    Program(Program),
     Run { trace: Vec<u8>, answer_bytes: usize },
     RunAndSingleCalls { trace: Vec<u8>, answer_bytes: usize },
     View { address: u32, buffer: usize },
@@ -85,7 +93,8 @@ pub enum Op {
 }
 
 /// The numbers that calls give back.
-pub const NUMBERS: [usize; 19] = [0, 1, 2, 3, 4, 5, 6, 7, 8, 9, 10, 11, 12, 13, 14, 17, 18, 19, 20];
+pub const NUMBERS: [usize; 20] =
+    [0, 1, 2, 3, 4, 5, 6, 7, 8, 9, 10, 11, 12, 13, 14, 15, 17, 18, 19, 20];
 
 /// What was met, to see that a comparison was worth running.
 #[derive(Clone, Default, Debug)]
@@ -99,7 +108,7 @@ pub struct Met {
     pub two_runs: TwoRuns,
     /// Loads that were made, and those refused with 1 and with 16.
     pub loads: [u64; 3],
-    pub servers: [u64; 5],
+    pub servers: [u64; 6],
     pub modes: [u64; 8],
     /// Accesses to each MAR range with the bit 0 and with the bit 1.
     pub ranges: [[u64; 2]; 2],
@@ -137,6 +146,174 @@ pub struct Met {
     pub unaligned: UnalignedMet,
     pub transfers: TransfersMet,
     pub frames: FramesMet,
+    pub programs: ProgramsMet,
+}
+
+/// What fetches and invalidations of L1P met, and other calls while L1P held lines.
+#[derive(Clone, Default, Debug)]
+pub struct ProgramsMet {
+    /// By their number: fetches, block and whole invalidations.
+    pub numbers: [[u64; 21]; 3],
+    /// Accepted fetches by their server, thawed and frozen; by the mode, with MAR bit 0 and 1; of SRAM.
+    pub servers: [[u64; 6]; 2],
+    pub modes: [[u64; 2]; 8],
+    pub sram: u64,
+    /// What L1P told, none, empty and clean; and L2, none, empty, clean and dirty.
+    pub l1p: [u64; 3],
+    pub l2: [u64; 4],
+    /// Fetches of what L1D held dirty: served by SRAM, by L2, by external memory.
+    pub beside_l1d: [u64; 3],
+    /// Fetches that put out an L2 line which a half of L1D made dirty.
+    pub halves: u64,
+    /// 15 where 5 is due as well, and 4 where 7 is.
+    pub several: [u64; 2],
+    /// Refused by 5: across the end of SRAM, and of external memory.
+    pub ends: [u64; 2],
+    /// Lines that invalidations took, and those of a block that it left beside it.
+    pub taken: [u64; 2],
+    /// Lines of L1P that commands dropped, by the code from 3 to 6 and 10, frames last; those that a
+    /// command's block held and that it left, since L2 did not hold them.
+    pub dropped: [u64; 6],
+    pub kept: [u64; 6],
+    /// All four lines of an L2 line dropped at once.
+    pub four: u64,
+    /// Accepted writes to what L1P held, L2 lines put out with lines in L1P, transfers in over them.
+    pub written: u64,
+    pub put_out: u64,
+    pub transfers: [u64; 2],
+    /// 10 by a line of L1P alone.
+    pub mar: u64,
+    /// Refused with 1 by the length of L1P's buffer alone.
+    pub lengths: u64,
+    /// Bytes set against flat memory, those left out since they were written, of these others than
+    /// flat memory's; fetches with bytes of both kinds; refused fetches.
+    pub flat: [u64; 3],
+    pub both: u64,
+    pub flat_refused: u64,
+    /// In lists with drops, and made over other bytes too.
+    pub history: u64,
+    pub moved: u64,
+}
+
+impl ProgramsMet {
+    /// Whether everything came up that should.
+    pub fn met_everything(&self) -> bool {
+        let [fetch, block, all] = &self.numbers;
+        let fetches = [0, 1, 2, 5, 15].map(|number| fetch[number]);
+        let blocks = [0, 1, 2, 4, 7].map(|number| block[number]);
+        let alls = [0, 1, 2].map(|number| all[number]);
+        let servers = self.servers.iter().flat_map(|by| by[2..].to_vec());
+        let modes = [0, 1, 2, 3, 7].map(|mode| self.modes[mode]);
+        // Code 4 keeps them all.
+        let dropped = [0, 2, 3, 4, 5].map(|by| self.dropped[by]);
+        let many = fetches.into_iter().chain(blocks).chain(alls).chain(servers).chain(dropped);
+        let told = self.l1p.iter().chain(&self.l2).chain(&self.beside_l1d).chain(&self.taken);
+        let lists = self.flat.iter().chain([&self.both, &self.flat_refused, &self.history]);
+        let others = [self.sram, self.halves, self.four, self.written, self.put_out, self.mar];
+        many.chain(others).all(|count| count > 25)
+            && told.chain(lists).chain(&self.several).all(|&count| count > 30)
+            && self.transfers.iter().chain(&self.ends).all(|&count| count > 20)
+            && self.kept[..4].iter().all(|&count| count > 20)
+            && modes.iter().flatten().all(|&count| count > 10)
+            && self.lengths > 20
+            && self.moved > 100
+            && self.dropped[1] == 0
+    }
+
+    /// A call of L1P, what it gave back, and the records before and after it.
+    fn count(&mut self, call: &Program, called: &CFetched, passed: &CRecord, record: &CRecord) {
+        let number = usize::from(called.answer.number) % 21;
+        let address = match *call {
+            Program::Fetch { address } => address,
+            Program::InvalidateBlock { base, count } => {
+                self.numbers[1][number] += 1;
+                self.several[1] += u64::from(number == 4 && count > 65_535);
+                let taken = lines_gone(passed, record).count() as u64;
+                self.taken[0] += u64::from(number == 0 && taken > 0);
+                let beside = |line: &CLine| line.address / 64 == base / 64;
+                let mut stay =
+                    record.l1p.iter().map(|set| &set.lines[0]).filter(|at| at.valid == 1);
+                self.taken[1] += u64::from(number == 0 && taken > 0 && stay.any(beside));
+                return;
+            }
+            Program::InvalidateAll => {
+                self.numbers[2][number] += 1;
+                return;
+            }
+        };
+        self.numbers[0][number] += 1;
+        let (sram, end) = (
+            sram_size(passed.l2len, passed.mode.into()),
+            EXTERNAL_BASE.wrapping_add(passed.extlen),
+        );
+        let outside = address >= sram && address < EXTERNAL_BASE || address >= end;
+        self.several[0] += u64::from(number == 15 && outside);
+        for (count, at) in self.ends.iter_mut().zip([sram, end]) {
+            *count += u64::from(number == 5 && address == at);
+        }
+        if number != 0 {
+            return;
+        }
+        let external = address >= EXTERNAL_BASE;
+        let server = usize::from(called.answer.server) % 6;
+        self.servers[usize::from(passed.frozen)][server] += 1;
+        if external {
+            let first = address < EXTERNAL_BASE + RANGE_BYTES;
+            let mar = if first { passed.mar128 } else { passed.mar129 };
+            self.modes[usize::from(passed.mode)][usize::from(mar)] += 1;
+        }
+        self.sram += u64::from(!external);
+        self.l1p[usize::from(called.l1p_left.kind) % 3] += 1;
+        let left = called.answer.l2_left;
+        self.l2[usize::from(left.kind) % 4] += 1;
+        if l1d_is_dirty(passed, L1d::line_address(address)) && (2..=4).contains(&server) {
+            self.beside_l1d[server - 2] += 1;
+        }
+        self.halves += u64::from(left.kind == 3 && !l2_is_dirty(passed, left.address));
+        self.put_out += u64::from(left.is_line() && holds_inside(passed, left.address));
+    }
+
+    /// What an accepted command did to L1P, or left there.
+    fn count_command(&mut self, command: &Command, called: &CAnswer, passed: &CRecord) {
+        match *command {
+            Command::Write { address, .. } => self.written += u64::from(l1p_holds(passed, address)),
+            Command::Read { .. } => {}
+            _ => return,
+        }
+        let left = called.l2_left;
+        self.put_out += u64::from(left.is_line() && holds_inside(passed, left.address));
+    }
+
+    /// What a command, by its code, or a frame, 13, took out of L1P.
+    fn count_dropped(&mut self, code: usize, passed: &CRecord, record: &CRecord) {
+        let place = match code {
+            3..=6 => code - 3,
+            10 => 4,
+            13 => 5,
+            _ => return,
+        };
+        let gone: Vec<u32> = lines_gone(passed, record).collect();
+        self.dropped[place] += u64::from(!gone.is_empty());
+        let held = |line: &CLine| line.valid == 1;
+        let stay = record.l1p.iter().map(|set| &set.lines[0]).filter(|line| held(line));
+        let beside_l2 =
+            |line: &CLine| line.address >= EXTERNAL_BASE && !l2_holds(passed, line.address);
+        self.kept[place] += u64::from(stay.filter(|line| beside_l2(line)).count() > 0);
+        let whole = |line: &u32| [32, 64, 96].iter().all(|more| gone.contains(&(line + more)));
+        self.four += u64::from(gone.iter().any(|line| line % L2::LINE == 0 && whole(line)));
+    }
+}
+
+/// The lines that L1P held before and does not hold now.
+fn lines_gone<'a>(passed: &'a CRecord, record: &'a CRecord) -> impl Iterator<Item = u32> + 'a {
+    let were = passed.l1p.iter().map(|set| set.lines[0]);
+    let pairs = were.zip(record.l1p.iter().map(|set| set.lines[0]));
+    pairs.filter(|(was, now)| was.valid == 1 && now.valid == 0).map(|(was, _)| was.address)
+}
+
+/// Whether L1P holds a line inside this one of L2.
+fn holds_inside(record: &CRecord, l2_line: u32) -> bool {
+    (0..L2::LINE).step_by(L1p::LINE as usize).any(|place| l1p_holds(record, l2_line + place))
 }
 
 /// What frames met.
@@ -727,6 +904,9 @@ pub struct TwoRuns {
     /// Accepted frames of runs that differ in data, and in one byte; those over the byte.
     pub frames: [u64; 2],
     pub frames_over: u64,
+    /// Accepted fetches of runs that differ in data, and in one byte; those that answer the byte.
+    pub fetches: [u64; 2],
+    pub fetches_parted: u64,
 }
 
 impl TwoRuns {
@@ -738,7 +918,7 @@ impl TwoRuns {
             && self.codes.iter().all(|&count| count > 20)
             // 11 to 16 are no number of a single call.
             && (0..=10).chain([17]).all(|number| self.numbers[number] > 20)
-            && self.frozen[1..].iter().all(|&count| count > 100)
+            && self.frozen[1..].iter().all(|&count| count > 60)
             && self.left.iter().flatten().all(|&count| count > 10)
             && self.unaligned.iter().all(|&count| count > 100)
             && self.unaligned_parted > 5
@@ -746,6 +926,8 @@ impl TwoRuns {
             && self.transfers_parted > 5
             && self.frames.iter().all(|&count| count > 10)
             && self.frames_over > 3
+            && self.fetches.iter().all(|&count| count > 100)
+            && self.fetches_parted > 5
     }
 }
 
@@ -841,7 +1023,9 @@ struct Moved {
     l1d: Vec<u8>,
     l2: Vec<u8>,
     ext: Vec<u8>,
+    l1p: Vec<u8>,
     value: u64,
+    bytes: [u8; FETCHED_BYTES],
 }
 
 /// A copy of our side.
@@ -851,11 +1035,15 @@ pub struct Ours {
     pub l1d: Vec<u8>,
     pub l2: Vec<u8>,
     pub ext: Vec<u8>,
+    pub l1p: Vec<u8>,
 }
 
 impl Ours {
     pub fn lent(&mut self) -> (&mut CRecord, Lent<'_>) {
-        (&mut self.record, Lent { l1d: &mut self.l1d, l2: &mut self.l2, ext: &mut self.ext })
+        (
+            &mut self.record,
+            Lent { l1d: &mut self.l1d, l2: &mut self.l2, ext: &mut self.ext, l1p: &mut self.l1p },
+        )
     }
 }
 
@@ -887,11 +1075,14 @@ struct Pair<'a> {
     l1d: Vec<u8>,
     l2: Vec<u8>,
     ext: Vec<u8>,
+    l1p: Vec<u8>,
     theirs: Setup,
     odd: bool,
     flat: Option<Flat>,
     /// Beside flat memory: which external transfers it agrees with.
     covered: Option<Covered>,
+    /// And with which bytes of a fetch.
+    written: Option<Written>,
     history: Option<History>,
     moves: bool,
     /// What the last frame gave back.
@@ -925,10 +1116,12 @@ fn make(start: &Start, ops: &[Op], met: &mut Met, reached: &mut usize) -> Result
         l1d: start.setup.l1d.clone(),
         l2: start.setup.l2.clone(),
         ext: start.setup.ext.clone(),
+        l1p: start.setup.l1p.clone(),
         theirs: start.setup.clone(),
         odd: start.odd.iter().any(|odd| odd.value > 1),
         flat: start.flat.then(|| Flat::fresh(start.setup.record.l, &start.setup.ext)),
         covered: start.flat.then(|| Covered::fresh(start.setup.record.e)),
+        written: start.flat.then(Written::fresh),
         history: start.history.then(|| History::fresh(&start.setup)),
         moves: start.moves,
         framed: None,
@@ -954,6 +1147,8 @@ pub fn odd_byte(record: &mut CRecord, place: OddPlace) -> &mut u8 {
         OddPlace::L1dDirty { set, way } => &mut record.l1d[set].lines[way].dirty,
         OddPlace::L2Valid { set, way } => &mut record.l2[set].lines[way].valid,
         OddPlace::L2Dirty { set, way } => &mut record.l2[set].lines[way].dirty,
+        OddPlace::L1pValid { set } => &mut record.l1p[set].lines[0].valid,
+        OddPlace::L1pDirty { set } => &mut record.l1p[set].lines[0].dirty,
     }
 }
 
@@ -1157,14 +1352,17 @@ impl Pair<'_> {
     fn lent(&mut self) -> (&mut CRecord, Lent<'_>) {
         self.record.pad_like(&self.padding);
         *self.passed = **self.record;
-        (&mut self.record, Lent { l1d: &mut self.l1d, l2: &mut self.l2, ext: &mut self.ext })
+        (
+            &mut self.record,
+            Lent { l1d: &mut self.l1d, l2: &mut self.l2, ext: &mut self.ext, l1p: &mut self.l1p },
+        )
     }
 
     /// The number that a record with a byte that is no bool gets: 1 if a lent
     /// length is illegal or unlike the record's, else 2. `with_l1d` is false
-    /// for the technician's call, which is not lent L1D.
+    /// for the technician's call, which is lent neither L1D nor L1P.
     fn odd_number(&self, with_l1d: bool) -> u8 {
-        let l1d_fits = !with_l1d || self.l1d.len() == L1D_BYTES;
+        let l1d_fits = !with_l1d || self.l1d.len() == L1D_BYTES && self.l1p.len() == L1P_BYTES;
         let l2_fits = l2_length_is_legal(self.l2.len() as u64)
             && self.l2.len() as u64 == u64::from(self.record.l2len);
         let ext_fits = external_length_is_legal(self.ext.len() as u64)
@@ -1189,6 +1387,7 @@ impl Pair<'_> {
             Op::Unaligned(access) => self.unaligned(access),
             Op::Transfer(transfer) => self.transfer(transfer),
             Op::Frame(frame) => self.frame(frame),
+            Op::Program(call) => self.program(call),
             Op::Run { trace, answer_bytes } => self.run(trace, *answer_bytes).map(|_| ()),
             Op::RunAndSingleCalls { trace, answer_bytes } => {
                 self.run_and_single_calls(trace, *answer_bytes)
@@ -1200,11 +1399,14 @@ impl Pair<'_> {
     }
 
     fn fresh(&mut self) -> Result<(), Wrong> {
-        let (record, number) =
-            fresh_start(&mut self.theirs.l1d, &mut self.theirs.l2, &mut self.theirs.ext);
+        let (record, number) = {
+            let Setup { l1d, l2, ext, l1p, .. } = &mut self.theirs;
+            fresh_start(l1d, l2, ext, l1p)
+        };
+        let stood = self.l1p.clone();
         let (ours, lent) = self.lent();
         let mut called = boundary::fresh(ours, lent);
-        plant::fresh(&mut called, &mut self.record, &self.passed);
+        plant::fresh(&mut called, &mut self.record, &self.passed, &mut self.l1p, &stood);
         self.met.frozen.fresh += u64::from(self.passed.frozen == 1 && number == 0);
         self.met.calls += 1;
         self.met.numbers[number as usize] += 1;
@@ -1221,6 +1423,7 @@ impl Pair<'_> {
         if self.flat.is_some() {
             self.flat = Some(Flat::fresh(self.theirs.record.l, &self.theirs.ext));
             self.covered = Some(Covered::fresh(self.theirs.record.e));
+            self.written = Some(Written::fresh());
         }
         if self.history.is_some() {
             self.history = Some(History::fresh(&self.theirs));
@@ -1239,13 +1442,15 @@ impl Pair<'_> {
         let before = plant::before(command, &self.l2, &self.ext);
         let (record, lent) = self.lent();
         let mut called = boundary::direct(record, command, lent);
-        let lent = Lent { l1d: &mut self.l1d, l2: &mut self.l2, ext: &mut self.ext };
+        let lent =
+            Lent { l1d: &mut self.l1d, l2: &mut self.l2, ext: &mut self.ext, l1p: &mut self.l1p };
         plant::direct(command, &mut called, &mut self.record, &self.passed, lent, before);
         self.count(command, &theirs);
         let ours = answer_of(&called);
         expect_answer("answer", ours, theirs)?;
         expect_report("report", called.report(), report_of(&report))?;
         self.count_put_out(command, &called);
+        self.count_l1p(command, &called);
         self.count_beside_l2(command);
         self.count_frozen(command, &theirs);
         self.count_dirty(command, &theirs);
@@ -1266,6 +1471,149 @@ impl Pair<'_> {
         self.flat(command, &ours)
     }
 
+    /// What a command met in L1P.
+    fn count_l1p(&mut self, command: &Command, called: &CAnswer) {
+        let (passed, met) = (&self.passed, &mut self.met.programs);
+        if called.number == 10 {
+            let l1d = passed.l1d.iter().flat_map(|set| &set.lines);
+            let others = l1d.chain(passed.l2.iter().flat_map(|set| &set.lines));
+            let Command::Mar { number, .. } = *command else { return };
+            let of_range = |line: &CLine| line.valid == 1 && line.address >> 24 == number;
+            met.mar += u64::from(!others.into_iter().any(of_range));
+        }
+        if called.number == 1 && !self.odd {
+            let Setup { record, l1d, l2, ext, .. } = &self.theirs;
+            let fits = l1d.len() == L1D_BYTES
+                && (l2.len(), ext.len()) == (record.l as usize, record.e as usize)
+                && l2_length_is_legal(u64::from(record.l))
+                && external_length_is_legal(u64::from(record.e));
+            met.lengths += u64::from(fits);
+        }
+        if called.number == 0 {
+            met.count_command(command, called, passed);
+            met.count_dropped(usize::from(code(command)), passed, &self.record);
+        }
+    }
+
+    /// A fetch, or an invalidation of L1P (02, U4).
+    fn program(&mut self, call: &Program) -> Result<(), Wrong> {
+        let theirs = if self.odd {
+            Fetched::refused(self.odd_number(true))
+        } else {
+            self.theirs.program(call)
+        };
+        let Reply { answer, report } = theirs.reply;
+        let accepted = answer.number == 0;
+        let is_fetch = matches!(call, Program::Fetch { .. });
+        let moved = self.moved_fetch(accepted && is_fetch, call);
+        let copy = plant::wants_copy().then(|| self.ours());
+        let (record, lent) = self.lent();
+        let mut called = boundary::program(record, call, lent);
+        let lent =
+            Lent { l1d: &mut self.l1d, l2: &mut self.l2, ext: &mut self.ext, l1p: &mut self.l1p };
+        plant::program(call, &mut called, &mut self.record, &self.passed, lent, copy.as_ref());
+        self.met.calls += 1;
+        self.met.numbers[usize::from(answer.number)] += 1;
+        self.met.servers[usize::from(answer.server)] += 1;
+        self.met.odd += u64::from(self.odd);
+        if accepted {
+            self.met.modes[self.theirs.record.mode as usize] += 1;
+        }
+        let ours = answer_of(&called.answer);
+        expect_answer("answer", ours, answer)?;
+        expect_report("report", called.answer.report(), report_of(&report))?;
+        expect(Kind::Left, "report of L1P", called.l1p_left, l1p_left_of(&theirs))?;
+        expect_bytes("fetched", &called.bytes, &theirs.bytes)?;
+        self.met.programs.count(call, &called, &self.passed, &self.record);
+        self.met.frozen.refused += u64::from(self.passed.frozen > 1 && answer.number == 2);
+        self.expect_record(accepted)?;
+        self.expect_fetched_by_records(call, &called)?;
+        if let Some(over) = moved {
+            self.expect_moved_fetch(&called, &over)?;
+        }
+        if let (Some(history), true) = (&mut self.history, accepted) {
+            history.program(call, true);
+            self.met.programs.history += u64::from(is_fetch);
+        }
+        self.program_flat(call, &called)
+    }
+
+    /// What a fetch tells of the ways that it chose is what the records before and after it tell.
+    /// This asks the records alone, and not the reference model.
+    fn expect_fetched_by_records(&self, call: &Program, called: &CFetched) -> Result<(), Wrong> {
+        let (mut l2, mut l1p) = (CLeft::NONE, CLeft::NONE);
+        if let (Program::Fetch { address }, 0) = (*call, called.answer.number) {
+            l2 = left_by_records(&self.passed, &self.record, address).1;
+            l1p = l1p_left_by_records(&self.passed, &self.record, address);
+        }
+        plant::fetched_by_records(&mut l1p);
+        let ours = (called.answer.l1d_left, called.answer.l2_left, called.l1p_left);
+        let name = "report, by the records, of L1D, L2 and L1P";
+        expect(Kind::Left, name, ours, (CLeft::NONE, l2, l1p))
+    }
+
+    /// A fetch that will be accepted, made over an external memory each byte of which is another.
+    fn moved_fetch(&mut self, is_fetch: bool, call: &Program) -> Option<Moved> {
+        if !self.moves || !is_fetch {
+            return None;
+        }
+        let mut other = self.ours();
+        other.ext.iter_mut().for_each(|byte| *byte = !*byte);
+        let (record, lent) = other.lent();
+        let bytes = boundary::program(record, call, lent).bytes;
+        self.met.calls += 1;
+        let Ours { l1d, l2, ext, l1p, .. } = other;
+        Some(Moved { l1d, l2, ext, l1p, value: 0, bytes })
+    }
+
+    /// The counts of a fetch, seen from outside: a byte of L1P, of L2 or of its 32 that is another
+    /// was read; one of external memory that is the same was written.
+    fn expect_moved_fetch(&mut self, called: &CFetched, over: &Moved) -> Result<(), Wrong> {
+        let l1p = others(&self.l1p, &over.l1p);
+        let read = l1p.max(others(&self.l2, &over.l2)).max(others(&called.bytes, &over.bytes));
+        let mut theirs = (read, self.ext.len() as u32 - others(&self.ext, &over.ext));
+        plant::moved_fetch(&mut theirs);
+        self.met.programs.moved += 1;
+        let ours = (called.answer.external_read, called.answer.external_written);
+        expect(Kind::Moved, "bytes of a fetch read and written, by the bytes,", ours, theirs)?;
+        expect_bytes("L1D, over other bytes,", &over.l1d, &self.l1d)
+    }
+
+    /// "an accepted fetch gives flat memory's bytes wherever none of its 32 was written" (02, U4),
+    /// each byte asked for itself; and a refused one gets flat memory's number.
+    fn program_flat(&mut self, call: &Program, called: &CFetched) -> Result<(), Wrong> {
+        let (Some(flat), Some(covered), Some(written)) =
+            (&mut self.flat, &mut self.covered, &self.written)
+        else {
+            return Ok(());
+        };
+        let Program::Fetch { address } = *call else { return Ok(()) };
+        let (mut number, mut bytes) = flat.fetch(address);
+        plant::fetch_flat(&mut number, &mut bytes);
+        expect(Kind::Number, "number, by flat memory,", called.answer.number, number)?;
+        let met = &mut self.met.programs;
+        if number != 0 {
+            met.flat_refused += 1;
+            return Ok(());
+        }
+        if !plant::unfetched() {
+            covered.fetch(address, true);
+        }
+        let mut kinds = [false; 2];
+        for (place, (ours, theirs)) in called.bytes.iter().zip(bytes).enumerate() {
+            let was_written = plant::was_written(written.was(address + place as u32));
+            kinds[usize::from(was_written)] = true;
+            met.flat[usize::from(was_written)] += 1;
+            met.flat[2] += u64::from(was_written && *ours != theirs);
+            if !was_written {
+                let name = format!("byte {place} of a fetch, by flat memory,");
+                expect(Kind::Value, &name, *ours, theirs)?;
+            }
+        }
+        met.both += u64::from(kinds == [true; 2]);
+        Ok(())
+    }
+
     /// A non-aligned access (02, U6).
     fn unaligned(&mut self, access: &Unaligned) -> Result<(), Wrong> {
         let Reply { answer: theirs, report } = if self.odd {
@@ -1278,7 +1626,8 @@ impl Pair<'_> {
         let copy = (self.moves && accepted || plant::wants_copy()).then(|| self.ours());
         let (record, lent) = self.lent();
         let mut called = boundary::unaligned(record, access, lent);
-        let lent = Lent { l1d: &mut self.l1d, l2: &mut self.l2, ext: &mut self.ext };
+        let lent =
+            Lent { l1d: &mut self.l1d, l2: &mut self.l2, ext: &mut self.ext, l1p: &mut self.l1p };
         plant::unaligned(access, &mut called, &mut self.record, &self.passed, lent, copy.clone());
         self.met.calls += 1;
         self.met.numbers[usize::from(theirs.number)] += 1;
@@ -1324,7 +1673,8 @@ impl Pair<'_> {
         let copy = (self.moves && accepted || plant::wants_copy()).then(|| self.ours());
         let (record, lent) = self.lent();
         let mut called = boundary::transfer(record, transfer, &mut buffer, lent);
-        let lent = Lent { l1d: &mut self.l1d, l2: &mut self.l2, ext: &mut self.ext };
+        let lent =
+            Lent { l1d: &mut self.l1d, l2: &mut self.l2, ext: &mut self.ext, l1p: &mut self.l1p };
         let (ours, passed) = (&mut self.record, &self.passed);
         plant::transfer(transfer, &mut called, ours, passed, lent, &mut buffer, copy.as_ref());
         self.met.calls += 1;
@@ -1337,6 +1687,13 @@ impl Pair<'_> {
         expect_answer("answer", answer_of(&called), theirs)?;
         expect_report("report", called.report(), report_of(&report))?;
         self.met.transfers.count(transfer, &self.passed, theirs.number);
+        if accepted && transfer.is_in() {
+            let first = L1p::line_address(transfer.address);
+            let lines = (first..transfer.address + transfer.length as u32).step_by(32);
+            let held = lines.into_iter().any(|line| l1p_holds(&self.passed, line));
+            let external = transfer.address >= EXTERNAL_BASE;
+            self.met.programs.transfers[usize::from(external)] += u64::from(held);
+        }
         self.met.frozen.refused += u64::from(self.passed.frozen > 1 && theirs.number == 2);
         expect_bytes("buffer, with 64 bytes before it,", buffer.whole(), expected.whole())?;
         self.expect_record(accepted)?;
@@ -1367,7 +1724,8 @@ impl Pair<'_> {
         let copy = (self.moves && accepted || plant::wants_copy()).then(|| self.ours());
         let (record, lent) = self.lent();
         let mut called = boundary::frame(record, frame, &mut pixels, lent);
-        let lent = Lent { l1d: &mut self.l1d, l2: &mut self.l2, ext: &mut self.ext };
+        let lent =
+            Lent { l1d: &mut self.l1d, l2: &mut self.l2, ext: &mut self.ext, l1p: &mut self.l1p };
         let (ours, passed) = (&mut self.record, &self.passed);
         plant::frame(frame, &mut called, ours, passed, lent, &mut pixels, copy.as_ref());
         self.met.calls += 1;
@@ -1384,6 +1742,9 @@ impl Pair<'_> {
         self.met.frozen.refused += u64::from(self.passed.frozen > 1 && theirs.number == 2);
         expect_bytes("pixels, with 64 bytes before them,", pixels.whole(), expected.whole())?;
         self.expect_record(accepted)?;
+        if accepted {
+            self.met.programs.count_dropped(13, &self.passed, &self.record);
+        }
         // "the sums of each accepted frame are those of the camera's pixels": asked of them alone.
         if accepted {
             let mut sums = column_sums(pixels.bytes());
@@ -1419,6 +1780,7 @@ impl Pair<'_> {
         expect_bytes("L1D, by its calls,", &self.l1d, &copy.l1d)?;
         expect_bytes("L2, by its calls,", &self.l2, &copy.l2)?;
         expect_bytes("external memory, by its calls,", &self.ext, &copy.ext)?;
+        expect_bytes("L1P, by its calls,", &self.l1p, &copy.l1p)?;
         self.met.frames.by_calls += 1;
         Ok(())
     }
@@ -1439,6 +1801,9 @@ impl Pair<'_> {
         expect(Kind::Value, "sums, by flat memory,", ours.sums, theirs.sums)?;
         if number != 0 || !plant::unread(frame, covered) {
             covered.frame(frame.turn, number == 0);
+        }
+        if let Some(written) = &mut self.written {
+            written.frame(frame.turn, number == 0);
         }
         let met = &mut self.met.frames;
         met.flat[usize::from(number != 0)] += 1;
@@ -1498,6 +1863,7 @@ impl Pair<'_> {
         expect_bytes("L1D, by its parts,", &self.l1d, &copy.l1d)?;
         expect_bytes("L2, by its parts,", &self.l2, &copy.l2)?;
         expect_bytes("external memory, by its parts,", &self.ext, &copy.ext)?;
+        expect_bytes("L1P, by its parts,", &self.l1p, &copy.l1p)?;
         self.met.transfers.in_parts[usize::from(external)] += 1;
         Ok(())
     }
@@ -1538,6 +1904,9 @@ impl Pair<'_> {
             Direction::Out => flat.transfer_out(address, &mut bytes),
         };
         plant::transfer_flat(transfer, flat, &mut number, &mut bytes);
+        if let (Some(written), Direction::In) = (&mut self.written, transfer.direction) {
+            written.transfer_in(address, length, number == 0);
+        }
         expect(Kind::Number, "number, by flat memory,", ours, number)?;
         expect_bytes("buffer, by flat memory,", buffer.bytes(), &bytes)?;
         let by = usize::from(transfer.is_in());
@@ -1560,6 +1929,7 @@ impl Pair<'_> {
             l1d: self.l1d.clone(),
             l2: self.l2.clone(),
             ext: self.ext.clone(),
+            l1p: self.l1p.clone(),
         }
     }
 
@@ -1587,6 +1957,7 @@ impl Pair<'_> {
         expect_bytes("L1D, by single bytes,", &self.l1d, &copy.l1d)?;
         expect_bytes("L2, by single bytes,", &self.l2, &copy.l2)?;
         expect_bytes("external memory, by single bytes,", &self.ext, &copy.ext)?;
+        expect_bytes("L1P, by single bytes,", &self.l1p, &copy.l1p)?;
         let (record, lent) = down.lent();
         boundary::by_bytes(record, access, lent, true);
         let met = &mut self.met.unaligned;
@@ -1618,6 +1989,9 @@ impl Pair<'_> {
         if let Some(covered) = &mut self.covered {
             covered.unaligned(access, ours.number == 0);
         }
+        if let Some(written) = &mut self.written {
+            written.unaligned(access, ours.number == 0);
+        }
         let (mut number, mut value) = flat.apply_unaligned(access);
         plant::unaligned_flat(access, flat, &mut number, &mut value);
         expect(Kind::Number, "number, by flat memory,", ours.number, number)?;
@@ -1638,12 +2012,12 @@ impl Pair<'_> {
             return None;
         }
         let mut record = self.record.clone();
-        let (mut l1d, mut l2) = (self.l1d.clone(), self.l2.clone());
+        let (mut l1d, mut l2, mut l1p) = (self.l1d.clone(), self.l2.clone(), self.l1p.clone());
         let mut ext: Vec<u8> = self.ext.iter().map(|byte| !byte).collect();
-        let lent = Lent { l1d: &mut l1d, l2: &mut l2, ext: &mut ext };
+        let lent = Lent { l1d: &mut l1d, l2: &mut l2, ext: &mut ext, l1p: &mut l1p };
         let value = call(&mut record, lent).value;
         self.met.calls += 1;
-        Some(Moved { l1d, l2, ext, value })
+        Some(Moved { l1d, l2, ext, l1p, value, bytes: [0; FETCHED_BYTES] })
     }
 
     /// "These counts equal the bytes moved", seen from outside: a byte of external memory that
@@ -1825,6 +2199,9 @@ impl Pair<'_> {
         if let Some(covered) = &mut self.covered {
             covered.command(command, ours.number == 0);
         }
+        if let Some(written) = &mut self.written {
+            written.command(command, ours.number == 0);
+        }
         let said = self.flat.as_mut().and_then(|flat| flat.apply(command));
         let Some((mut number, mut value)) = said else { return Ok(()) };
         plant::flat_answer(command, &mut number, &mut value);
@@ -1895,7 +2272,7 @@ impl Pair<'_> {
     /// A run, and then its commands as single calls from the same beginning:
     /// the answers, the record and every byte are the same.
     fn run_and_single_calls(&mut self, trace: &[u8], answer_bytes: usize) -> Result<(), Wrong> {
-        let before = (self.record.clone(), self.l1d.clone(), self.l2.clone(), self.ext.clone());
+        let before = self.ours();
         let refused = self.odd || {
             let fits = self.odd_number(true) == 2;
             !fits || !is_well_formed(&self.theirs.record)
@@ -1905,7 +2282,7 @@ impl Pair<'_> {
         let mut theirs = (!refused).then(|| self.theirs.clone());
         let mut told = Ok(());
         let answers = self.run(trace, answer_bytes)?;
-        let (mut record, mut l1d, mut l2, mut ext) = before;
+        let Ours { mut record, mut l1d, mut l2, mut ext, mut l1p } = before;
         let mut passed = self.passed.clone();
         let mut place = 0;
         let mut count = 0;
@@ -1915,9 +2292,9 @@ impl Pair<'_> {
             record.pad_like(&self.padding);
             *passed = **record;
             let before = plant::before(&command, &l2, &ext);
-            let lent = Lent { l1d: &mut l1d, l2: &mut l2, ext: &mut ext };
+            let lent = Lent { l1d: &mut l1d, l2: &mut l2, ext: &mut ext, l1p: &mut l1p };
             let mut called = boundary::direct(&mut record, &command, lent);
-            let lent = Lent { l1d: &mut l1d, l2: &mut l2, ext: &mut ext };
+            let lent = Lent { l1d: &mut l1d, l2: &mut l2, ext: &mut ext, l1p: &mut l1p };
             plant::direct(&command, &mut called, &mut record, &passed, lent, before);
             self.met.calls += 1;
             self.met.numbers[called.number as usize] += 1;
@@ -1953,6 +2330,7 @@ impl Pair<'_> {
         expect_bytes("L1D after single calls,", &l1d, &self.l1d)?;
         expect_bytes("L2 after single calls,", &l2, &self.l2)?;
         expect_bytes("external memory after single calls,", &ext, &self.ext)?;
+        expect_bytes("L1P after single calls,", &l1p, &self.l1p)?;
         told
     }
 
@@ -2018,6 +2396,7 @@ impl Pair<'_> {
     fn memories(&mut self, op: &Op, whole: bool) -> Result<(), Wrong> {
         expect_bytes("L1D", &self.l1d, &self.theirs.l1d)?;
         expect_bytes("L2", &self.l2, &self.theirs.l2)?;
+        expect_bytes("L1P", &self.l1p, &self.theirs.l1p)?;
         if whole || self.ext.len() <= SMALL {
             return expect_bytes("external memory", &self.ext, &self.theirs.ext);
         }
@@ -2025,6 +2404,7 @@ impl Pair<'_> {
         let address = match *op {
             Op::Direct(Command::Read { address, .. } | Command::Write { address, .. }) => address,
             Op::Unaligned(access) => access.address(),
+            Op::Program(Program::Fetch { address }) => address,
             Op::Transfer(transfer) => {
                 length = transfer.length.min(LONGEST_TRANSFER);
                 transfer.address

@@ -10,20 +10,23 @@ use std::sync::OnceLock;
 use oracle::access::load;
 use oracle::covered::Covered;
 use oracle::dropped::History;
+use oracle::fetches::FETCHED_BYTES;
 use oracle::flat::Flat;
 use oracle::frames::{COLUMNS, FRAME_BYTES, LEAST_EXTERNAL, ROWS};
 use oracle::gen::{Frame, Transfer, RANGE_BYTES};
-use oracle::geometry::{external_offset, sram_size, L1d, EXTERNAL_BASE, L2};
+use oracle::geometry::{
+    external_offset, sram_size, L1d, L1p, EXTERNAL_BASE, L1D_BYTES, L1P_BYTES, L2,
+};
 use oracle::load::Load;
-use oracle::machine::{SERVER_L1D, SERVER_L2};
+use oracle::machine::{SERVER_L1D, SERVER_L1P, SERVER_L2};
 use oracle::trace::{decode, ANSWER_BYTES};
 use oracle::transfers::LONGEST_TRANSFER;
 use oracle::writer::Put;
-use oracle::{Answer, Command, Unaligned};
+use oracle::{Answer, Command, Program, Unaligned};
 
 use crate::boundary::{
-    self, column_sums, dirty_marks, Buffer, CAnswer, CFramed, CLeft, CLine, CRecord, CRun,
-    CRunNumber, CShortRun, FrameCalls, Lent,
+    self, column_sums, dirty_marks, l1p_holds, l2_holds, Buffer, CAnswer, CFetched, CFramed, CLeft,
+    CLine, CRecord, CRun, CRunNumber, CShortRun, FrameCalls, Lent,
 };
 use crate::pair::{Ours, SMALL};
 
@@ -244,6 +247,51 @@ enum Plant {
     FlatFrameUnread,
     DataFrame,
     FrameBeside,
+    L1pLooks,
+    L1pHitWay,
+    L1pHitServer,
+    L1pPast,
+    L1pPastWay,
+    L1pComing,
+    L1pUnfilled,
+    L1pFrozen,
+    L1pL2Order,
+    L1pHalves,
+    L1pIntoL1d,
+    L1pCounts,
+    L1pValue,
+    L1pOrder,
+    L1pAligned,
+    L1pRubbish,
+    L1pLength,
+    L1pDirty,
+    L1pWrites,
+    L1pUpdates,
+    L1pEvicted,
+    L1pWriteback,
+    L1pFirst,
+    L1pInvalidate,
+    L1pGlobal,
+    L1pBeside,
+    L1pMode,
+    L1pModeBytes,
+    L1pMar,
+    L1pTransfer,
+    L1pFrame,
+    L1pFresh,
+    L1pFreshBytes,
+    L1pBlock,
+    L1pCleared,
+    L1pAllServer,
+    L1pRun,
+    L1pByRecords,
+    L1pMoved,
+    FlatFetch,
+    FlatFetchNumber,
+    FlatWritten,
+    FlatUnfetched,
+    DataFetch,
+    FetchBeside,
     BenchOutput,
     BenchStatus,
 }
@@ -259,7 +307,7 @@ const fn planted(plant: Plant, name: &'static str, about: &'static str) -> Plant
     Planted { plant, name, about }
 }
 
-pub const PLANTS: [Planted; 216] = [
+pub const PLANTS: [Planted; 261] = [
     planted(Plant::ReadValue, "read-value", "a 4-byte read from L2 cache gets 1 more"),
     planted(Plant::ReadOrder, "read-order", "a read hit in L1D turns its set's order around"),
     planted(Plant::WriteNumber, "write-number", "a write refused with 6 gets 5"),
@@ -538,6 +586,83 @@ pub const PLANTS: [Planted; 216] = [
         "frame-beside",
         "..: all of external memory is added up, in two runs",
     ),
+    planted(Plant::L1pLooks, "l1p-looks", "a fetch: it takes what L1D holds of its line"),
+    planted(Plant::L1pHitWay, "l1p-hit-way", "..: a hit tells an empty way"),
+    planted(Plant::L1pHitServer, "l1p-hit-server", "..: L1P's server is L1D's"),
+    planted(Plant::L1pPast, "l1p-past", "..: with MAR bit 0 it comes into L1P"),
+    planted(Plant::L1pPastWay, "l1p-past-way", "..: with MAR bit 0 it tells an empty way"),
+    planted(
+        Plant::L1pComing,
+        "l1p-coming",
+        "..: it tells the line that comes as the one that left",
+    ),
+    planted(Plant::L1pUnfilled, "l1p-unfilled", "..: its bytes do not come into L1P"),
+    planted(Plant::L1pFrozen, "l1p-frozen", "..: while L1D is frozen it fills nothing"),
+    planted(Plant::L1pL2Order, "l1p-l2-order", "..: it uses no way of L2"),
+    planted(
+        Plant::L1pHalves,
+        "l1p-halves",
+        "..: halves stay in L1D without the line that it puts out of L2",
+    ),
+    planted(Plant::L1pIntoL1d, "l1p-into-l1d", "..: it comes into L1D as well"),
+    planted(Plant::L1pCounts, "l1p-counts", "..: in mode 0 it counts 64 bytes"),
+    planted(Plant::L1pValue, "l1p-value", "..: its first bytes are the value too"),
+    planted(Plant::L1pOrder, "l1p-order", "..: 5 comes before 15"),
+    planted(Plant::L1pAligned, "l1p-aligned", "..: 4 comes for 15"),
+    planted(Plant::L1pRubbish, "l1p-rubbish", "..: a refused one has bytes"),
+    planted(Plant::L1pLength, "l1p-length", "the length of L1P's buffer is not checked"),
+    planted(Plant::L1pDirty, "l1p-dirty", "a dirty line of L1P is accepted"),
+    planted(Plant::L1pWrites, "l1p-writes", "a write drops the line of L1P"),
+    planted(Plant::L1pUpdates, "l1p-updates", "a write hit changes L1P's byte too"),
+    planted(
+        Plant::L1pEvicted,
+        "l1p-evicted",
+        "an L2 line that is put out takes its lines out of L1P",
+    ),
+    planted(Plant::L1pWriteback, "l1p-writeback", "L2 writebacks drop lines of L1P"),
+    planted(
+        Plant::L1pFirst,
+        "l1p-first",
+        "of the four lines inside an L2 line the first alone is dropped",
+    ),
+    planted(Plant::L1pInvalidate, "l1p-invalidate", "L2 block invalidate drops none"),
+    planted(Plant::L1pGlobal, "l1p-global", "L2 writeback-invalidate all drops none"),
+    planted(
+        Plant::L1pBeside,
+        "l1p-beside",
+        "L2 block commands drop the block's lines that L2 does not hold",
+    ),
+    planted(Plant::L1pMode, "l1p-mode", "a mode change drops none"),
+    planted(Plant::L1pModeBytes, "l1p-mode-bytes", "a mode change sets L1P's bytes zero"),
+    planted(Plant::L1pMar, "l1p-mar", "a MAR bit becomes 0 while L1P alone holds a line"),
+    planted(Plant::L1pTransfer, "l1p-transfer", "a transfer in drops the lines of L1P"),
+    planted(Plant::L1pFrame, "l1p-frame", "a frame drops none"),
+    planted(Plant::L1pFresh, "l1p-fresh", "a fresh start keeps L1P's lines"),
+    planted(Plant::L1pFreshBytes, "l1p-fresh-bytes", "a fresh start keeps L1P's bytes"),
+    planted(Plant::L1pBlock, "l1p-block", "L1P block invalidate takes 64 bytes for a line"),
+    planted(Plant::L1pCleared, "l1p-cleared", "L1P invalidate all sets its bytes zero"),
+    planted(Plant::L1pAllServer, "l1p-all-server", "L1P invalidate all has L1P as its server"),
+    planted(
+        Plant::L1pRun,
+        "l1p-run",
+        "a run that ends in L2 writeback-invalidate all leaves a line in L1P",
+    ),
+    planted(Plant::L1pByRecords, "l1p-by-records", "a line that left L1P is none by the records"),
+    planted(Plant::L1pMoved, "l1p-moved", "by the bytes of memory a fetch reads 64 at most"),
+    planted(Plant::FlatFetch, "flat-fetch", "by flat memory the last byte of a fetch is another"),
+    planted(Plant::FlatFetchNumber, "flat-fetch-number", "flat memory says 5 for 15"),
+    planted(
+        Plant::FlatWritten,
+        "flat-written",
+        "bytes that were written are set against flat memory too",
+    ),
+    planted(Plant::FlatUnfetched, "flat-unfetched", "a fetch is no access for external transfers"),
+    planted(
+        Plant::DataFetch,
+        "data-fetch",
+        "a fetch: with an odd byte it has another server, in two runs",
+    ),
+    planted(Plant::FetchBeside, "fetch-beside", "..: it brings the line beside it, in two runs"),
     planted(Plant::BenchOutput, "bench-output", "bench-trace prints a line more after an 8"),
     planted(Plant::BenchStatus, "bench-status", "bench-trace fails after a 7"),
 ];
@@ -904,6 +1029,8 @@ pub fn direct(
     let Some(plant) = CHOSEN.get() else { return };
     let (accepted, server) = (called.number == 0, called.server);
     let right = counts_are_right(record);
+    let mut lent = lent;
+    beside_l1p(*plant, command, called, record, passed, &mut lent);
     marked(*plant, command, called, record, passed, lent, before);
     reported(*plant, command, called, passed);
     counts_follow(record, right);
@@ -926,7 +1053,12 @@ fn marked(
 ) {
     let accepted = called.number == 0;
     if accepted && (is_global(command) || is_l2_block(command)) {
-        let lent = Lent { l1d: &mut *lent.l1d, l2: &mut *lent.l2, ext: &mut *lent.ext };
+        let lent = Lent {
+            l1d: &mut *lent.l1d,
+            l2: &mut *lent.l2,
+            ext: &mut *lent.ext,
+            l1p: &mut *lent.l1p,
+        };
         reached(plant, command, record, passed, lent, before);
     }
     if accepted && passed.frozen == 1 {
@@ -974,8 +1106,313 @@ fn marked(
     }
 }
 
-/// Whether this difference needs our side as it was before a non-aligned access, a transfer or a
-/// frame.
+/// The four lines of L1P inside one of L2.
+fn inside(l2_line: u32) -> impl Iterator<Item = u32> {
+    (0..L2::LINE).step_by(L1p::LINE as usize).map(move |place| l2_line + place)
+}
+
+/// Empties the way of L1P that holds this line, if one does.
+fn drop_l1p(record: &mut CRecord, line: u32) {
+    if l1p_holds(record, line) {
+        let held = &mut record.l1p[L1p::set_of(line)].lines[0];
+        (held.valid, held.dirty, held.address) = (0, 0, 0);
+    }
+}
+
+/// Puts a line of L1P back that the record had before.
+fn keep_l1p(record: &mut CRecord, passed: &CRecord, line: u32) {
+    if l1p_holds(passed, line) {
+        record.l1p[L1p::set_of(line)] = passed.l1p[L1p::set_of(line)];
+    }
+}
+
+/// Whether a call was refused by the length of L1P's buffer alone.
+fn by_l1p_length(number: u8, passed: &CRecord, lent: &Lent) -> bool {
+    let others = lent.l1d.len() == L1D_BYTES
+        && lent.l2.len() == passed.l2len as usize
+        && lent.ext.len() == passed.extlen as usize;
+    number == 1 && others && lent.l1p.len() != L1P_BYTES
+}
+
+/// Whether a record is refused for dirty lines of L1P alone, as far as can be seen at them.
+fn dirty_in_l1p(number: u8, passed: &CRecord) -> bool {
+    let mut lines = passed.l1p.iter().map(|set| &set.lines[0]);
+    number == 2 && lines.any(|line| (line.valid, line.dirty) == (1, 1))
+}
+
+/// The base and end of an L2 block command.
+fn block_of(command: &Command) -> Option<Range<u32>> {
+    match *command {
+        Command::L2BlockWriteback { base, count }
+        | Command::L2BlockWritebackInvalidate { base, count }
+        | Command::L2BlockInvalidate { base, count } => {
+            Some(base..base.saturating_add(count.saturating_mul(4)))
+        }
+        _ => None,
+    }
+}
+
+/// What commands and data accesses have left in L1P (02, U4): mistakes in what reaches it.
+fn beside_l1p(
+    plant: Plant,
+    command: &Command,
+    called: &mut CAnswer,
+    record: &mut CRecord,
+    passed: &CRecord,
+    lent: &mut Lent,
+) {
+    if plant == Plant::L1pLength && by_l1p_length(called.number, passed, lent)
+        || plant == Plant::L1pDirty && dirty_in_l1p(called.number, passed)
+    {
+        called.number = 0;
+    }
+    if let (Plant::L1pMar, Command::Mar { number, .. }, 10) = (plant, command, called.number) {
+        let l1d = passed.l1d.iter().flat_map(|set| &set.lines);
+        let mut others = l1d.chain(passed.l2.iter().flat_map(|set| &set.lines));
+        if !others.any(|line| line.valid == 1 && line.address >> 24 == *number) {
+            *(if *number == 128 { &mut record.mar128 } else { &mut record.mar129 }) = 0;
+            called.number = 0;
+        }
+    }
+    if called.number != 0 {
+        return;
+    }
+    let l2_lines: Vec<u32> = passed
+        .l2
+        .iter()
+        .flat_map(|set| &set.lines)
+        .filter(|line| line.valid == 1)
+        .map(|line| line.address)
+        .collect();
+    let global_drop = matches!(command, Command::L2WritebackInvalidateAll);
+    match (plant, *command) {
+        (Plant::L1pWrites, Command::Write { address, .. }) => drop_l1p(record, address),
+        (Plant::L1pUpdates, Command::Write { address, .. }) if called.server == SERVER_L1D => {
+            if l1p_holds(record, address) {
+                let at = L1p::offset(L1p::set_of(address)) + (address % L1p::LINE) as usize;
+                change(lent.l1p.get_mut(at));
+            }
+        }
+        (Plant::L1pEvicted, Command::Read { .. } | Command::Write { .. })
+            if called.l2_left.is_line() =>
+        {
+            inside(called.l2_left.address).for_each(|line| drop_l1p(record, line));
+        }
+        (Plant::L1pWriteback, Command::L2WritebackAll) => {
+            l2_lines.into_iter().flat_map(inside).for_each(|line| drop_l1p(record, line));
+        }
+        (Plant::L1pWriteback, Command::L2BlockWriteback { .. }) => {
+            let block = block_of(command).unwrap_or_default();
+            let touched = l2_lines.into_iter().filter(|line| block.contains(line));
+            touched.flat_map(inside).for_each(|line| drop_l1p(record, line));
+        }
+        (Plant::L1pFirst, _) if is_global(command) || is_l2_block(command) => {
+            let behind = |line: u32| inside(line).skip(1);
+            l2_lines.into_iter().flat_map(behind).for_each(|line| keep_l1p(record, passed, line));
+        }
+        (Plant::L1pInvalidate, Command::L2BlockInvalidate { .. }) => record.l1p = passed.l1p,
+        (Plant::L1pGlobal, _) if global_drop => record.l1p = passed.l1p,
+        (Plant::L1pBeside, Command::L2BlockWritebackInvalidate { .. })
+        | (Plant::L1pBeside, Command::L2BlockInvalidate { .. }) => {
+            let block = block_of(command).unwrap_or_default();
+            let lines: Vec<u32> = passed.l1p.iter().map(|set| set.lines[0].address).collect();
+            let lines = lines.into_iter().filter(|line| block.contains(line));
+            lines.filter(|&line| !l2_holds(passed, line)).for_each(|line| drop_l1p(record, line));
+        }
+        // SRAM that is gone in the new mode would make the record ill formed.
+        (Plant::L1pMode, Command::Mode { .. }) => {
+            let sram = sram_size(record.l2len, record.mode.into());
+            let lines: Vec<CLine> = passed.l1p.iter().map(|set| set.lines[0]).collect();
+            for line in lines.iter().filter(|line| line.valid == 1) {
+                if line.address < sram || line.address >= EXTERNAL_BASE {
+                    keep_l1p(record, passed, line.address);
+                }
+            }
+        }
+        (Plant::L1pModeBytes, Command::Mode { .. }) => lent.l1p.fill(0),
+        _ => {}
+    }
+}
+
+/// What a fetch or an invalidation of L1P gave back, and the record and the memories after it.
+/// `before` is our side as it was, where the difference wants it.
+pub fn program(
+    call: &Program,
+    called: &mut CFetched,
+    record: &mut CRecord,
+    passed: &CRecord,
+    lent: Lent,
+    before: Option<&Ours>,
+) {
+    let Some(plant) = CHOSEN.get() else { return };
+    let number = called.answer.number;
+    let refused = match *plant {
+        Plant::L1pLength => by_l1p_length(number, passed, &lent),
+        Plant::L1pDirty => dirty_in_l1p(number, passed),
+        _ => false,
+    };
+    if refused {
+        called.answer.number = 0;
+    }
+    match (*plant, *call) {
+        (Plant::L1pBlock, Program::InvalidateBlock { .. }) if number == 0 => {
+            let lines = passed.l1p.iter().map(|set| set.lines[0]).filter(|line| line.valid == 1);
+            let gone = lines.filter(|line| !l1p_holds(record, line.address));
+            let beside: Vec<u32> = gone.map(|line| line.address ^ L1p::LINE).collect();
+            beside.into_iter().for_each(|line| drop_l1p(record, line));
+        }
+        (Plant::L1pCleared, Program::InvalidateAll) if number == 0 => lent.l1p.fill(0),
+        (Plant::L1pAllServer, Program::InvalidateAll) if number == 0 => {
+            called.answer.server = SERVER_L1P;
+        }
+        (_, Program::Fetch { address }) if number == 0 => {
+            fetched(*plant, address, called, record, passed, lent, before);
+        }
+        (_, Program::Fetch { address }) => refused_fetch(*plant, address, called, passed),
+        _ => {}
+    }
+}
+
+/// A fetch that was refused.
+fn refused_fetch(plant: Plant, address: u32, called: &mut CFetched, passed: &CRecord) {
+    let sram = sram_size(passed.l2len, passed.mode.into());
+    let end = EXTERNAL_BASE.saturating_add(passed.extlen);
+    let outside = address >= sram && !(EXTERNAL_BASE..end).contains(&address);
+    let number = &mut called.answer.number;
+    match plant {
+        Plant::L1pOrder if *number == 15 && outside => *number = 5,
+        Plant::L1pAligned if *number == 15 => *number = 4,
+        Plant::L1pRubbish if *number == 5 => called.bytes[FETCHED_BYTES - 1] = 0xB7,
+        _ => {}
+    }
+}
+
+/// A fetch that was accepted.
+fn fetched(
+    plant: Plant,
+    address: u32,
+    called: &mut CFetched,
+    record: &mut CRecord,
+    passed: &CRecord,
+    lent: Lent,
+    before: Option<&Ours>,
+) {
+    let hit = called.answer.server == SERVER_L1P;
+    let chose = called.l1p_left.kind != 0;
+    let set = L1p::set_of(address);
+    let l1d_set = L1d::set_of(address);
+    let l1d_line = L1d::line_address(address);
+    let at = |line: &CLine| line.valid == 1 && line.address == l1d_line;
+    match plant {
+        Plant::L1pLooks if chose => {
+            // An L2 line that left may have taken it out by now.
+            if let Some(way) = record.l1d[l1d_set].lines.iter().position(at) {
+                let from = L1d::offset(l1d_set, way) + (address - l1d_line) as usize;
+                called.bytes.copy_from_slice(&lent.l1d[from..from + FETCHED_BYTES]);
+                let to = L1p::offset(set);
+                lent.l1p[to..to + FETCHED_BYTES].copy_from_slice(&called.bytes);
+            }
+        }
+        Plant::L1pHitWay if hit => called.l1p_left = CLeft::EMPTY,
+        Plant::L1pHitServer if hit => called.answer.server = SERVER_L1D,
+        Plant::L1pPast if !hit && !chose => {
+            let line = &mut record.l1p[set].lines[0];
+            (line.valid, line.dirty, line.address) = (1, 0, address);
+        }
+        Plant::L1pPastWay if !hit && !chose => called.l1p_left = CLeft::EMPTY,
+        Plant::L1pComing if called.l1p_left.is_line() => called.l1p_left.address = address,
+        Plant::L1pUnfilled if chose => {
+            if let Some(before) = before {
+                lent.l1p.copy_from_slice(&before.l1p);
+            }
+        }
+        Plant::L1pFrozen if passed.frozen == 1 && chose => {
+            record.l1p[set] = passed.l1p[set];
+            called.l1p_left = CLeft::NONE;
+        }
+        Plant::L1pL2Order if chose && address >= EXTERNAL_BASE => {
+            if let Some(set) = L2::set_of(passed.mode.into(), address) {
+                record.l2[set].order = passed.l2[set].order;
+            }
+        }
+        Plant::L1pHalves if called.answer.l2_left.is_line() => {
+            record.l1d = passed.l1d;
+            (record.dirty_l1d, record.dirty_l2) = dirty_marks(record);
+        }
+        Plant::L1pIntoL1d if chose => {
+            let lines = &mut record.l1d[l1d_set].lines;
+            let free = lines.iter().position(|line| line.valid == 0);
+            if let (false, Some(way)) = (lines.iter().any(at), free) {
+                let line = &mut lines[way];
+                (line.valid, line.dirty, line.address) = (1, 0, l1d_line);
+            }
+        }
+        Plant::L1pCounts if chose && called.answer.external_read == L1p::LINE => {
+            called.answer.external_read = L1d::LINE;
+        }
+        Plant::L1pValue => called.answer.value = load(&called.bytes, 0, 8),
+        Plant::L1pEvicted if called.answer.l2_left.is_line() => {
+            inside(called.answer.l2_left.address)
+                .filter(|&line| line != address)
+                .for_each(|line| drop_l1p(record, line));
+        }
+        _ => {}
+    }
+}
+
+/// What the records tell of a fetch's way of L1P.
+pub fn fetched_by_records(told: &mut CLeft) {
+    if CHOSEN.get() == Some(&Plant::L1pByRecords) && told.is_line() {
+        *told = CLeft::EMPTY;
+    }
+}
+
+/// What the bytes of memory tell of a fetch.
+pub fn moved_fetch(bytes: &mut (u32, u32)) {
+    if CHOSEN.get() == Some(&Plant::L1pMoved) {
+        bytes.0 = bytes.0.min(L1d::LINE);
+    }
+}
+
+/// What flat memory says of a fetch.
+pub fn fetch_flat(number: &mut u8, bytes: &mut [u8; FETCHED_BYTES]) {
+    match CHOSEN.get() {
+        Some(Plant::FlatFetch) if *number == 0 => change(bytes.last_mut()),
+        Some(Plant::FlatFetchNumber) if *number == 15 => *number = 5,
+        _ => {}
+    }
+}
+
+/// Whether a byte counts as written.
+pub fn was_written(written: bool) -> bool {
+    written && CHOSEN.get() != Some(&Plant::FlatWritten)
+}
+
+/// Whether a fetch does not count as an access for external transfers.
+pub fn unfetched() -> bool {
+    CHOSEN.get() == Some(&Plant::FlatUnfetched)
+}
+
+/// What a fetch of one of two runs gave back.
+pub fn steered_fetch(call: &Program, called: &mut CFetched, ext: &[u8]) {
+    let Program::Fetch { address } = *call else { return };
+    if called.answer.number != 0 {
+        return;
+    }
+    match CHOSEN.get() {
+        Some(Plant::DataFetch) if called.bytes[0] % 2 == 1 => called.answer.server ^= 1,
+        Some(Plant::FetchBeside) if address >= EXTERNAL_BASE => {
+            let from = external_offset(address) + FETCHED_BYTES;
+            if let Some(line) = ext.get(from..from + FETCHED_BYTES) {
+                called.bytes.copy_from_slice(line);
+            }
+        }
+        _ => {}
+    }
+}
+
+/// Whether this difference needs our side as it was before a non-aligned access, a transfer, a
+/// frame or a fetch.
 pub fn wants_copy() -> bool {
     matches!(
         CHOSEN.get(),
@@ -995,6 +1432,7 @@ pub fn wants_copy() -> bool {
                 | Plant::FrameDown
                 | Plant::FrameFrozen
                 | Plant::FrameTurn
+                | Plant::L1pUnfilled
         )
     )
 }
@@ -1183,6 +1621,11 @@ pub fn transfer(
     before: Option<&Ours>,
 ) {
     let Some(plant) = CHOSEN.get() else { return };
+    if (*plant, called.number) == (Plant::L1pTransfer, 0) && transfer.is_in() {
+        let first = L1p::line_address(transfer.address);
+        let end = transfer.address + transfer.length as u32;
+        (first..end).step_by(L1p::LINE as usize).for_each(|line| drop_l1p(record, line));
+    }
     if called.number == 0 {
         let right = counts_are_right(record);
         transferred(*plant, transfer, record, passed, lent, buffer, before);
@@ -1392,6 +1835,7 @@ pub fn frame(
         Plant::FrameNarrow => called.sums.iter_mut().for_each(|sum| *sum &= 0xFF),
         Plant::FramePixels => change(pixels.bytes_mut().last_mut()),
         Plant::FrameCount => record.dirty_l1d = passed.dirty_l1d,
+        Plant::L1pFrame => record.l1p = passed.l1p,
         _ => {
             if let Some(before) = before {
                 mistaken_calls(*plant, frame, called, record, lent, pixels.bytes(), before.clone());
@@ -1540,7 +1984,18 @@ fn hold_sram_line(record: &mut CRecord) {
 }
 
 /// What a fresh start gave back, and the record after it.
-pub fn fresh(called: &mut CAnswer, record: &mut CRecord, passed: &CRecord) {
+pub fn fresh(
+    called: &mut CAnswer,
+    record: &mut CRecord,
+    passed: &CRecord,
+    l1p: &mut [u8],
+    stood: &[u8],
+) {
+    match CHOSEN.get() {
+        Some(Plant::L1pFresh) => record.l1p = passed.l1p,
+        Some(Plant::L1pFreshBytes) => l1p.copy_from_slice(stood),
+        _ => {}
+    }
     match CHOSEN.get() {
         Some(Plant::FreshNumber) if called.number == 1 => called.number = 2,
         Some(Plant::FreshRecord) if called.number == 0 => record.mar129 = 1,
@@ -1564,6 +2019,10 @@ pub fn run(run: &mut CRun, answers: &mut [u8], record: &mut CRecord, trace: &[u8
         Some(Plant::RunPadding) if run.stop == 2 => change(Some(record.some_padding())),
         // A code that is a whole command.
         Some(Plant::RunDirty) if run.stop == 0 && trace.last() == Some(&2) => make_dirty(record),
+        Some(Plant::L1pRun) if run.stop == 0 && trace.last() == Some(&3) => {
+            let line = &mut record.l1p[L1p::SETS - 1].lines[0];
+            (line.valid, line.dirty, line.address) = (1, 0, (L1p::SETS as u32 - 1) * L1p::LINE);
+        }
         Some(Plant::RunFreeze) if run.stop == 0 && first_is_freeze(trace) => run.stop = 11,
         Some(Plant::RunFreezeNumber) => {
             let mut numbers =

@@ -2,9 +2,9 @@
 //! decimal.
 
 use oracle::gen::{Frame, Transfer};
-use oracle::record::{L1dSet, L2Set, Line, Record};
+use oracle::record::{L1dSet, L1pSet, L2Set, Line, Record};
 use oracle::trace::decode;
-use oracle::{Command, Unaligned};
+use oracle::{Command, Program, Unaligned};
 
 use crate::pair::Op;
 use crate::shrink::{Case, Size};
@@ -28,12 +28,15 @@ pub fn report(case: &Case) {
     println!("{}", left(&case.size()));
     let setup = &case.start.setup;
     println!(
-        "memories: L1D {} L2 {} external {} bytes",
+        "memories: L1D {} L2 {} external {} L1P {} bytes",
         setup.l1d.len(),
         setup.l2.len(),
-        setup.ext.len()
+        setup.ext.len(),
+        setup.l1p.len()
     );
-    for (name, bytes) in [("L1D", &setup.l1d), ("L2", &setup.l2), ("external", &setup.ext)] {
+    let memories =
+        [("L1D", &setup.l1d), ("L2", &setup.l2), ("external", &setup.ext), ("L1P", &setup.l1p)];
+    for (name, bytes) in memories {
         if bytes.iter().all(|&byte| byte == 0) {
             println!("  {name} bytes: all 0");
         } else {
@@ -80,6 +83,9 @@ pub fn record_words(record: &Record) -> String {
     for (set, held) in record.l2.iter().enumerate().filter(|(_, set)| **set != L2Set::FRESH) {
         words += &format!("\n  L2 set {set}: {}", set_words(&held.lines, &held.order));
     }
+    for (set, held) in record.l1p.iter().enumerate().filter(|(_, set)| **set != L1pSet::FRESH) {
+        words += &format!("\n  L1P set {set}: {}", set_words(&held.lines, &[]));
+    }
     words
 }
 
@@ -91,7 +97,11 @@ fn set_words(lines: &[Line], order: &[u8]) -> String {
         let dirty = if line.dirty { "dirty" } else { "clean" };
         words.push_str(&format!("way {way} {valid} {dirty} {:#x}, ", line.address));
     }
-    format!("{words}order {order:?}")
+    match order {
+        // L1P has no order of use.
+        [] => words.trim_end_matches(", ").into(),
+        _ => format!("{words}order {order:?}"),
+    }
 }
 
 fn report_op(number: usize, op: &Op) {
@@ -105,6 +115,7 @@ fn report_op(number: usize, op: &Op) {
         Op::Unaligned(access) => println!("{number}: {}", unaligned_words(access)),
         Op::Transfer(transfer) => println!("{number}: {}", transfer_words(transfer)),
         Op::Frame(frame) => println!("{number}: {}", frame_words(frame)),
+        Op::Program(call) => println!("{number}: {}", program_words(call)),
         Op::View { address, buffer } => {
             println!("{number}: view of {address:#x}, buffer of {buffer} bytes");
         }
@@ -161,6 +172,16 @@ pub fn frame_words(frame: &Frame) -> String {
         _ => "random",
     };
     format!("frame of {length} bytes, turn {turn}, pixels {pixels}")
+}
+
+pub fn program_words(call: &Program) -> String {
+    match *call {
+        Program::Fetch { address } => format!("fetch at {address:#x}"),
+        Program::InvalidateBlock { base, count } => {
+            format!("L1P block invalidate base {base:#x} count {count}")
+        }
+        Program::InvalidateAll => "L1P invalidate all".into(),
+    }
 }
 
 pub fn command_words(command: &Command) -> String {

@@ -1,4 +1,4 @@
-//! What is compared: fifteen sections, each made of groups, each group of a few
+//! What is compared: sixteen sections, each made of groups, each group of a few
 //! lists of calls. A group is known by its section and number, and equal seeds
 //! give equal groups.
 
@@ -7,13 +7,13 @@ use oracle::gen::{
     self, call, command, crowded, crowded_e, encode, frame, frame_length, frames_in_a_row, hot,
     hot_for, huge_length, ill_formed_record, l_for, look_address, make_length_wrong,
     senseless_record, shared_place, single, transfer, well_formed_record,
-    well_formed_record_in_mode, Call, Frame, Hot, Mix, Rng, Setup, Single, TraceKind, Transfer,
-    E_BOTH_RANGES, FAULTS, LEGAL_L, LEGAL_MODES, RANGE_BYTES, TRACE_KINDS, WRONG_LENGTHS,
+    well_formed_record_in_mode, Call, Fault, Frame, Hot, Mix, Rng, Setup, Single, TraceKind,
+    Transfer, E_BOTH_RANGES, FAULTS, LEGAL_L, LEGAL_MODES, RANGE_BYTES, TRACE_KINDS, WRONG_LENGTHS,
 };
-use oracle::geometry::{mode_is_legal, sram_size, EXTERNAL_BASE, L2};
+use oracle::geometry::{mode_is_legal, sram_size, L1p, EXTERNAL_BASE, L2};
 use oracle::short_runs;
 use oracle::transfers::LONGEST_TRANSFER;
-use oracle::{Command, Direction, Line, Record, Unaligned};
+use oracle::{Command, Direction, Line, Program, Record, Unaligned};
 
 use crate::load;
 use crate::pair::{compare, Met, OddByte, OddPlace, Op, Start};
@@ -38,7 +38,7 @@ pub enum Group {
     Words(fn(&mut Rng, u64, &mut Met) -> Option<String>),
 }
 
-pub const SECTIONS: [Section; 15] = [
+pub const SECTIONS: [Section; 16] = [
     Section {
         name: "records",
         share: 40,
@@ -146,6 +146,13 @@ pub const SECTIONS: [Section; 15] = [
         about: "frames in a row over lines that are held, set against flat memory too",
         group: Group::Calls(frames),
     },
+    Section {
+        name: "fetches",
+        share: 10,
+        groups: 0,
+        about: "fetches beside data that is written and dropped, set against flat memory too",
+        group: Group::Calls(fetches),
+    },
 ];
 
 /// Compares a list; a difference makes it a case.
@@ -229,6 +236,7 @@ fn single_op(single: Single) -> Op {
         Single::Unaligned(access) => Op::Unaligned(access),
         Single::Transfer(transfer) => Op::Transfer(transfer),
         Single::Frame(frame) => Op::Frame(frame),
+        Single::Program(call) => Op::Program(call),
     }
 }
 
@@ -309,6 +317,7 @@ fn op_of(call: Call, rng: &mut Rng) -> Op {
         Call::Unaligned(access) => Op::Unaligned(access),
         Call::Transfer(transfer) => Op::Transfer(transfer),
         Call::Frame(frame) => Op::Frame(frame),
+        Call::Program(call) => Op::Program(call),
         Call::Run { trace, answer_bytes } => Op::Run { trace, answer_bytes },
         Call::Look { address } => Op::View { address, buffer: view_buffer(rng) },
     }
@@ -759,7 +768,7 @@ fn held_line(rng: &mut Rng, lines: &Hot) -> Vec<Op> {
 /// of its bytes, and most often over some beside it.
 fn over_a_held_line(rng: &mut Rng) -> Vec<Op> {
     let line = 64 * rng.below(8) + 8_192 * rng.below(4);
-    let lines = Hot { l: 0, e: 0, lines: vec![line] };
+    let lines = Hot { l: 0, e: 0, lines: vec![line], program: Vec::new() };
     let mut ops = vec![Op::Direct(Command::Freeze { frozen: 0 })];
     ops.extend(held_line(rng, &lines));
     if rng.chance(1, 3) {
@@ -950,6 +959,106 @@ fn frame_edges(rng: &mut Rng, turn: u64, met: &mut Met) -> Option<Case> {
     check(plain(rng, setup), ops, met)
 }
 
+/// Fetches beside data. In turn lists from fresh which are set against flat memory; such lists that
+/// drop lines, with and without histories; and random records, where each fetch is made a second
+/// time over other bytes.
+fn fetches(rng: &mut Rng, group: u64, met: &mut Met) -> Option<Case> {
+    let mode = LEGAL_MODES[group as usize % LEGAL_MODES.len()];
+    if group % 4 == 1 {
+        return fetches_on_records(rng, group / 4, mode, met);
+    }
+    let l = l_for(rng, mode);
+    let drops = group % 4 == 2;
+    let e = [crowded_e(mode), 65_536, 8_192][(group / 4 % 3) as usize];
+    let all = if drops { Mix::ALL } else { Mix::NO_DROPS };
+    let mix = Mix { fetch: 700, l1p_invalidate: 60, l2_all: 6, mode: 6, frame: 2, ..all };
+    let mut ext = vec![0; e as usize];
+    rng.fill(&mut ext);
+    let setup = Setup::fresh_over(l, ext);
+    let begin = [Command::Mar { number: 128, bit: 1 }, Command::Mode { mode }];
+    let mut ops = begin.map(Op::Direct).to_vec();
+    let mut lines = crowded(rng, mode, l, e);
+    for _ in 0..500 {
+        match rng.below(200) {
+            0 => lines = hot(rng, l, e),
+            1 => lines = crowded(rng, mode, l, e),
+            2 => ops.push(Op::Fresh),
+            3..=5 => ops.extend(shared_place(rng, &lines).into_iter().map(single_op)),
+            6..=9 => {
+                let count = rng.below(16) as usize;
+                let trace = gen::trace(rng, &lines, &mix, count, TraceKind::Valid).bytes;
+                ops.push(Op::RunAndSingleCalls { trace, answer_bytes: 10 * count });
+            }
+            10..=25 => ops.extend(held_program(rng, &lines)),
+            26 => ops.push(Op::View { address: look_address(rng, &lines), buffer: 64 }),
+            32..=37 if e == crowded_e(mode) => ops.extend(fetches_put_out(rng, mode)),
+            27..=31 => {
+                let (number, bit) = (128, rng.below(2));
+                ops.push(Op::Direct(Command::Mar { number, bit }));
+            }
+            _ => ops.push(some_single(rng, &lines, &mix)),
+        }
+    }
+    let history = drops && group % 8 == 2;
+    check(Start { flat: !drops, history, ..plain(rng, setup) }, ops, met)
+}
+
+/// All four lines of one L2 line are fetched, a word of it is read and written, and a command or an
+/// access comes that may drop them, or may not; then they are fetched again.
+fn held_program(rng: &mut Rng, lines: &Hot) -> Vec<Op> {
+    let line = L2::line_address(rng.pick(&lines.lines));
+    let places: Vec<u32> = (0..L2::LINE).step_by(L1p::LINE as usize).collect();
+    let fetch = |place: &u32| Op::Program(Program::Fetch { address: line + place });
+    let mut ops: Vec<Op> = places.iter().map(fetch).collect();
+    let (size, address) = (4, line + 4 * rng.below(32));
+    if rng.chance(1, 2) {
+        ops.push(Op::Direct(Command::Read { size, address }));
+    }
+    ops.push(Op::Direct(Command::Write { size, address, value: rng.next_u32().into() }));
+    let (base, count) = (address, 1 + rng.below(32));
+    ops.push(match rng.below(8) {
+        0 => Op::Direct(Command::L2BlockWriteback { base, count }),
+        1 | 2 => Op::Direct(Command::L2BlockWritebackInvalidate { base, count }),
+        3 => Op::Direct(Command::L1dBlockWritebackInvalidate { base, count }),
+        4 => Op::Program(Program::InvalidateBlock { base, count }),
+        5 => Op::Direct(Command::L2WritebackAll),
+        6 => Op::Direct(Command::L2WritebackInvalidateAll),
+        // A line that puts it out of L1P, and may do so in L2.
+        _ => Op::Program(Program::Fetch { address: line.wrapping_add(16_384) }),
+    });
+    ops.extend(places.iter().map(fetch));
+    ops
+}
+
+/// A line is read and written, and fetches of four more in its set of L2 put it out: it is dirty by the
+/// half that L1D holds.
+fn fetches_put_out(rng: &mut Rng, mode: u32) -> Vec<Op> {
+    let apart = crowded_e(mode) / 6;
+    let (size, address) = (4, EXTERNAL_BASE + L2::LINE * rng.below(apart / L2::LINE));
+    let value = rng.next_u32().into();
+    let begin = [Command::Read { size, address }, Command::Write { size, address, value }];
+    let fetch = |turn| Op::Program(Program::Fetch { address: address + turn * apart });
+    begin.map(Op::Direct).into_iter().chain((1..=4).map(fetch)).collect()
+}
+
+/// Fetches from any record, made a second time over other bytes.
+fn fetches_on_records(rng: &mut Rng, turn: u64, mode: u32, met: &mut Met) -> Option<Case> {
+    let l = l_for(rng, mode);
+    let e = [crowded_e(mode), 65_536, 1_024][(turn % 3) as usize];
+    let setup = Setup::random(rng, l, e);
+    let mix = Mix { fetch: 900, l1p_invalidate: 40, mode: 0, frame: 0, ..Mix::ALL };
+    let mut ops = Vec::new();
+    for _ in 0..8 {
+        let record = well_formed_record_in_mode(rng, l, e, mode);
+        let lines = hot_for(rng, &record);
+        ops.push(Op::Record(record));
+        for _ in 0..20 {
+            ops.push(some_single(rng, &lines, &mix));
+        }
+    }
+    check(Start { moves: true, ..plain(rng, setup) }, ops, met)
+}
+
 fn global_writeback(rng: &mut Rng) -> Command {
     rng.pick(&[Command::L2WritebackAll, Command::L2WritebackInvalidateAll])
 }
@@ -1119,9 +1228,24 @@ fn every_call() -> Vec<Op> {
     commands.map(Op::Direct).into_iter().chain(others).collect()
 }
 
+/// The same of L1P.
+fn every_program_call() -> Vec<Op> {
+    let programs = [
+        Program::Fetch { address: EXTERNAL_BASE + 32 },
+        Program::Fetch { address: 31 },
+        Program::Fetch { address: EXTERNAL_BASE - 1 },
+        Program::Fetch { address: EXTERNAL_BASE - 32 },
+        Program::InvalidateBlock { base: EXTERNAL_BASE, count: 9 },
+        Program::InvalidateBlock { base: 2, count: 70_000 },
+        Program::InvalidateAll,
+    ];
+    programs.map(Op::Program).into()
+}
+
 /// Every kind of call, and some more.
 fn some_calls(rng: &mut Rng, lines: &Hot, fresh_too: bool) -> Vec<Op> {
     let mut ops = every_call();
+    ops.extend(every_program_call());
     for _ in 0..4 {
         ops.push(some_single(rng, lines, &Mix::ALL));
     }
@@ -1148,6 +1272,11 @@ fn few_calls(rng: &mut Rng, lines: &Hot) -> Vec<Op> {
         some_single(rng, lines, &Mix::ALL)
     };
     let mut ops = vec![direct];
+    let mut aside = rng.aside();
+    if aside.chance(1, 4) {
+        let mut every = every_program_call();
+        ops.push(every.swap_remove(aside.below(every.len() as u32) as usize));
+    }
     if rng.chance(1, 2) {
         ops.push(Op::View { address: look_address(rng, lines), buffer: view_buffer(rng) });
     } else {
@@ -1175,6 +1304,15 @@ fn ill_formed(rng: &mut Rng, turn: u64, met: &mut Met) -> Option<Case> {
             ops.extend(few_calls(rng, &lines));
         }
     }
+    // Few sizes leave room for this one in mode 3: it is tried more often.
+    let mut aside = rng.aside();
+    for _ in 0..4 {
+        let above = ill_formed_record(&mut aside, l, e, mode, Fault::CacheAboveL);
+        let Some(record) = above else { break };
+        met.count_fault(Fault::CacheAboveL, record.mode);
+        ops.push(Op::Record(record));
+        ops.extend(few_calls(&mut aside, &lines));
+    }
     ops.push(Op::Fresh);
     ops.push(Op::Direct(Command::Read { size: 8, address: 0 }));
     check(plain(rng, setup), ops, met)
@@ -1199,6 +1337,13 @@ fn odd_bytes(rng: &mut Rng, turn: u64, met: &mut Met) -> Option<Case> {
                 _ => OddPlace::L2Dirty { set: l2, way: rng.below(4) as usize },
             };
             let value = rng.pick(&[2, 3, 4, 127, 128, 129, 254, 255]);
+            let mut aside = rng.aside();
+            let set = aside.below(512) as usize;
+            let place = match aside.below(8) {
+                0 => OddPlace::L1pValid { set },
+                1 => OddPlace::L1pDirty { set },
+                _ => place,
+            };
             start.odd.push(OddByte { place, value });
         }
         // A wrong length comes first, an ill-formed record beside it does not matter.
@@ -1249,7 +1394,12 @@ fn senseless(rng: &mut Rng, turn: u64, met: &mut Met) -> Option<Case> {
         l1d: vec![1; if rng.chance(7, 8) { 16_384 } else { rng.below(40_000) as usize }],
         l2: vec![2; if rng.chance(7, 8) { l } else { rng.below(300_000) } as usize],
         ext: vec![3; if rng.chance(7, 8) { e } else { rng.below(300_000) } as usize],
+        l1p: vec![4; 16_384],
     };
+    let mut aside = rng.aside();
+    if aside.chance(1, 8) {
+        setup.l1p.resize(aside.below(40_000) as usize, 4);
+    }
     if rng.chance(1, 8) {
         setup.record.l = rng.next_u32();
     }
@@ -1304,6 +1454,10 @@ fn change(rng: &mut Rng, record: &mut Record) {
     let sets = (L2::sets(record.mode) as u32 + 2).min(512);
     let (l1d, way) = (rng.below(128) as usize, rng.below(2) as usize);
     let (l2, l2_way) = (rng.below(sets) as usize, rng.below(4) as usize);
+    let mut aside = rng.aside();
+    if aside.chance(1, 5) {
+        return change_l1p(&mut aside, record);
+    }
     match rng.below(18) {
         17 => {
             let count = if rng.chance(1, 2) { &mut record.dirty_l1d } else { &mut record.dirty_l2 };
@@ -1334,7 +1488,23 @@ fn change(rng: &mut Rng, record: &mut Record) {
     }
 }
 
-/// Numbers 3 to 8, 13, 14, 17, 19 and 20 at their edges, and several due at once.
+/// The same of a line of L1P.
+fn change_l1p(rng: &mut Rng, record: &mut Record) {
+    let line = &mut record.l1p[rng.below(512) as usize].lines[0];
+    match rng.below(10) {
+        0 => *line = Line::EMPTY,
+        1 => line.valid ^= true,
+        2 => line.dirty ^= true,
+        3 => line.address = 0,
+        4 => line.address ^= EXTERNAL_BASE,
+        // The next line, and the next one of the set.
+        5 => line.address ^= L1p::LINE,
+        6 | 7 => line.address = line.address.wrapping_add(16_384),
+        _ => line.address = line.address.wrapping_add(1 << rng.below(32)),
+    }
+}
+
+/// Numbers 3 to 8, 13 to 15, 17, 19 and 20 at their edges, and several due at once.
 fn edges(rng: &mut Rng, turn: u64, met: &mut Met) -> Option<Case> {
     let l = LEGAL_L[turn as usize % LEGAL_L.len()];
     let e = rng.pick(&[128, 256, 65_536, 8_192]);
@@ -1398,6 +1568,7 @@ fn edges(rng: &mut Rng, turn: u64, met: &mut Met) -> Option<Case> {
     let bases = [0, 1, 2, 3, 4, EXTERNAL_BASE, EXTERNAL_BASE + 2, 0xFFFF_FFFC, 0xFFFF_FFFF];
     for base in bases {
         for count in [0, 1, 65_535, 65_536, 65_537, 1 << 30, 1 << 31, u32::MAX] {
+            ops.push(Op::Program(Program::InvalidateBlock { base, count }));
             let command = match rng.below(5) {
                 0 => Command::L2BlockWriteback { base, count },
                 1 => Command::L2BlockWritebackInvalidate { base, count },
@@ -1406,6 +1577,13 @@ fn edges(rng: &mut Rng, turn: u64, met: &mut Met) -> Option<Case> {
                 _ => Command::L1dBlockInvalidate { base, count },
             };
             ops.push(Op::Direct(command));
+        }
+    }
+    for end in ends {
+        for back in [0, 1, 16, 31, 32, 33, 64] {
+            for address in [end.wrapping_sub(back), L1p::line_address(end.wrapping_sub(back))] {
+                ops.push(Op::Program(Program::Fetch { address }));
+            }
         }
     }
     for mode in [0, 1, 2, 3, 4, 5, 6, 7, 8, 9, 255, 256, 257, 263, 1 << 16, u32::MAX] {
@@ -1470,6 +1648,20 @@ fn mar_edges(rng: &mut Rng, met: &mut Met) -> Option<Case> {
             if rng.chance(1, 4) {
                 let address = EXTERNAL_BASE + if rng.chance(1, 2) { far } else { 0 };
                 ops.push(Op::Direct(Command::Read { size: 1, address }));
+            }
+            let mut aside = rng.aside();
+            if aside.chance(1, 4) {
+                let address = EXTERNAL_BASE + if aside.chance(1, 2) { far } else { 0 };
+                // The bit stays while L1P holds the line.
+                let of_range = |bit| Op::Direct(Command::Mar { number: address >> 24, bit });
+                let fetch = Op::Program(Program::Fetch { address });
+                match aside.below(3) {
+                    0 => ops.extend([of_range(1), fetch, of_range(0)]),
+                    _ => ops.push(fetch),
+                }
+            }
+            if aside.chance(1, 8) {
+                ops.push(Op::Program(Program::InvalidateAll));
             }
             if rng.chance(1, 6) {
                 ops.push(Op::Direct(Command::L1dInvalidateAll));

@@ -5,8 +5,8 @@
 use std::time::{Duration, Instant};
 
 use oracle::calls::fresh_start;
-use oracle::gen::{Frame, Transfer};
-use oracle::record::{L1dSet, L2Set, Line, Record};
+use oracle::gen::{Frame, Setup, Transfer};
+use oracle::record::{L1dSet, L1pSet, L2Set, Line, Record};
 use oracle::trace::{decode, ANSWER_BYTES};
 
 use crate::pair::{compare, Difference, Met, Op, Start};
@@ -40,12 +40,13 @@ impl Case {
         let setup = &self.start.setup;
         let l1d = setup.record.l1d.iter().flat_map(|set| set.lines);
         let l2 = setup.record.l2.iter().flat_map(|set| set.lines);
+        let l1p = setup.record.l1p.iter().flat_map(|set| set.lines);
         Size {
             calls: self.ops.len(),
             trace_bytes: self.ops.iter().filter_map(run_of).map(|(trace, _)| trace.len()).sum(),
             answer_bytes: self.ops.iter().filter_map(run_of).map(|(_, bytes)| bytes).sum(),
             odd_bytes: self.start.odd.len(),
-            lines: l1d.chain(l2).filter(|line| *line != Line::EMPTY).count(),
+            lines: l1d.chain(l2).chain(l1p).filter(|line| *line != Line::EMPTY).count(),
             external: setup.ext.len(),
         }
     }
@@ -129,7 +130,8 @@ impl Shrinker {
         for op in &ops[..difference.op] {
             match op {
                 Op::Fresh => {
-                    let (record, _) = fresh_start(&mut setup.l1d, &mut setup.l2, &mut setup.ext);
+                    let Setup { l1d, l2, ext, l1p, .. } = &mut setup;
+                    let (record, _) = fresh_start(l1d, l2, ext, l1p);
                     setup.record = record;
                 }
                 Op::Record(record) => setup.record = record.clone(),
@@ -144,6 +146,9 @@ impl Shrinker {
                 }
                 Op::Frame(frame) => {
                     setup.frame(frame);
+                }
+                Op::Program(call) => {
+                    setup.program(call);
                 }
                 Op::Run { trace, answer_bytes } | Op::RunAndSingleCalls { trace, answer_bytes } => {
                     setup.run(trace, &mut vec![0; *answer_bytes]);
@@ -179,14 +184,15 @@ impl Shrinker {
 
     /// Makes the bytes of each memory 0.
     fn clear_memories(&mut self) {
-        for memory in 0..3 {
+        for memory in 0..4 {
             let setup = &self.case.start.setup;
-            if [&setup.l1d, &setup.l2, &setup.ext][memory].iter().all(|&byte| byte == 0) {
+            let memories = [&setup.l1d, &setup.l2, &setup.ext, &setup.l1p];
+            if memories[memory].iter().all(|&byte| byte == 0) {
                 continue;
             }
             let mut start = self.case.start.clone();
             let setup = &mut start.setup;
-            [&mut setup.l1d, &mut setup.l2, &mut setup.ext][memory].fill(0);
+            [&mut setup.l1d, &mut setup.l2, &mut setup.ext, &mut setup.l1p][memory].fill(0);
             self.try_start(start);
         }
     }
@@ -362,13 +368,13 @@ impl Shrinker {
     fn empty_sets(&mut self) {
         let mut length = 256;
         while length > 0 {
-            for from in (0..640).step_by(length) {
+            for from in (0..1_152).step_by(length) {
                 self.try_record(|record| {
-                    for set in from..(from + length).min(640) {
-                        if set < 128 {
-                            record.l1d[set] = L1dSet::FRESH;
-                        } else {
-                            record.l2[set - 128] = L2Set::FRESH;
+                    for set in from..(from + length).min(1_152) {
+                        match set {
+                            0..128 => record.l1d[set] = L1dSet::FRESH,
+                            128..640 => record.l2[set - 128] = L2Set::FRESH,
+                            _ => record.l1p[set - 640] = L1pSet::FRESH,
                         }
                     }
                 });

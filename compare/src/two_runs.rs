@@ -10,22 +10,27 @@
 
 use std::panic::{catch_unwind, AssertUnwindSafe};
 
+use oracle::fetches::FETCHED_BYTES;
 use oracle::frames::{place_of, COLUMNS, FRAME_BYTES};
 use oracle::gen::{
     code, crowded, crowded_e, hot_for, ill_formed_record, l_for, look_address, make_length_wrong,
     single, well_formed_record_in_mode, Frame, Hot, Mix, Rng, Setup, Single, Transfer,
     E_BOTH_RANGES, FAULTS, LEGAL_MODES, WRONG_LENGTHS,
 };
-use oracle::geometry::{external_offset, sram_size, L1d, EXTERNAL_BASE, L1D_BYTES, L2};
-use oracle::record::{L1dSet, L2Set, Line, Record};
-use oracle::{Command, Unaligned};
+use oracle::geometry::{
+    external_offset, sram_size, L1d, L1p, EXTERNAL_BASE, L1D_BYTES, L1P_BYTES, L2,
+};
+use oracle::record::{L1dSet, L1pSet, L2Set, Line, Record};
+use oracle::{Command, Program, Unaligned};
 
-use crate::boundary::{self, record_difference, record_of, Buffer, CAnswer, CLine, Held, Lent};
+use crate::boundary::{
+    self, record_difference, record_of, Buffer, CAnswer, CLeft, CLine, Held, Lent,
+};
 use crate::now;
 use crate::pair::Met;
 use crate::plant;
 use crate::report::{
-    command_words, frame_words, left, record_words, transfer_words, unaligned_words,
+    command_words, frame_words, left, program_words, record_words, transfer_words, unaligned_words,
 };
 use crate::sections::in_bytes;
 use crate::shrink::{Counts, Size};
@@ -40,6 +45,7 @@ enum Step {
     Unaligned { access: Unaligned, other: u64 },
     Transfer { transfer: Transfer, other: u64 },
     Frame { frame: Frame, other: u64 },
+    Program(Program),
     View { address: u32 },
 }
 
@@ -57,8 +63,8 @@ enum Differ {
 #[derive(Clone, PartialEq, Eq)]
 struct Case {
     record: Box<Record>,
-    /// The lengths of L1D, L2 and external memory.
-    lengths: [usize; 3],
+    /// The lengths of L1D, L2, external memory and L1P.
+    lengths: [usize; 4],
     /// The seed of the bytes that are lent to the first run; 0 for bytes that are 0.
     filling: u64,
     differ: Differ,
@@ -81,6 +87,8 @@ enum Kind {
     Sram,
     L1dLine,
     L2Line,
+    L1pLine,
+    Fetched,
     Panic,
 }
 
@@ -126,6 +134,7 @@ fn some_case(rng: &mut Rng, turn: u64) -> Case {
         l1d: vec![0; L1D_BYTES],
         l2: vec![0; l as usize],
         ext: vec![0; e as usize],
+        l1p: vec![0; L1P_BYTES],
     };
     let mut lines = if crowd { crowded(rng, mode, l, e) } else { hot_for(rng, &setup.record) };
     let differ = if turn / 5 % 2 == 0 {
@@ -157,7 +166,7 @@ fn some_case(rng: &mut Rng, turn: u64) -> Case {
     for _ in 0..if large { 30 } else { least + rng.below(150) } {
         steps.push(some_step(rng, &lines, &differ));
     }
-    let lengths = [setup.l1d.len(), setup.l2.len(), setup.ext.len()];
+    let lengths = [setup.l1d.len(), setup.l2.len(), setup.ext.len(), setup.l1p.len()];
     Case { record: setup.record, lengths, filling: rng.next_u64(), differ, steps }
 }
 
@@ -217,6 +226,7 @@ fn some_step(rng: &mut Rng, lines: &Hot, differ: &Differ) -> Step {
                 Single::Unaligned(access) => Step::Unaligned { access, other },
                 Single::Transfer(transfer) => Step::Transfer { transfer, other },
                 Single::Frame(frame) => Step::Frame { frame, other },
+                Single::Program(call) => Step::Program(call),
             }
         }
     }
@@ -244,16 +254,20 @@ struct Run {
     l1d: Vec<u8>,
     l2: Vec<u8>,
     ext: Vec<u8>,
+    l1p: Vec<u8>,
 }
 
 /// What a call answered: number, server and value, what a view shows, what a transfer's buffer
-/// holds after it, and the next turn and the sums of a frame.
+/// holds after it, the next turn and the sums of a frame, and what left L1P for a fetch and its
+/// bytes.
 struct Said {
     answer: CAnswer,
     seen: [u8; L1d::LINE as usize],
     buffer: Vec<u8>,
     turn: u8,
     sums: [u32; COLUMNS],
+    l1p_left: CLeft,
+    fetched: [u8; FETCHED_BYTES],
 }
 
 impl Run {
@@ -266,15 +280,17 @@ impl Run {
             }
             bytes
         };
-        let [l1d, l2, ext] = case.lengths.map(&mut memory);
-        Run { record: Held::new(&record_of(&case.record)), l1d, l2, ext }
+        let [l1d, l2, ext, l1p] = case.lengths.map(&mut memory);
+        Run { record: Held::new(&record_of(&case.record)), l1d, l2, ext, l1p }
     }
 
     fn step(&mut self, step: &Step, second: bool) -> Said {
         let mut seen = [0; L1d::LINE as usize];
         let mut held = Vec::new();
         let (mut turn, mut sums) = (0, [0; COLUMNS]);
-        let lent = Lent { l1d: &mut self.l1d, l2: &mut self.l2, ext: &mut self.ext };
+        let (mut l1p_left, mut line) = (CLeft::NONE, [0; FETCHED_BYTES]);
+        let lent =
+            Lent { l1d: &mut self.l1d, l2: &mut self.l2, ext: &mut self.ext, l1p: &mut self.l1p };
         let answer = match step {
             Step::Fresh => boundary::fresh(&mut self.record, lent),
             Step::Direct { command, other } => {
@@ -285,7 +301,12 @@ impl Run {
                     command => command,
                 };
                 let mut answer = boundary::direct(&mut self.record, &command, lent);
-                let lent = Lent { l1d: &mut self.l1d, l2: &mut self.l2, ext: &mut self.ext };
+                let lent = Lent {
+                    l1d: &mut self.l1d,
+                    l2: &mut self.l2,
+                    ext: &mut self.ext,
+                    l1p: &mut self.l1p,
+                };
                 plant::steered(&command, &mut answer, &mut self.record, lent);
                 answer
             }
@@ -319,13 +340,19 @@ impl Run {
                 (turn, sums) = (framed.turn, framed.sums);
                 CAnswer::refused(framed.number)
             }
+            Step::Program(call) => {
+                let mut fetched = boundary::program(&mut self.record, call, lent);
+                plant::steered_fetch(call, &mut fetched, &self.ext);
+                (l1p_left, line) = (fetched.l1p_left, fetched.bytes);
+                fetched.answer
+            }
             Step::View { address } => {
                 let number = boundary::view(&self.record, *address, &self.l2, &self.ext, &mut seen);
                 plant::steered_view(*address, number, &mut seen, &self.ext);
                 CAnswer::refused(number)
             }
         };
-        Said { answer, seen, buffer: held, turn, sums }
+        Said { answer, seen, buffer: held, turn, sums, l1p_left, fetched: line }
     }
 }
 
@@ -393,6 +420,12 @@ fn compare(case: &Case, met: &mut Met, reached: &mut usize) -> Result<(), Wrong>
                 }
             }
         }
+        if let (Step::Program(Program::Fetch { .. }), 0) = (step, said.answer.number) {
+            let one_byte = matches!(case.differ, Differ::OneByte { .. });
+            met.two_runs.fetches[usize::from(one_byte)] += 1;
+            let parted = said.fetched != other_said.fetched;
+            met.two_runs.fetches_parted += u64::from(parted && one_byte);
+        }
         match case.differ {
             Differ::Data { .. } => met.two_runs.data += 1,
             Differ::OneByte { offset, .. } => {
@@ -428,7 +461,11 @@ fn shared(one: &Run, said: &Said, other: &Run, other_said: &Said) -> Result<(), 
     expect(Kind::Turn, said.turn == other_said.turn, || {
         format!("the turn is {} in one run, {} in the other", said.turn, other_said.turn)
     })?;
-    let (ours, theirs) = (ours.report(), theirs.report());
+    let (ours, theirs) = (said.l1p_left, other_said.l1p_left);
+    expect(Kind::Report, ours == theirs, || {
+        format!("the report of L1P is {ours:?} in one run, {theirs:?} in the other")
+    })?;
+    let (ours, theirs) = (said.answer.report(), other_said.answer.report());
     expect(Kind::Report, ours == theirs, || {
         format!("the report is {ours:?} in one run, {theirs:?} in the other")
     })?;
@@ -450,7 +487,7 @@ fn differs(one: &[u8], other: &[u8], from: Option<u32>, x: u32) -> Option<usize>
 
 /// "in no byte of any answer ... that doesn't stand for that address": byte k of
 /// what a read of n bytes at a answers stands for a + k, for k below n; byte k of
-/// what a view of the line at a shows, or of the buffer of a transfer at a, for a + k. Sums stand
+/// what a view of the line at a shows, of a fetch at a, or of the buffer of a transfer at a, for a + k. Sums stand
 /// for no address: the pixels are the same in both runs, and so are they.
 fn same_answer_but(x: u32, step: &Step, said: &Said, other: &Said) -> Result<(), Wrong> {
     let (ours, theirs) = (said.answer.value.to_le_bytes(), other.answer.value.to_le_bytes());
@@ -482,6 +519,16 @@ fn same_answer_but(x: u32, step: &Step, said: &Said, other: &Said) -> Result<(),
     expect(Kind::Sums, said.sums == other.sums, || {
         format!("the sums are {:?} in one run, {:?} in the other", said.sums, other.sums)
     })?;
+    let at = match *step {
+        Step::Program(Program::Fetch { address }) => Some(address),
+        _ => None,
+    };
+    let fetched = differs(&said.fetched, &other.fetched, at, x);
+    expect(Kind::Fetched, fetched.is_none(), || {
+        let place = fetched.unwrap_or_default();
+        let (ours, theirs) = (said.fetched[place], other.fetched[place]);
+        format!("byte {place} of the fetch is another: {ours:#04x} and {theirs:#04x}")
+    })?;
     let seen = differs(&said.seen, &other.seen, from, x);
     expect(Kind::Viewed, seen.is_none(), || {
         let place = seen.unwrap_or_default();
@@ -507,7 +554,11 @@ fn same_state_but(offset: usize, one: &Run, other: &Run, met: &mut Met) -> Resul
     let place = differs(ours.unwrap_or(&one.l2), theirs.unwrap_or(&other.l2), None, x);
     found(Kind::Sram, "SRAM".into(), place)?;
     let mut line = |kind, cache: &str, line: &CLine, from: usize, bytes: (&[u8], &[u8])| {
-        let length = if kind == Kind::L1dLine { L1d::LINE } else { L2::LINE } as usize;
+        let length = match kind {
+            Kind::L1dLine => L1d::LINE,
+            Kind::L1pLine => L1p::LINE,
+            _ => L2::LINE,
+        } as usize;
         // An ill-formed record may place a line outside its memory.
         let parts = (bytes.0.get(from..from + length), bytes.1.get(from..from + length));
         let (true, (Some(ours), Some(theirs))) = (line.valid == 1, parts) else { return Ok(()) };
@@ -526,6 +577,10 @@ fn same_state_but(offset: usize, one: &Run, other: &Run, met: &mut Met) -> Resul
             let from = L2::offset(sram as u32, sets, set, way);
             line(Kind::L2Line, "L2", at, from, (&one.l2, &other.l2))?;
         }
+    }
+    for (set, held) in record.l1p.iter().enumerate() {
+        let from = L1p::offset(set);
+        line(Kind::L1pLine, "L1P", &held.lines[0], from, (&one.l1p, &other.l1p))?;
     }
     Ok(())
 }
@@ -624,13 +679,17 @@ fn same_values(found: &mut Found) {
 fn fewer_lines(found: &mut Found) {
     let mut length = 256;
     while length > 0 {
-        for from in (0..L1d::SETS + L2::SETS_HELD).step_by(length) {
+        let sets = L1d::SETS + L2::SETS_HELD + L1p::SETS;
+        for from in (0..sets).step_by(length) {
             found.change(|case| {
                 let record = &mut case.record;
-                for set in from..(from + length).min(L1d::SETS + L2::SETS_HELD) {
-                    match set.checked_sub(L1d::SETS) {
-                        Some(set) => record.l2[set] = L2Set::FRESH,
-                        None => record.l1d[set] = L1dSet::FRESH,
+                for set in from..(from + length).min(sets) {
+                    if set < L1d::SETS {
+                        record.l1d[set] = L1dSet::FRESH;
+                    } else if set < L1d::SETS + L2::SETS_HELD {
+                        record.l2[set - L1d::SETS] = L2Set::FRESH;
+                    } else {
+                        record.l1p[set - L1d::SETS - L2::SETS_HELD] = L1pSet::FRESH;
                     }
                 }
             });
@@ -650,9 +709,10 @@ fn fewer_lines(found: &mut Found) {
 }
 
 fn words(found: &Found) -> String {
-    let Case { record, lengths: [l1d, l2, ext], filling, differ, steps } = &found.case;
+    let Case { record, lengths: [l1d, l2, ext, l1p], filling, differ, steps } = &found.case;
     let ways = record.l1d.iter().flat_map(|set| set.lines);
     let ways = ways.chain(record.l2.iter().flat_map(|set| set.lines));
+    let ways = ways.chain(record.l1p.iter().flat_map(|set| set.lines));
     let lines = ways.filter(|line| *line != Line::EMPTY).count();
     let size = Size { calls: steps.len(), lines, ..Size::default() };
     let filled = if *filling == 0 { "all 0" } else { "random" };
@@ -663,7 +723,7 @@ fn words(found: &Found) -> String {
         }
     };
     let mut text = format!(
-        "{}\nmemories: L1D {l1d} L2 {l2} external {ext} bytes\n  bytes: {filled}; {differ}\n{}",
+        "{}\nmemories: L1D {l1d} L2 {l2} external {ext} L1P {l1p} bytes\n  bytes: {filled}; {differ}\n{}",
         left(&size),
         record_words(record)
     );
@@ -671,6 +731,7 @@ fn words(found: &Found) -> String {
         text += &match step {
             Step::Fresh => format!("\n{place}: fresh start"),
             Step::View { address } => format!("\n{place}: view of {address:#x}"),
+            Step::Program(call) => format!("\n{place}: {}", program_words(call)),
             Step::Unaligned { access, other } => {
                 let words = unaligned_words(access);
                 let other = if access.is_write() {
@@ -741,7 +802,7 @@ mod tests {
         ];
         let case = Case {
             record: Record::fresh(32_768, 128),
-            lengths: [16_384, 32_768, 128],
+            lengths: [16_384, 32_768, 128, 16_384],
             filling: 5,
             differ: Differ::OneByte { offset: 2, more: 1 },
             steps,

@@ -321,7 +321,8 @@ fn read_back(written: &[u8], accepted: &[Given], met: &mut Met) -> Result<(), Wr
     }
     let mut setup = Setup::fresh(32_768, 128);
     let mut record = record_of(&setup.record);
-    let lent = Lent { l1d: &mut setup.l1d, l2: &mut setup.l2, ext: &mut setup.ext };
+    let lent =
+        Lent { l1d: &mut setup.l1d, l2: &mut setup.l2, ext: &mut setup.ext, l1p: &mut setup.l1p };
     let mut answers = vec![0; ANSWER_BYTES * (accepted.len() + 1)];
     let mut run = boundary::run(&mut record, written, lent, &mut answers);
     plant::put_run(&mut run);

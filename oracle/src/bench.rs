@@ -13,10 +13,11 @@ pub fn bench_trace(input: &[u8]) -> String {
     let trace = &input[..input.len().min(4_096)];
     let mut l1d = vec![0; 16_384];
     let mut l2 = vec![0; 65_536];
+    let mut l1p = vec![0; 16_384];
     let mut ext = vec![0; 65_536];
     let mut answers = vec![0; 4_096 * ANSWER_BYTES];
-    let (mut record, _) = fresh_start(&mut l1d, &mut l2, &mut ext);
-    let result = run(&mut record, &mut l1d, &mut l2, &mut ext, trace, &mut answers);
+    let (mut record, _) = fresh_start(&mut l1d, &mut l2, &mut ext, &mut l1p);
+    let result = run(&mut record, &mut l1d, &mut l2, &mut ext, &mut l1p, trace, &mut answers);
     let mut output = String::new();
     for answer in answers.chunks(ANSWER_BYTES).take(result.answers) {
         let value =
@@ -56,18 +57,19 @@ pub fn bench_load(seed: u32, e: u32, accesses: u64) -> String {
 fn counted(trace: &[u8], e: u32, mode: Option<u32>) -> String {
     let mut l1d = vec![0; 16_384];
     let mut l2 = vec![0; 65_536];
+    let mut l1p = vec![0; 16_384];
     let mut ext = vec![0; e as usize];
     // An access has seven bytes at least.
     let mut answers = vec![0; (trace.len() / 7) * ANSWER_BYTES];
-    let (mut record, _) = fresh_start(&mut l1d, &mut l2, &mut ext);
+    let (mut record, _) = fresh_start(&mut l1d, &mut l2, &mut ext, &mut l1p);
     if let Some(mode) = mode {
         for number in [128, 129] {
-            mar_change(&mut record, &mut l1d, &mut l2, &mut ext, number, 1);
+            mar_change(&mut record, &mut l1d, &mut l2, &mut ext, &mut l1p, number, 1);
         }
-        mode_change(&mut record, &mut l1d, &mut l2, &mut ext, mode);
+        mode_change(&mut record, &mut l1d, &mut l2, &mut ext, &mut l1p, mode);
     }
     let RunResult { consumed, answers: count, stop } =
-        run(&mut record, &mut l1d, &mut l2, &mut ext, trace, &mut answers);
+        run(&mut record, &mut l1d, &mut l2, &mut ext, &mut l1p, trace, &mut answers);
     let mut servers = [0u64; 5];
     let mut refusals = [0u64; 256];
     for answer in answers.chunks(ANSWER_BYTES).take(count) {

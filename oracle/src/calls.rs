@@ -3,9 +3,10 @@
 
 use crate::access;
 use crate::commands::{self, l1d_block, l2_all, l2_block, L1dAction, L2Action};
+use crate::fetches::{carry_out_program, Fetched, Program};
 use crate::frames::{self, Framed};
 use crate::geometry::{
-    external_length_is_legal, l2_length_is_legal, mode_is_legal, place, L1D_BYTES,
+    external_length_is_legal, l2_length_is_legal, mode_is_legal, place, L1D_BYTES, L1P_BYTES,
 };
 use crate::machine::{Events, Machine, Report, SERVER_NONE};
 use crate::modes::{change_freeze, change_mar, change_mode, holds_a_line_of};
@@ -62,10 +63,11 @@ pub fn check_sizes_and_record(record: &Record, l2: usize, ext: usize) -> u8 {
     0
 }
 
-/// "1: a lent length illegal, or unlike the record's", for all three memories;
-/// then "2: record not well formed". 0 when neither is due.
-pub fn check_lent_and_record(record: &Record, l1d: usize, l2: usize, ext: usize) -> u8 {
-    if l1d != L1D_BYTES {
+/// "1: a lent length illegal, or unlike the record's", for all memories, "check 1
+/// its buffer" (02, U4) being L1P's; then "2: record not well formed". 0 when neither is
+/// due.
+pub fn check_lent_and_record(record: &Record, l1d: usize, l2: usize, ext: usize, l1p: usize) -> u8 {
+    if l1d != L1D_BYTES || l1p != L1P_BYTES {
         return 1;
     }
     check_sizes_and_record(record, l2, ext)
@@ -91,7 +93,7 @@ pub fn check_access(s: u32, e: u32, size: u32, address: u32, value: u64) -> u8 {
 }
 
 /// "4: ... block base not of 4"; "7: count above 65,535".
-fn check_block(base: u32, count: u32) -> u8 {
+pub fn check_block(base: u32, count: u32) -> u8 {
     if base % 4 != 0 {
         return 4;
     }
@@ -111,7 +113,7 @@ fn check_mode(record: &Record, mode: u32) -> u8 {
 }
 
 /// "9: MAR not 128 or 129, or bit above 1"; "10: bit 0 while either cache
-/// holds a line of that range".
+/// holds a line of that range", which "now looks in L1P too" (02, U4).
 fn check_mar(record: &Record, number: u32, bit: u32) -> u8 {
     if (number != 128 && number != 129) || bit > 1 {
         return 9;
@@ -210,9 +212,10 @@ pub fn direct(
     l1d: &mut [u8],
     l2: &mut [u8],
     ext: &mut [u8],
+    l1p: &mut [u8],
     command: &Command,
 ) -> Reply {
-    direct_with_events(record, l1d, l2, ext, command).0
+    direct_with_events(record, l1d, l2, ext, l1p, command).0
 }
 
 /// A direct call, and what happened to lines in it.
@@ -221,22 +224,30 @@ pub fn direct_with_events(
     l1d: &mut [u8],
     l2: &mut [u8],
     ext: &mut [u8],
+    l1p: &mut [u8],
     command: &Command,
 ) -> (Reply, Events) {
-    let number = check_lent_and_record(record, l1d.len(), l2.len(), ext.len());
+    let number = check_lent_and_record(record, l1d.len(), l2.len(), ext.len(), l1p.len());
     if number != 0 {
         return (Reply::refused(number), Events::default());
     }
-    let mut machine = Machine::new(record, l1d, l2, ext);
+    let mut machine = Machine::new(record, l1d, l2, ext, l1p);
     let reply = carry_out(&mut machine, command);
     (reply, machine.events)
 }
 
 /// "Fresh: mode 0, MAR bits 0, nothing valid, orders 1,0 and 3,2,1,0. L1D and
-/// L2 bytes become zero; external memory is kept." "A fresh start can meet
-/// only 1, and then returns the record of L = 32,768, E = 128."
-pub fn fresh_start(l1d: &mut [u8], l2: &mut [u8], ext: &mut [u8]) -> (Box<Record>, u8) {
+/// L2 bytes become zero; external memory is kept." L1P's buffer too is "zero when fresh"
+/// (02, U4). "A fresh start can meet only 1, and then returns the record of L = 32,768,
+/// E = 128."
+pub fn fresh_start(
+    l1d: &mut [u8],
+    l2: &mut [u8],
+    ext: &mut [u8],
+    l1p: &mut [u8],
+) -> (Box<Record>, u8) {
     let legal = l1d.len() == L1D_BYTES
+        && l1p.len() == L1P_BYTES
         && l2_length_is_legal(l2.len() as u64)
         && external_length_is_legal(ext.len() as u64);
     if !legal {
@@ -244,6 +255,7 @@ pub fn fresh_start(l1d: &mut [u8], l2: &mut [u8], ext: &mut [u8]) -> (Box<Record
     }
     l1d.fill(0);
     l2.fill(0);
+    l1p.fill(0);
     (Record::fresh(l2.len() as u32, ext.len() as u32), 0)
 }
 
@@ -253,10 +265,11 @@ pub fn read(
     l1d: &mut [u8],
     l2: &mut [u8],
     ext: &mut [u8],
+    l1p: &mut [u8],
     size: u32,
     address: u32,
 ) -> Reply {
-    direct(record, l1d, l2, ext, &Command::Read { size, address })
+    direct(record, l1d, l2, ext, l1p, &Command::Read { size, address })
 }
 
 /// "1 write (size, address, value)".
@@ -265,11 +278,12 @@ pub fn write(
     l1d: &mut [u8],
     l2: &mut [u8],
     ext: &mut [u8],
+    l1p: &mut [u8],
     size: u32,
     address: u32,
     value: u64,
 ) -> Reply {
-    direct(record, l1d, l2, ext, &Command::Write { size, address, value })
+    direct(record, l1d, l2, ext, l1p, &Command::Write { size, address, value })
 }
 
 /// "2 L2 writeback all".
@@ -278,8 +292,9 @@ pub fn l2_writeback_all(
     l1d: &mut [u8],
     l2: &mut [u8],
     ext: &mut [u8],
+    l1p: &mut [u8],
 ) -> Reply {
-    direct(record, l1d, l2, ext, &Command::L2WritebackAll)
+    direct(record, l1d, l2, ext, l1p, &Command::L2WritebackAll)
 }
 
 /// "3 L2 writeback-invalidate all".
@@ -288,8 +303,9 @@ pub fn l2_writeback_invalidate_all(
     l1d: &mut [u8],
     l2: &mut [u8],
     ext: &mut [u8],
+    l1p: &mut [u8],
 ) -> Reply {
-    direct(record, l1d, l2, ext, &Command::L2WritebackInvalidateAll)
+    direct(record, l1d, l2, ext, l1p, &Command::L2WritebackInvalidateAll)
 }
 
 /// "4, 5, 6 L2 block writeback, writeback-invalidate, invalidate (base,
@@ -299,10 +315,11 @@ pub fn l2_block_writeback(
     l1d: &mut [u8],
     l2: &mut [u8],
     ext: &mut [u8],
+    l1p: &mut [u8],
     base: u32,
     count: u32,
 ) -> Reply {
-    direct(record, l1d, l2, ext, &Command::L2BlockWriteback { base, count })
+    direct(record, l1d, l2, ext, l1p, &Command::L2BlockWriteback { base, count })
 }
 
 /// "4, 5, 6 L2 block writeback, writeback-invalidate, invalidate (base,
@@ -312,10 +329,11 @@ pub fn l2_block_writeback_invalidate(
     l1d: &mut [u8],
     l2: &mut [u8],
     ext: &mut [u8],
+    l1p: &mut [u8],
     base: u32,
     count: u32,
 ) -> Reply {
-    direct(record, l1d, l2, ext, &Command::L2BlockWritebackInvalidate { base, count })
+    direct(record, l1d, l2, ext, l1p, &Command::L2BlockWritebackInvalidate { base, count })
 }
 
 /// "4, 5, 6 L2 block writeback, writeback-invalidate, invalidate (base,
@@ -325,10 +343,11 @@ pub fn l2_block_invalidate(
     l1d: &mut [u8],
     l2: &mut [u8],
     ext: &mut [u8],
+    l1p: &mut [u8],
     base: u32,
     count: u32,
 ) -> Reply {
-    direct(record, l1d, l2, ext, &Command::L2BlockInvalidate { base, count })
+    direct(record, l1d, l2, ext, l1p, &Command::L2BlockInvalidate { base, count })
 }
 
 /// "7, 8 L1D block writeback-invalidate, invalidate (base, count)": 7.
@@ -337,10 +356,11 @@ pub fn l1d_block_writeback_invalidate(
     l1d: &mut [u8],
     l2: &mut [u8],
     ext: &mut [u8],
+    l1p: &mut [u8],
     base: u32,
     count: u32,
 ) -> Reply {
-    direct(record, l1d, l2, ext, &Command::L1dBlockWritebackInvalidate { base, count })
+    direct(record, l1d, l2, ext, l1p, &Command::L1dBlockWritebackInvalidate { base, count })
 }
 
 /// "7, 8 L1D block writeback-invalidate, invalidate (base, count)": 8.
@@ -349,10 +369,11 @@ pub fn l1d_block_invalidate(
     l1d: &mut [u8],
     l2: &mut [u8],
     ext: &mut [u8],
+    l1p: &mut [u8],
     base: u32,
     count: u32,
 ) -> Reply {
-    direct(record, l1d, l2, ext, &Command::L1dBlockInvalidate { base, count })
+    direct(record, l1d, l2, ext, l1p, &Command::L1dBlockInvalidate { base, count })
 }
 
 /// "9 L1D invalidate all".
@@ -361,8 +382,9 @@ pub fn l1d_invalidate_all(
     l1d: &mut [u8],
     l2: &mut [u8],
     ext: &mut [u8],
+    l1p: &mut [u8],
 ) -> Reply {
-    direct(record, l1d, l2, ext, &Command::L1dInvalidateAll)
+    direct(record, l1d, l2, ext, l1p, &Command::L1dInvalidateAll)
 }
 
 /// "10 mode".
@@ -371,9 +393,10 @@ pub fn mode_change(
     l1d: &mut [u8],
     l2: &mut [u8],
     ext: &mut [u8],
+    l1p: &mut [u8],
     mode: u32,
 ) -> Reply {
-    direct(record, l1d, l2, ext, &Command::Mode { mode })
+    direct(record, l1d, l2, ext, l1p, &Command::Mode { mode })
 }
 
 /// "11 MAR (number, bit)".
@@ -382,10 +405,11 @@ pub fn mar_change(
     l1d: &mut [u8],
     l2: &mut [u8],
     ext: &mut [u8],
+    l1p: &mut [u8],
     number: u32,
     bit: u32,
 ) -> Reply {
-    direct(record, l1d, l2, ext, &Command::Mar { number, bit })
+    direct(record, l1d, l2, ext, l1p, &Command::Mar { number, bit })
 }
 
 /// "A call, in the trace code 12, takes one number: 1 freezes, 0 thaws" (02, U11).
@@ -394,9 +418,10 @@ pub fn freeze(
     l1d: &mut [u8],
     l2: &mut [u8],
     ext: &mut [u8],
+    l1p: &mut [u8],
     frozen: u32,
 ) -> Reply {
-    direct(record, l1d, l2, ext, &Command::Freeze { frozen })
+    direct(record, l1d, l2, ext, l1p, &Command::Freeze { frozen })
 }
 
 /// A non-aligned access (02, U6): checks 1 and 2, then the rest.
@@ -405,13 +430,14 @@ pub fn unaligned(
     l1d: &mut [u8],
     l2: &mut [u8],
     ext: &mut [u8],
+    l1p: &mut [u8],
     access: &Unaligned,
 ) -> Reply {
-    let number = check_lent_and_record(record, l1d.len(), l2.len(), ext.len());
+    let number = check_lent_and_record(record, l1d.len(), l2.len(), ext.len(), l1p.len());
     if number != 0 {
         return Reply::refused(number);
     }
-    carry_out_unaligned(&mut Machine::new(record, l1d, l2, ext), access)
+    carry_out_unaligned(&mut Machine::new(record, l1d, l2, ext, l1p), access)
 }
 
 /// A non-aligned load (02, U6).
@@ -420,10 +446,11 @@ pub fn read_unaligned(
     l1d: &mut [u8],
     l2: &mut [u8],
     ext: &mut [u8],
+    l1p: &mut [u8],
     size: u32,
     address: u32,
 ) -> Reply {
-    unaligned(record, l1d, l2, ext, &Unaligned::Read { size, address })
+    unaligned(record, l1d, l2, ext, l1p, &Unaligned::Read { size, address })
 }
 
 /// A non-aligned store (02, U6).
@@ -432,11 +459,12 @@ pub fn write_unaligned(
     l1d: &mut [u8],
     l2: &mut [u8],
     ext: &mut [u8],
+    l1p: &mut [u8],
     size: u32,
     address: u32,
     value: u64,
 ) -> Reply {
-    unaligned(record, l1d, l2, ext, &Unaligned::Write { size, address, value })
+    unaligned(record, l1d, l2, ext, l1p, &Unaligned::Write { size, address, value })
 }
 
 /// A transfer in (02, U1): checks 1 and 2, then the rest.
@@ -445,10 +473,11 @@ pub fn transfer_in(
     l1d: &mut [u8],
     l2: &mut [u8],
     ext: &mut [u8],
+    l1p: &mut [u8],
     address: u32,
     buffer: &[u8],
 ) -> Reply {
-    transfer_in_with_events(record, l1d, l2, ext, address, buffer).0
+    transfer_in_with_events(record, l1d, l2, ext, l1p, address, buffer).0
 }
 
 /// A transfer in, and what happened to lines in it.
@@ -457,14 +486,15 @@ pub fn transfer_in_with_events(
     l1d: &mut [u8],
     l2: &mut [u8],
     ext: &mut [u8],
+    l1p: &mut [u8],
     address: u32,
     buffer: &[u8],
 ) -> (Reply, Events) {
-    let number = check_lent_and_record(record, l1d.len(), l2.len(), ext.len());
+    let number = check_lent_and_record(record, l1d.len(), l2.len(), ext.len(), l1p.len());
     if number != 0 {
         return (Reply::refused(number), Events::default());
     }
-    let mut machine = Machine::new(record, l1d, l2, ext);
+    let mut machine = Machine::new(record, l1d, l2, ext, l1p);
     let reply = transfers::carry_in(&mut machine, address, buffer);
     (reply, machine.events)
 }
@@ -475,10 +505,11 @@ pub fn transfer_out(
     l1d: &mut [u8],
     l2: &mut [u8],
     ext: &mut [u8],
+    l1p: &mut [u8],
     address: u32,
     buffer: &mut [u8],
 ) -> Reply {
-    transfer_out_with_events(record, l1d, l2, ext, address, buffer).0
+    transfer_out_with_events(record, l1d, l2, ext, l1p, address, buffer).0
 }
 
 /// A transfer out, and what happened to lines in it.
@@ -487,23 +518,24 @@ pub fn transfer_out_with_events(
     l1d: &mut [u8],
     l2: &mut [u8],
     ext: &mut [u8],
+    l1p: &mut [u8],
     address: u32,
     buffer: &mut [u8],
 ) -> (Reply, Events) {
-    let number = check_lent_and_record(record, l1d.len(), l2.len(), ext.len());
+    let number = check_lent_and_record(record, l1d.len(), l2.len(), ext.len(), l1p.len());
     if number != 0 {
         return (Reply::refused(number), Events::default());
     }
-    let mut machine = Machine::new(record, l1d, l2, ext);
+    let mut machine = Machine::new(record, l1d, l2, ext, l1p);
     let reply = transfers::carry_out(&mut machine, address, buffer);
     (reply, machine.events)
 }
 
 /// The number of a transfer in either direction by itself, for lengths that no buffer has: the
-/// three lengths are those of L1D, L2 and external memory.
-pub fn transfer_number(record: &Record, lent: [usize; 3], address: u32, length: usize) -> u8 {
-    let [l1d, l2, ext] = lent;
-    match check_lent_and_record(record, l1d, l2, ext) {
+/// four lengths are those of L1D, L2, external memory and L1P.
+pub fn transfer_number(record: &Record, lent: [usize; 4], address: u32, length: usize) -> u8 {
+    let [l1d, l2, ext, l1p] = lent;
+    match check_lent_and_record(record, l1d, l2, ext, l1p) {
         0 => transfers::check_transfer(record.sram_size(), record.e, address, length),
         number => number,
     }
@@ -515,22 +547,66 @@ pub fn frame(
     l1d: &mut [u8],
     l2: &mut [u8],
     ext: &mut [u8],
+    l1p: &mut [u8],
     turn: u8,
     pixels: &[u8],
 ) -> Framed {
-    let number = check_lent_and_record(record, l1d.len(), l2.len(), ext.len());
+    let number = check_lent_and_record(record, l1d.len(), l2.len(), ext.len(), l1p.len());
     if number != 0 {
         return Framed::refused(number, turn);
     }
-    frames::carry_out_frame(&mut Machine::new(record, l1d, l2, ext), turn, pixels)
+    frames::carry_out_frame(&mut Machine::new(record, l1d, l2, ext, l1p), turn, pixels)
 }
 
-/// The number of a frame by itself, for lengths that no buffer has: the three lengths are those of
-/// L1D, L2 and external memory.
-pub fn frame_number(record: &Record, lent: [usize; 3], length: usize) -> u8 {
-    let [l1d, l2, ext] = lent;
-    match check_lent_and_record(record, l1d, l2, ext) {
+/// The number of a frame by itself, for lengths that no buffer has: the four lengths are those of
+/// L1D, L2, external memory and L1P.
+pub fn frame_number(record: &Record, lent: [usize; 4], length: usize) -> u8 {
+    let [l1d, l2, ext, l1p] = lent;
+    match check_lent_and_record(record, l1d, l2, ext, l1p) {
         0 => frames::check_frame(record.e, length),
         number => number,
     }
+}
+
+/// A fetch or an invalidation of L1P (02, U4): checks 1 and 2, then the rest.
+pub fn program(
+    record: &mut Record,
+    l1d: &mut [u8],
+    l2: &mut [u8],
+    ext: &mut [u8],
+    l1p: &mut [u8],
+    call: &Program,
+) -> Fetched {
+    program_with_events(record, l1d, l2, ext, l1p, call).0
+}
+
+/// The same, and what happened to lines of data in it: an L2 line that leaves for a fetch may be
+/// written out.
+pub fn program_with_events(
+    record: &mut Record,
+    l1d: &mut [u8],
+    l2: &mut [u8],
+    ext: &mut [u8],
+    l1p: &mut [u8],
+    call: &Program,
+) -> (Fetched, Events) {
+    let number = check_lent_and_record(record, l1d.len(), l2.len(), ext.len(), l1p.len());
+    if number != 0 {
+        return (Fetched::refused(number), Events::default());
+    }
+    let mut machine = Machine::new(record, l1d, l2, ext, l1p);
+    let fetched = carry_out_program(&mut machine, call);
+    (fetched, machine.events)
+}
+
+/// A fetch (02, U4).
+pub fn fetch(
+    record: &mut Record,
+    l1d: &mut [u8],
+    l2: &mut [u8],
+    ext: &mut [u8],
+    l1p: &mut [u8],
+    address: u32,
+) -> Fetched {
+    program(record, l1d, l2, ext, l1p, &Program::Fetch { address })
 }

@@ -69,7 +69,9 @@ pub fn l2_block(machine: &mut Machine, base: u32, count: u32, action: L2Action) 
     }
 }
 
-/// What is done to one L2 line.
+/// What is done to one L2 line, which is valid. 02, U4: "L2 writeback-invalidate, block or
+/// all, and L2 block invalidate drop the L1P lines inside valid L2 lines they act on"; a
+/// writeback that leaves the line valid drops none.
 fn act_on_l2_line(machine: &mut Machine, set: usize, way: usize, action: L2Action) {
     match action {
         // "Writeback: for each L2 line (touched, or all) the dirty L1D halves
@@ -81,6 +83,7 @@ fn act_on_l2_line(machine: &mut Machine, set: usize, way: usize, action: L2Actio
         }
         // "Writeback-invalidate: the same, then the line is invalid."
         L2Action::WritebackInvalidate => {
+            machine.drop_l1p_lines_inside(set, way);
             machine.take_in_halves(set, way);
             machine.write_out_l2_line(set, way);
             machine.empty_l2_way(set, way);
@@ -88,6 +91,7 @@ fn act_on_l2_line(machine: &mut Machine, set: usize, way: usize, action: L2Actio
         // "Block invalidate: line and halves become invalid, nothing is
         // written."
         L2Action::Invalidate => {
+            machine.drop_l1p_lines_inside(set, way);
             machine.drop_halves(set, way);
             machine.drop_l2_line(set, way);
         }

@@ -87,6 +87,14 @@ impl Covered {
         }
     }
 
+    /// "For U1's external transfers a fetch is a CPU access." (02, U4), to each of its 32 bytes,
+    /// whoever served it. L1P's invalidations cover nothing.
+    pub fn fetch(&mut self, address: u32, accepted: bool) {
+        if accepted {
+            self.access(address, 32);
+        }
+    }
+
     /// A frame (02, U14) counts as the calls that it is made of: both commands cover its place, and
     /// then the CPU reads each byte of it. Its own transfer, which is in between, is covered.
     pub fn frame(&mut self, turn: u8, accepted: bool) {

@@ -7,12 +7,14 @@
 
 use std::collections::{BTreeSet, HashMap, HashSet};
 
-use crate::calls::{direct_with_events, transfer_in_with_events, transfer_out_with_events};
+use crate::calls::{
+    direct_with_events, program_with_events, transfer_in_with_events, transfer_out_with_events,
+};
 use crate::flat::Flat;
 use crate::gen::Setup;
 use crate::geometry::{external_offset, L1d, EXTERNAL_BASE};
 use crate::machine::Events;
-use crate::{Answer, Command, Record, Unaligned};
+use crate::{Answer, Command, Program, Record, Unaligned};
 
 /// A sentence of the request that a read does not keep to, from 1 to 3.
 #[derive(Clone, PartialEq, Eq, Debug)]
@@ -75,17 +77,14 @@ impl History {
     /// One more call of the list, and the answer of the chip that is looked at:
     /// the first sentence that a byte of it breaks, if there is one.
     pub fn call(&mut self, command: &Command, answer: &Answer) -> Result<Read, Broken> {
-        let Setup { record, l1d, l2, ext } = &mut self.chip;
-        let (_, events) = direct_with_events(record, l1d, l2, ext, command);
+        let Setup { record, l1d, l2, ext, l1p } = &mut self.chip;
+        let (_, events) = direct_with_events(record, l1d, l2, ext, l1p, command);
         self.flat.apply(command);
         let mut read = Read::default();
         if answer.number != 0 {
             return Ok(read);
         }
-        for address in events.reached.into_iter().flatten() {
-            let value = in_memory(&self.chip.l2, &self.chip.ext, address);
-            self.held.insert(address, BTreeSet::from([value]));
-        }
+        self.note_reached(&events);
         for address in events.dropped.into_iter().flatten() {
             self.dropped.insert(address);
             self.kept.remove(&address);
@@ -134,12 +133,31 @@ impl History {
         Ok(read)
     }
 
+    /// A fetch, or an invalidation of L1P (02, U4): no CPU data read. The sentences say nothing of
+    /// its bytes, and a line of L1P, never written, is none that was dropped; but an L2 line that
+    /// leaves for a fetch may reach external memory.
+    pub fn program(&mut self, call: &Program, accepted: bool) {
+        let Setup { record, l1d, l2, ext, l1p } = &mut self.chip;
+        let (_, events) = program_with_events(record, l1d, l2, ext, l1p, call);
+        if accepted {
+            self.note_reached(&events);
+        }
+    }
+
+    /// These lines went home: their bytes have just the value that stands in their memory.
+    fn note_reached(&mut self, events: &Events) {
+        for address in events.reached.iter().cloned().flatten() {
+            let value = in_memory(&self.chip.l2, &self.chip.ext, address);
+            self.held.insert(address, BTreeSet::from([value]));
+        }
+    }
+
     /// A transfer in (02, U1) to SRAM, "external transfers left out"; or a refused one, which is
     /// none. "a SRAM transfer in writes too", once the lines that it touches have gone home.
     pub fn transfer_in(&mut self, address: u32, buffer: &[u8], answer: &Answer) {
         let before = (self.chip.record.clone(), self.chip.l1d.clone());
-        let Setup { record, l1d, l2, ext } = &mut self.chip;
-        let (_, events) = transfer_in_with_events(record, l1d, l2, ext, address, buffer);
+        let Setup { record, l1d, l2, ext, l1p } = &mut self.chip;
+        let (_, events) = transfer_in_with_events(record, l1d, l2, ext, l1p, address, buffer);
         self.flat.transfer_in(address, buffer);
         if answer.number != 0 {
             return;
@@ -154,9 +172,9 @@ impl History {
     /// lines that it touches home as well.
     pub fn transfer_out(&mut self, address: u32, length: usize, answer: &Answer) {
         let before = (self.chip.record.clone(), self.chip.l1d.clone());
-        let Setup { record, l1d, l2, ext } = &mut self.chip;
+        let Setup { record, l1d, l2, ext, l1p } = &mut self.chip;
         let mut buffer = vec![0; length];
-        let (_, events) = transfer_out_with_events(record, l1d, l2, ext, address, &mut buffer);
+        let (_, events) = transfer_out_with_events(record, l1d, l2, ext, l1p, address, &mut buffer);
         if answer.number == 0 {
             self.went_home(&before.0, &before.1, events);
         }

@@ -210,6 +210,26 @@ impl Flat {
         }
     }
 
+    /// "an accepted fetch gives flat memory's bytes" (02, U4): the number, 15, then 5, by this S,
+    /// and the 32 bytes at its address, all 0 with a refusal. `written` says of which of them the
+    /// sentence speaks.
+    pub fn fetch(&mut self, address: u32) -> (u8, [u8; 32]) {
+        let mut bytes = [0; 32];
+        // "15 for a fetch address not a multiple of 32"
+        if address & 31 != 0 {
+            return (15, bytes);
+        }
+        let there: Option<Vec<u8>> =
+            (u64::from(address)..).take(32).map(|at| self.byte(at).copied()).collect();
+        match there {
+            Some(there) => {
+                bytes.copy_from_slice(&there);
+                (0, bytes)
+            }
+            None => (5, bytes),
+        }
+    }
+
     /// A frame (02, U14) has the bytes moved as its transfer does, and its reads see them: "the
     /// sums of each accepted frame are those of the camera's pixels." The number, the next turn and
     /// the sums.

@@ -2,8 +2,11 @@
 //! here is part of the model. Equal seeds give equal things.
 
 use crate::calls;
+use crate::fetches::{Fetched, Program};
 use crate::frames::{Framed, FRAME_BYTES};
-use crate::geometry::{cache_size, mode_is_legal, sram_size, L1d, EXTERNAL_BASE, L1D_BYTES, L2};
+use crate::geometry::{
+    cache_size, mode_is_legal, sram_size, L1d, L1p, EXTERNAL_BASE, L1D_BYTES, L1P_BYTES, L2,
+};
 use crate::record::{Line, Record};
 use crate::trace::{run, Command, RunResult};
 use crate::transfers::{Direction, LONGEST_TRANSFER};
@@ -30,6 +33,8 @@ pub const RANGE_BYTES: u32 = 16_777_216;
 #[derive(Clone, Debug)]
 pub struct Rng {
     state: u64,
+    /// How many generators were drawn beside it.
+    asides: u64,
 }
 
 impl Rng {
@@ -39,7 +44,14 @@ impl Rng {
         mixed = (mixed ^ (mixed >> 30)).wrapping_mul(0xBF58_476D_1CE4_E5B9);
         mixed = (mixed ^ (mixed >> 27)).wrapping_mul(0x94D0_49BB_1331_11EB);
         mixed ^= mixed >> 31;
-        Rng { state: if mixed == 0 { 1 } else { mixed } }
+        Rng { state: if mixed == 0 { 1 } else { mixed }, asides: 0 }
+    }
+
+    /// A generator of its own for something that is drawn beside the others: these stay what they
+    /// would be without it, and so do the groups that a comparison has known for long.
+    pub fn aside(&mut self) -> Rng {
+        self.asides += 1;
+        Rng::new(self.state ^ self.asides.wrapping_mul(0xD6E8_FEB8_6659_FD93))
     }
 
     /// The next 64 bits.
@@ -96,6 +108,7 @@ pub struct Setup {
     pub l1d: Vec<u8>,
     pub l2: Vec<u8>,
     pub ext: Vec<u8>,
+    pub l1p: Vec<u8>,
 }
 
 impl Setup {
@@ -108,8 +121,9 @@ impl Setup {
     pub fn fresh_over(l: u32, mut ext: Vec<u8>) -> Setup {
         let mut l1d = vec![0; L1D_BYTES];
         let mut l2 = vec![0; l as usize];
-        let (record, _) = calls::fresh_start(&mut l1d, &mut l2, &mut ext);
-        Setup { record, l1d, l2, ext }
+        let mut l1p = vec![0; L1P_BYTES];
+        let (record, _) = calls::fresh_start(&mut l1d, &mut l2, &mut ext, &mut l1p);
+        Setup { record, l1d, l2, ext, l1p }
     }
 
     /// A random well-formed record of these sizes over random memories.
@@ -119,7 +133,9 @@ impl Setup {
             l1d: vec![0; L1D_BYTES],
             l2: vec![0; l as usize],
             ext: vec![0; e as usize],
+            l1p: vec![0; L1P_BYTES],
         };
+        rng.aside().fill(&mut setup.l1p);
         rng.fill(&mut setup.l1d);
         rng.fill(&mut setup.l2);
         rng.fill(&mut setup.ext);
@@ -145,54 +161,69 @@ impl Setup {
 
     /// The same with all that the direct call gives back (02, U2).
     pub fn reply(&mut self, command: &Command) -> Reply {
-        let (record, l1d, l2, ext) =
-            (&mut *self.record, &mut *self.l1d, &mut *self.l2, &mut *self.ext);
+        let Setup { record, l1d, l2, ext, l1p } = self;
         match *command {
-            Command::Read { size, address } => calls::read(record, l1d, l2, ext, size, address),
-            Command::Write { size, address, value } => {
-                calls::write(record, l1d, l2, ext, size, address, value)
+            Command::Read { size, address } => {
+                calls::read(record, l1d, l2, ext, l1p, size, address)
             }
-            Command::L2WritebackAll => calls::l2_writeback_all(record, l1d, l2, ext),
+            Command::Write { size, address, value } => {
+                calls::write(record, l1d, l2, ext, l1p, size, address, value)
+            }
+            Command::L2WritebackAll => calls::l2_writeback_all(record, l1d, l2, ext, l1p),
             Command::L2WritebackInvalidateAll => {
-                calls::l2_writeback_invalidate_all(record, l1d, l2, ext)
+                calls::l2_writeback_invalidate_all(record, l1d, l2, ext, l1p)
             }
             Command::L2BlockWriteback { base, count } => {
-                calls::l2_block_writeback(record, l1d, l2, ext, base, count)
+                calls::l2_block_writeback(record, l1d, l2, ext, l1p, base, count)
             }
             Command::L2BlockWritebackInvalidate { base, count } => {
-                calls::l2_block_writeback_invalidate(record, l1d, l2, ext, base, count)
+                calls::l2_block_writeback_invalidate(record, l1d, l2, ext, l1p, base, count)
             }
             Command::L2BlockInvalidate { base, count } => {
-                calls::l2_block_invalidate(record, l1d, l2, ext, base, count)
+                calls::l2_block_invalidate(record, l1d, l2, ext, l1p, base, count)
             }
             Command::L1dBlockWritebackInvalidate { base, count } => {
-                calls::l1d_block_writeback_invalidate(record, l1d, l2, ext, base, count)
+                calls::l1d_block_writeback_invalidate(record, l1d, l2, ext, l1p, base, count)
             }
             Command::L1dBlockInvalidate { base, count } => {
-                calls::l1d_block_invalidate(record, l1d, l2, ext, base, count)
+                calls::l1d_block_invalidate(record, l1d, l2, ext, l1p, base, count)
             }
-            Command::L1dInvalidateAll => calls::l1d_invalidate_all(record, l1d, l2, ext),
-            Command::Mode { mode } => calls::mode_change(record, l1d, l2, ext, mode),
-            Command::Mar { number, bit } => calls::mar_change(record, l1d, l2, ext, number, bit),
-            Command::Freeze { frozen } => calls::freeze(record, l1d, l2, ext, frozen),
+            Command::L1dInvalidateAll => calls::l1d_invalidate_all(record, l1d, l2, ext, l1p),
+            Command::Mode { mode } => calls::mode_change(record, l1d, l2, ext, l1p, mode),
+            Command::Mar { number, bit } => {
+                calls::mar_change(record, l1d, l2, ext, l1p, number, bit)
+            }
+            Command::Freeze { frozen } => calls::freeze(record, l1d, l2, ext, l1p, frozen),
         }
     }
 
     /// A non-aligned access, with all that it gives back (02, U6).
     pub fn unaligned(&mut self, access: &Unaligned) -> Reply {
-        calls::unaligned(&mut self.record, &mut self.l1d, &mut self.l2, &mut self.ext, access)
+        let Setup { record, l1d, l2, ext, l1p } = self;
+        calls::unaligned(record, l1d, l2, ext, l1p, access)
+    }
+
+    /// A fetch or an invalidation of L1P, with all that it gives back (02, U4).
+    pub fn program(&mut self, call: &Program) -> Fetched {
+        let Setup { record, l1d, l2, ext, l1p } = self;
+        calls::program(record, l1d, l2, ext, l1p, call)
+    }
+
+    /// A fetch.
+    pub fn fetch(&mut self, address: u32) -> Fetched {
+        self.program(&Program::Fetch { address })
     }
 
     /// A transfer in (02, U1).
     pub fn transfer_in(&mut self, address: u32, buffer: &[u8]) -> Reply {
-        let Setup { record, l1d, l2, ext } = self;
-        calls::transfer_in(record, l1d, l2, ext, address, buffer)
+        let Setup { record, l1d, l2, ext, l1p } = self;
+        calls::transfer_in(record, l1d, l2, ext, l1p, address, buffer)
     }
 
     /// A transfer out (02, U1).
     pub fn transfer_out(&mut self, address: u32, buffer: &mut [u8]) -> Reply {
-        let Setup { record, l1d, l2, ext } = self;
-        calls::transfer_out(record, l1d, l2, ext, address, buffer)
+        let Setup { record, l1d, l2, ext, l1p } = self;
+        calls::transfer_out(record, l1d, l2, ext, l1p, address, buffer)
     }
 
     /// A transfer that was drawn, and what its buffer holds afterwards: nothing where the length
@@ -200,7 +231,7 @@ impl Setup {
     pub fn transfer(&mut self, transfer: &Transfer) -> (Reply, Vec<u8>) {
         let address = transfer.address;
         let Some(mut buffer) = transfer.buffer() else {
-            let lent = [self.l1d.len(), self.l2.len(), self.ext.len()];
+            let lent = [self.l1d.len(), self.l2.len(), self.ext.len(), self.l1p.len()];
             let number = calls::transfer_number(&self.record, lent, address, transfer.length);
             return (Reply::refused(number), Vec::new());
         };
@@ -214,11 +245,11 @@ impl Setup {
     /// A frame that was drawn (02, U14); where the length is one that no buffer has, its number is
     /// asked alone.
     pub fn frame(&mut self, frame: &Frame) -> Framed {
-        let Setup { record, l1d, l2, ext } = self;
+        let Setup { record, l1d, l2, ext, l1p } = self;
         match frame.pixels() {
-            Some(pixels) => calls::frame(record, l1d, l2, ext, frame.turn, &pixels),
+            Some(pixels) => calls::frame(record, l1d, l2, ext, l1p, frame.turn, &pixels),
             None => {
-                let lent = [l1d.len(), l2.len(), ext.len()];
+                let lent = [l1d.len(), l2.len(), ext.len(), l1p.len()];
                 let number = calls::frame_number(record, lent, frame.length);
                 Framed::refused(number, frame.turn)
             }
@@ -232,6 +263,7 @@ impl Setup {
             Single::Unaligned(access) => self.unaligned(access),
             Single::Transfer(transfer) => self.transfer(transfer).0,
             Single::Frame(frame) => Reply::refused(self.frame(frame).number),
+            Single::Program(call) => self.program(call).reply,
         }
     }
 
@@ -262,7 +294,8 @@ impl Setup {
 
     /// A trace run.
     pub fn run(&mut self, trace: &[u8], answers: &mut [u8]) -> RunResult {
-        run(&mut self.record, &mut self.l1d, &mut self.l2, &mut self.ext, trace, answers)
+        let Setup { record, l1d, l2, ext, l1p } = self;
+        run(record, l1d, l2, ext, l1p, trace, answers)
     }
 
     /// The technician's call.
@@ -283,6 +316,13 @@ impl Setup {
     /// The L2 line that holds this address.
     pub fn l2_line(&self, address: u32) -> Option<Line> {
         self.record.find_l2(address).map(|(set, way)| self.record.l2[set].lines[way])
+    }
+}
+
+impl Setup {
+    /// Whether L1P holds the line of this address.
+    pub fn l1p_holds(&self, address: u32) -> bool {
+        self.record.find_l1p(address).is_some()
     }
 }
 
@@ -392,8 +432,37 @@ pub fn well_formed_record_in_mode(rng: &mut Rng, l: u32, e: u32, mode: u32) -> B
             record.l1d[set].order = rng.permutation();
         }
     }
+    fill_l1p(&mut rng.aside(), &mut record);
     record.write_counts();
     record
+}
+
+/// Lines of L1P, which may lie in L2, in L1D, in both or in neither. Half the time those inside
+/// lines that L2 holds come up more often.
+fn fill_l1p(rng: &mut Rng, record: &mut Record) {
+    let density = rng.pick(&[0, 1, 4, 8, 15, 16]);
+    let from_l2 = rng.chance(1, 2);
+    let mut inside: Vec<Vec<u32>> = vec![Vec::new(); L1p::SETS];
+    for line in record.l2.iter().flat_map(|set| set.lines).filter(|line| line.valid) {
+        for place in (0..L2::LINE).step_by(L1p::LINE as usize) {
+            inside[L1p::set_of(line.address + place)].push(line.address + place);
+        }
+    }
+    for set in 0..L1p::SETS {
+        if !rng.chance(density, 16) {
+            continue;
+        }
+        let address = if rng.chance(1, 4) {
+            sram_line_of(rng, record, L1p::LINE, L1p::SETS, set)
+        } else if from_l2 && !inside[set].is_empty() {
+            Some(rng.pick(&inside[set]))
+        } else {
+            external_line(rng, record, L1p::LINE, L1p::SETS, set)
+        };
+        if let Some(address) = address {
+            record.l1p[set].lines[0] = Line { valid: true, dirty: false, address };
+        }
+    }
 }
 
 /// A random line address of this set in external memory with MAR bit 1, more
@@ -429,13 +498,18 @@ fn external_line(
 
 /// A random L1D line address of this set in SRAM, if there is SRAM.
 fn sram_line(rng: &mut Rng, record: &Record, set: usize) -> Option<u32> {
-    let bytes_of_all_sets = L1d::LINE * L1d::SETS as u32;
+    sram_line_of(rng, record, L1d::LINE, L1d::SETS, set)
+}
+
+/// A random address in SRAM of a line of this length in one of so many sets, if there is SRAM.
+fn sram_line_of(rng: &mut Rng, record: &Record, line: u32, sets: usize, set: usize) -> Option<u32> {
+    let bytes_of_all_sets = line * sets as u32;
     let places = record.sram_size() / bytes_of_all_sets;
     if places == 0 {
         return None;
     }
     let turn = if rng.chance(1, 2) { rng.below(places.min(3)) } else { rng.below(places) };
-    Some(set as u32 * L1d::LINE + turn * bytes_of_all_sets)
+    Some(set as u32 * line + turn * bytes_of_all_sets)
 }
 
 // ------------------------------------------------------ ill-formed records
@@ -477,10 +551,17 @@ pub enum Fault {
     L2CountFar,
     CountsExchanged,
     CountsMoved,
+    L1pDirty,
+    L1pInvalidDirty,
+    L1pInvalidAddress,
+    L1pNoMultiple,
+    L1pOtherSet,
+    L1pOutside,
+    L1pMarZero,
 }
 
 /// All faults.
-pub const FAULTS: [Fault; 34] = [
+pub const FAULTS: [Fault; 41] = [
     Fault::IllegalMode,
     Fault::CacheAboveL,
     Fault::Mar128NoBit,
@@ -515,6 +596,13 @@ pub const FAULTS: [Fault; 34] = [
     Fault::L2CountFar,
     Fault::CountsExchanged,
     Fault::CountsMoved,
+    Fault::L1pDirty,
+    Fault::L1pInvalidDirty,
+    Fault::L1pInvalidAddress,
+    Fault::L1pNoMultiple,
+    Fault::L1pOtherSet,
+    Fault::L1pOutside,
+    Fault::L1pMarZero,
 ];
 
 impl Fault {
@@ -528,9 +616,15 @@ impl Fault {
             Fault::L1dInvalidDirty
             | Fault::L1dInvalidAddress
             | Fault::L2InvalidDirty
-            | Fault::L2InvalidAddress => Clause::InvalidWays,
-            Fault::L1dNoMultiple | Fault::L2NoMultiple => Clause::LineMultiples,
-            Fault::L1dOtherSet | Fault::L2OtherSet => Clause::OwnSets,
+            | Fault::L2InvalidAddress
+            | Fault::L1pInvalidDirty
+            | Fault::L1pInvalidAddress => Clause::InvalidWays,
+            Fault::L1dNoMultiple | Fault::L2NoMultiple | Fault::L1pNoMultiple => {
+                Clause::LineMultiples
+            }
+            Fault::L1dOtherSet | Fault::L2OtherSet | Fault::L1pOtherSet => Clause::OwnSets,
+            Fault::L1pDirty => Clause::L1pClean,
+            Fault::L1pOutside | Fault::L1pMarZero => Clause::L1pPlaces,
             Fault::L1dTwice | Fault::L2Twice => Clause::NoLineTwice,
             Fault::L1dOutside | Fault::L1dMarZero => Clause::L1dPlaces,
             Fault::L2InSram | Fault::L2Outside | Fault::L2MarZero => Clause::L2Places,
@@ -784,6 +878,7 @@ fn put_fault_into_lines(rng: &mut Rng, record: &mut Record, fault: Fault) -> Opt
             let (number, address) = line_in_a_range(rng, record, L1d::LINE);
             drop_l1d_line(record, address);
             put_l1d_line(rng, record, address);
+            drop_l1p_range(record, number);
             set_mar(record, number, 0);
         }
         Fault::L2InSram => {
@@ -803,6 +898,7 @@ fn put_fault_into_lines(rng: &mut Rng, record: &mut Record, fault: Fault) -> Opt
             drop_l2_line(record, address);
             put_l2_line(rng, record, address)?;
             drop_l1d_range(record, number);
+            drop_l1p_range(record, number);
             set_mar(record, number, 0);
         }
         Fault::UnusedSetOrder => {
@@ -837,6 +933,44 @@ fn put_fault_into_lines(rng: &mut Rng, record: &mut Record, fault: Fault) -> Opt
             put_l1d_line(rng, record, address);
             // Where the bit was 0 the range held no line, so nothing else changes.
             set_mar(record, number, 1);
+        }
+        Fault::L1pDirty => {
+            let (set, _) = edge_way(rng, &l1p_ways(record, true))?;
+            record.l1p[set].lines[0].dirty = true;
+        }
+        Fault::L1pInvalidDirty => {
+            let (set, _) = edge_way(rng, &l1p_ways(record, false))?;
+            record.l1p[set].lines[0].dirty = true;
+        }
+        Fault::L1pInvalidAddress => {
+            let (set, _) = edge_way(rng, &l1p_ways(record, false))?;
+            record.l1p[set].lines[0].address = any_address(rng, record);
+        }
+        Fault::L1pNoMultiple => {
+            let (set, _) = edge_way(rng, &l1p_ways(record, true))?;
+            let address = record.l1p[set].lines[0].address;
+            record.l1p[set].lines[0].address = unaligned(rng, record, address, L1p::LINE)?;
+        }
+        Fault::L1pOtherSet => {
+            let (set, _) = edge_way(rng, &l1p_ways(record, true))?;
+            let other = record.l1p[set].lines[0].address ^ L1p::LINE << rng.below(9);
+            if is_past_external(record, other) {
+                return None;
+            }
+            if let Some(held) = record.find_l1p(other) {
+                record.l1p[held].lines[0] = Line::EMPTY;
+            }
+            record.l1p[set].lines[0].address = other;
+        }
+        Fault::L1pOutside => {
+            let address = outside_line(rng, record, L1p::LINE);
+            put_l1p_line(record, address);
+        }
+        Fault::L1pMarZero => {
+            let (number, address) = line_in_a_range(rng, record, L1p::LINE);
+            drop_range(record, number);
+            put_l1p_line(record, address);
+            set_mar(record, number, 0);
         }
         // The counts come afterwards.
         Fault::L1dCountMore
@@ -875,6 +1009,12 @@ fn l2_ways(record: &Record, valid: bool) -> Vec<(usize, usize)> {
         }
     }
     ways
+}
+
+/// The sets of L1P whose way is valid (or invalid), each with its one way.
+fn l1p_ways(record: &Record, valid: bool) -> Vec<(usize, usize)> {
+    let sets = record.l1p.iter().enumerate().filter(|(_, set)| set.lines[0].valid == valid);
+    sets.map(|(number, _)| (number, 0)).collect()
 }
 
 /// One of the ways, if there are any.
@@ -974,6 +1114,11 @@ fn put_l2_line(rng: &mut Rng, record: &mut Record, address: u32) -> Option<()> {
     Some(())
 }
 
+/// Puts a line in place of another, in the L1P set of its address.
+fn put_l1p_line(record: &mut Record, address: u32) {
+    record.l1p[L1p::set_of(address)].lines[0] = Line { valid: true, dirty: false, address };
+}
+
 /// A random L2 set not in use.
 fn unused_set(rng: &mut Rng, record: &Record) -> Option<usize> {
     let sets = L2::sets(record.mode);
@@ -1027,9 +1172,19 @@ fn drop_l1d_range(record: &mut Record, number: u32) {
     }
 }
 
-/// Empties all ways of either cache that hold a line of this MAR range.
+/// Empties all ways of L1P that hold a line of this MAR range.
+fn drop_l1p_range(record: &mut Record, number: u32) {
+    for line in record.l1p.iter_mut().flat_map(|set| set.lines.iter_mut()) {
+        if in_range(line, number) {
+            *line = Line::EMPTY;
+        }
+    }
+}
+
+/// Empties all ways of any cache that hold a line of this MAR range.
 fn drop_range(record: &mut Record, number: u32) {
     drop_l1d_range(record, number);
+    drop_l1p_range(record, number);
     for line in record.l2.iter_mut().flat_map(|set| set.lines.iter_mut()) {
         if in_range(line, number) {
             *line = Line::EMPTY;
@@ -1072,6 +1227,12 @@ pub fn senseless_record(rng: &mut Rng, l: u32, e: u32) -> Box<Record> {
             }
         }
     }
+    let mut aside = rng.aside();
+    for set in record.l1p.iter_mut() {
+        if aside.chance(density, 16) {
+            set.lines[0] = senseless_line(&mut aside, e);
+        }
+    }
     // Right counts alone do not make it a record of any sense.
     record.write_counts();
     if rng.chance(1, 4) {
@@ -1112,10 +1273,12 @@ pub enum WrongLength {
     /// The record's and the lent length alike and illegal.
     BothL,
     BothE,
+    /// A lent length illegal, L1P's.
+    L1p,
 }
 
 /// All wrong lengths.
-pub const WRONG_LENGTHS: [WrongLength; 9] = [
+pub const WRONG_LENGTHS: [WrongLength; 10] = [
     WrongLength::L1d,
     WrongLength::L2Illegal,
     WrongLength::ExternalIllegal,
@@ -1125,16 +1288,21 @@ pub const WRONG_LENGTHS: [WrongLength; 9] = [
     WrongLength::RecordE,
     WrongLength::BothL,
     WrongLength::BothE,
+    WrongLength::L1p,
 ];
 
 /// Makes one length wrong. The fault is not seen by the technician's call if
-/// it is `L1d`, nor by a fresh start if it is one of `L2Unlike`,
+/// it is `L1d` or `L1p`, nor by a fresh start if it is one of `L2Unlike`,
 /// `ExternalUnlike`, `RecordL` and `RecordE`.
 pub fn make_length_wrong(rng: &mut Rng, setup: &mut Setup, wrong: WrongLength) {
     match wrong {
         WrongLength::L1d => {
             let length = rng.pick(&[0, 1, 64, 8_192, 16_320, 16_383, 16_385, 16_448, 32_768]);
             setup.l1d.resize(length, 0xA5);
+        }
+        WrongLength::L1p => {
+            let length = rng.pick(&[0, 1, 32, 8_192, 16_352, 16_383, 16_385, 16_416, 32_768]);
+            setup.l1p.resize(length, 0xA5);
         }
         WrongLength::L2Illegal => setup.l2.resize(illegal_l(rng) as usize, 0xA5),
         WrongLength::ExternalIllegal => {
@@ -1194,6 +1362,8 @@ pub struct Hot {
     pub l: u32,
     pub e: u32,
     pub lines: Vec<u32>,
+    /// More of them for fetches alone: lines that L1P holds.
+    pub program: Vec<u32>,
 }
 
 /// A handful of hot lines for these sizes.
@@ -1237,7 +1407,7 @@ pub fn hot(rng: &mut Rng, l: u32, e: u32) -> Hot {
             lines.push(line ^ 64);
         }
     }
-    Hot { l, e, lines }
+    Hot { l, e, lines, program: Vec::new() }
 }
 
 /// The least E with which six lines of external memory lie in one set of L2 in this mode,
@@ -1263,7 +1433,7 @@ pub fn crowded(rng: &mut Rng, mode: u32, l: u32, e: u32) -> Hot {
     if sram_size(l, mode) >= 2 * sets && rng.chance(1, 2) {
         lines.extend([first % sets, first % sets + sets]);
     }
-    Hot { l, e, lines }
+    Hot { l, e, lines, program: Vec::new() }
 }
 
 /// Hot lines for a record: some that it holds, and a handful of others.
@@ -1277,11 +1447,16 @@ pub fn hot_for(rng: &mut Rng, record: &Record) -> Hot {
             hot.lines.push(record.l2[set].lines[way].address + 64 * rng.below(2));
         }
     }
+    let held = l1p_ways(record, true);
+    let mut aside = rng.aside();
+    for _ in 0..hot.lines.len().min(4 * held.len()) / 4 {
+        hot.program.push(record.l1p[aside.pick(&held).0].lines[0].address);
+    }
     hot
 }
 
-/// How often each kind of command comes up, in parts of the sum, and beside them transfers and
-/// frames, which no trace has.
+/// How often each kind of command comes up, in parts of the sum, and beside them transfers, frames,
+/// fetches and invalidations of L1P, which no trace has.
 #[derive(Clone, Copy, Debug)]
 pub struct Mix {
     pub read: u32,
@@ -1297,6 +1472,8 @@ pub struct Mix {
     pub freeze: u32,
     pub transfer: u32,
     pub frame: u32,
+    pub fetch: u32,
+    pub l1p_invalidate: u32,
 }
 
 impl Mix {
@@ -1316,6 +1493,8 @@ impl Mix {
         transfer: 60,
         // One is 3,072 accesses, and fills a part of the caches.
         frame: 4,
+        fetch: 160,
+        l1p_invalidate: 25,
     };
 
     /// Everything that flat memory agrees with: nothing is dropped unwritten.
@@ -1466,19 +1645,23 @@ impl Frame {
     }
 }
 
-/// A single call: a command that a trace could hold as well, or an access, a transfer or a frame
-/// that none can (02, U6, U1 and U14).
+/// A single call: a command that a trace could hold as well, or an access, a transfer, a frame, or
+/// a call of L1P that none can (02, U6, U1, U14 and U4).
 #[derive(Clone, Copy, PartialEq, Eq, Debug)]
 pub enum Single {
     Command(Command),
     Unaligned(Unaligned),
     Transfer(Transfer),
     Frame(Frame),
+    Program(Program),
 }
 
-/// A random single call: a transfer, a frame, or a command, but of the accesses one in six is a
+/// A random single call: a transfer, a frame, one of L1P, or a command, but of the accesses one in six is a
 /// non-aligned one.
 pub fn single(rng: &mut Rng, hot: &Hot, mix: &Mix) -> Single {
+    if let Some(call) = program_call(&mut rng.aside(), hot, mix) {
+        return Single::Program(call);
+    }
     let part = rng.below(mix.sum() + mix.transfer + mix.frame);
     if part < mix.transfer {
         return Single::Transfer(transfer(rng, hot));
@@ -1496,6 +1679,58 @@ pub fn single(rng: &mut Rng, hot: &Hot, mix: &Mix) -> Single {
         return Single::Command(drawn);
     }
     Single::Unaligned(unaligned_access(rng, hot, is_write))
+}
+
+/// A call of L1P, as often as one comes up.
+fn program_call(rng: &mut Rng, hot: &Hot, mix: &Mix) -> Option<Program> {
+    let others = mix.sum() + mix.transfer + mix.frame;
+    let part = rng.below(others + mix.fetch + mix.l1p_invalidate);
+    if part < mix.fetch {
+        return Some(Program::Fetch { address: fetch_address(rng, hot) });
+    }
+    (part < mix.fetch + mix.l1p_invalidate).then(|| l1p_invalidation(rng, hot))
+}
+
+/// The address of a fetch: mostly in a hot line or beside it, and a multiple of 32; seldom around an
+/// end of a memory, near FFFFFFFFh or anywhere.
+pub fn fetch_address(rng: &mut Rng, hot: &Hot) -> u32 {
+    let line = if hot.program.is_empty() || rng.chance(2, 3) {
+        rng.pick(&hot.lines)
+    } else {
+        L1d::line_address(rng.pick(&hot.program))
+    };
+    let address = match rng.below(64) {
+        0 => rng.next_u32(),
+        1 => u32::MAX - rng.below(128),
+        2 => EXTERNAL_BASE.wrapping_sub(64).wrapping_add(rng.below(128)),
+        3 => EXTERNAL_BASE.wrapping_add(hot.e).wrapping_sub(64).wrapping_add(rng.below(128)),
+        4 => {
+            let end = sram_size(hot.l, rng.pick(&LEGAL_MODES));
+            end.wrapping_sub(64).wrapping_add(rng.below(128))
+        }
+        5 => EXTERNAL_BASE + rng.below(hot.e),
+        6 => rng.below(hot.l),
+        7..=14 => (line - line % L2::LINE).wrapping_add(rng.below(L2::LINE)),
+        // As far as all sets of L1P reach: the two lie in one set.
+        15..=18 => line.wrapping_add(L1P_BYTES as u32),
+        _ => line + rng.below(L1d::LINE),
+    };
+    if rng.chance(1, 24) {
+        address
+    } else {
+        L1p::line_address(address)
+    }
+}
+
+/// An invalidation of L1P, one in five of all of it.
+pub fn l1p_invalidation(rng: &mut Rng, hot: &Hot) -> Program {
+    if rng.chance(1, 5) {
+        return Program::InvalidateAll;
+    }
+    let (base, count) = block(rng, hot);
+    // A few words: one line of L1P, or two.
+    let count = if rng.chance(1, 3) { count % 10 } else { count };
+    Program::InvalidateBlock { base, count }
 }
 
 /// A random transfer; most of them pass the checks, and most touch a few hot lines.
@@ -1679,6 +1914,19 @@ pub fn shared_place(rng: &mut Rng, hot: &Hot) -> Vec<Single> {
         calls.push(access(rng));
     }
     let mut calls: Vec<Single> = calls.into_iter().map(Single::Command).collect();
+    // A fetch is a CPU access too: before the commands it is covered, behind them it is not.
+    let mut aside = rng.aside();
+    let fetch = |rng: &mut Rng| {
+        Single::Program(Program::Fetch {
+            address: place + L1p::LINE * rng.below(bytes / L1p::LINE),
+        })
+    };
+    for _ in 0..aside.below(3) {
+        calls.insert(0, fetch(&mut aside));
+    }
+    if aside.chance(1, 5) {
+        calls.push(fetch(&mut aside));
+    }
     let first = rng.below(lines);
     let length = (L2::LINE * (1 + rng.below(lines - first))) as usize;
     let direction = rng.pick(&[Direction::In, Direction::In, Direction::Out]);
@@ -1812,6 +2060,7 @@ pub enum Call {
     Unaligned(Unaligned),
     Transfer(Transfer),
     Frame(Frame),
+    Program(Program),
     Run { trace: Vec<u8>, answer_bytes: usize },
     Look { address: u32 },
 }
@@ -1837,6 +2086,7 @@ pub fn call(rng: &mut Rng, hot: &Hot, mix: &Mix) -> Call {
             Single::Unaligned(access) => Call::Unaligned(access),
             Single::Transfer(transfer) => Call::Transfer(transfer),
             Single::Frame(frame) => Call::Frame(frame),
+            Single::Program(call) => Call::Program(call),
         },
     }
 }

@@ -6,6 +6,9 @@ pub const EXTERNAL_BASE: u32 = 0x8000_0000;
 /// "L1D data: exactly 16,384 bytes."
 pub const L1D_BYTES: usize = 16_384;
 
+/// "a lent buffer of exactly 16,384 bytes" (02, U4), L1P's.
+pub const L1P_BYTES: usize = 16_384;
+
 /// "L2: L bytes, a multiple of 32,768, from 32,768 to 262,144."
 pub fn l2_length_is_legal(l: u64) -> bool {
     l % 32_768 == 0 && (32_768..=262_144).contains(&l)
@@ -94,6 +97,30 @@ impl L2 {
     /// "Data at S + (w × sets + s) × 128."
     pub fn offset(s: u32, sets: usize, set: usize, way: usize) -> usize {
         s as usize + (way * sets + set) * Self::LINE as usize
+    }
+
+    /// "A line address is that of the line's first byte."
+    pub fn line_address(address: u32) -> u32 {
+        address - address % Self::LINE
+    }
+}
+
+/// "L1P: 16 Kbytes, one way, 32-byte lines, 512 sets" (02, U4).
+pub struct L1p;
+
+impl L1p {
+    pub const LINE: u32 = 32;
+    pub const WAYS: usize = 1;
+    pub const SETS: usize = 512;
+
+    /// "set = (address ÷ 32) mod 512".
+    pub fn set_of(address: u32) -> usize {
+        (address / Self::LINE) as usize % Self::SETS
+    }
+
+    /// "set s's data at s × 32 in a lent buffer".
+    pub fn offset(set: usize) -> usize {
+        set * Self::LINE as usize
     }
 
     /// "A line address is that of the line's first byte."

@@ -4,16 +4,18 @@
 
 use std::ops::Range;
 
-use crate::geometry::{external_offset, L1d, EXTERNAL_BASE, L2};
-use crate::record::{used, victim_way, Left, Line, Record};
+use crate::geometry::{external_offset, L1d, L1p, EXTERNAL_BASE, L2};
+use crate::record::{used, victim_way, L1pSet, Left, Line, Record};
 
 /// "The server number is 1 for L1D, 2 SRAM, 3 L2 cache, 4 external (also when
-/// L2 had to fetch), 0 for calls that aren't reads or writes."
+/// L2 had to fetch), 0 for calls that aren't reads or writes." A fetch's is "a data
+/// read's, with 5 for L1P" (02, U4).
 pub const SERVER_NONE: u8 = 0;
 pub const SERVER_L1D: u8 = 1;
 pub const SERVER_SRAM: u8 = 2;
 pub const SERVER_L2: u8 = 3;
 pub const SERVER_EXTERNAL: u8 = 4;
+pub const SERVER_L1P: u8 = 5;
 
 /// The record and the "Memories lent by the caller".
 pub struct Machine<'a> {
@@ -22,6 +24,7 @@ pub struct Machine<'a> {
     pub l2: &'a mut [u8],
     /// Reached by `read_external` and `write_external` alone, which count the bytes.
     ext: &'a mut [u8],
+    pub l1p: &'a mut [u8],
     pub events: Events,
     pub report: Report,
 }
@@ -75,8 +78,9 @@ impl<'a> Machine<'a> {
         l1d: &'a mut [u8],
         l2: &'a mut [u8],
         ext: &'a mut [u8],
+        l1p: &'a mut [u8],
     ) -> Machine<'a> {
-        Machine { record, l1d, l2, ext, events: Events::default(), report: Report::NONE }
+        Machine { record, l1d, l2, ext, l1p, events: Events::default(), report: Report::NONE }
     }
 }
 
@@ -120,6 +124,31 @@ impl Machine<'_> {
     /// order." No byte changes either.
     pub fn empty_l2_way(&mut self, set: usize, way: usize) {
         self.record.l2[set].lines[way] = Line::EMPTY;
+    }
+
+    /// "An invalid way is clean with address 0." No byte of L1P changes (02, U4).
+    pub fn empty_l1p_way(&mut self, set: usize) {
+        self.record.l1p[set].lines[0] = Line::EMPTY;
+    }
+
+    /// Makes the line of this address invalid, where L1P holds it (02, U4).
+    pub fn drop_l1p_line(&mut self, address: u32) {
+        if let Some(set) = self.record.find_l1p(address) {
+            self.empty_l1p_way(set);
+        }
+    }
+
+    /// Makes every line of L1P invalid (02, U4).
+    pub fn empty_l1p(&mut self) {
+        self.record.l1p = [L1pSet::FRESH; L1p::SETS];
+    }
+
+    /// "drop the L1P lines inside valid L2 lines they act on" (02, U4): of one L2 line all four.
+    pub fn drop_l1p_lines_inside(&mut self, set: usize, way: usize) {
+        let line = self.record.l2[set].lines[way];
+        for place in (0..L2::LINE).step_by(L1p::LINE as usize) {
+            self.drop_l1p_line(line.address + place);
+        }
     }
 
     /// "Data at S + (w × sets + s) × 128."

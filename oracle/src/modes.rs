@@ -8,7 +8,7 @@ use crate::record::{L1dSet, L2Set, Record};
 /// "An accepted mode change, even to the same mode, writes back all dirty
 /// lines of L1D, then of L2, makes every line invalid and every order fresh,
 /// and sets zero every L2 byte from the smaller of old and new S on." 02, U11: "a
-/// mode change keeps the freeze".
+/// mode change keeps the freeze"; U4: "a mode change drops all" lines of L1P.
 pub fn change_mode(machine: &mut Machine, new_mode: u32) {
     for set in 0..L1d::SETS {
         for way in 0..L1d::WAYS {
@@ -24,6 +24,7 @@ pub fn change_mode(machine: &mut Machine, new_mode: u32) {
     let new_s = sram_size(machine.record.l, new_mode);
     machine.record.l1d = [L1dSet::FRESH; L1d::SETS];
     machine.record.l2 = [L2Set::FRESH; L2::SETS_HELD];
+    machine.empty_l1p();
     machine.record.mode = new_mode;
     machine.l2[old_s.min(new_s) as usize..].fill(0);
 }
@@ -42,9 +43,10 @@ pub fn change_freeze(record: &mut Record, frozen: u32) {
     record.frozen = frozen;
 }
 
-/// "either cache holds a line of that range".
+/// "either cache holds a line of that range". 02, U4: "Check 10 now looks in L1P too".
 pub fn holds_a_line_of(record: &Record, number: u32) -> bool {
     let l1d = record.l1d.iter().flat_map(|set| set.lines.iter());
     let l2 = record.l2.iter().flat_map(|set| set.lines.iter());
-    l1d.chain(l2).any(|line| line.valid && mar_number(line.address) == number)
+    let l1p = record.l1p.iter().flat_map(|set| set.lines.iter());
+    l1d.chain(l2).chain(l1p).any(|line| line.valid && mar_number(line.address) == number)
 }

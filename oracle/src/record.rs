@@ -1,6 +1,6 @@
 //! The record: what is known of the lines, apart from their bytes.
 
-use crate::geometry::{mar_number, sram_size, L1d, L2};
+use crate::geometry::{mar_number, sram_size, L1d, L1p, L2};
 
 /// "the lines, held by set and by way: valid, dirty, line address".
 #[derive(Clone, Copy, PartialEq, Eq, Debug)]
@@ -41,11 +41,22 @@ impl L2Set {
     pub const FRESH: L2Set = L2Set { lines: [Line::EMPTY; L2::WAYS], order: [3, 2, 1, 0] };
 }
 
+/// "one way" (02, U4), so that a set of L1P has no order of use.
+#[derive(Clone, Copy, PartialEq, Eq, Debug)]
+pub struct L1pSet {
+    pub lines: [Line; L1p::WAYS],
+}
+
+impl L1pSet {
+    /// "Fresh: ... nothing valid".
+    pub const FRESH: L1pSet = L1pSet { lines: [Line::EMPTY; L1p::WAYS] };
+}
+
 /// "The record holds L, E, the mode, the two MAR bits (128 and 129), and for
 /// all 128 L1D and 512 L2 sets the lines"; whether L1D is frozen, 1, or thawed,
 /// 0: "the record keeps it" (02, U11); and "how many lines are dirty in L1D and in
-/// L2 ... Write both counts into the record." (02, U5). Any number may stand in any
-/// field.
+/// L2 ... Write both counts into the record." (02, U5); and of L1P "the record carries
+/// its lines" (02, U4). Any number may stand in any field.
 #[derive(Clone, PartialEq, Eq, Debug)]
 pub struct Record {
     pub l: u32,
@@ -58,6 +69,7 @@ pub struct Record {
     pub dirty_l2: u32,
     pub l1d: [L1dSet; L1d::SETS],
     pub l2: [L2Set; L2::SETS_HELD],
+    pub l1p: [L1pSet; L1p::SETS],
 }
 
 impl Record {
@@ -75,6 +87,7 @@ impl Record {
             dirty_l2: 0,
             l1d: [L1dSet::FRESH; L1d::SETS],
             l2: [L2Set::FRESH; L2::SETS_HELD],
+            l1p: [L1pSet::FRESH; L1p::SETS],
         })
     }
 
@@ -143,6 +156,20 @@ impl Record {
                 line.valid && line.address == line_address
             })
             .map(|way| (set, way))
+    }
+}
+
+impl Record {
+    /// The set of L1P in which the line of this address is held (02, U4).
+    pub fn find_l1p(&self, address: u32) -> Option<usize> {
+        let set = L1p::set_of(address);
+        let line = self.l1p[set].lines[0];
+        (line.valid && line.address == L1p::line_address(address)).then_some(set)
+    }
+
+    /// How many lines L1P holds.
+    pub fn held_in_l1p(&self) -> usize {
+        self.l1p.iter().filter(|set| set.lines[0].valid).count()
     }
 }
 

@@ -137,15 +137,16 @@ pub fn run(
     l1d: &mut [u8],
     l2: &mut [u8],
     ext: &mut [u8],
+    l1p: &mut [u8],
     trace: &[u8],
     answers: &mut [u8],
 ) -> RunResult {
     let mut result = RunResult { consumed: 0, answers: 0, stop: 0 };
-    result.stop = check_lent_and_record(record, l1d.len(), l2.len(), ext.len());
+    result.stop = check_lent_and_record(record, l1d.len(), l2.len(), ext.len(), l1p.len());
     if result.stop != 0 {
         return result;
     }
-    let mut machine = Machine::new(record, l1d, l2, ext);
+    let mut machine = Machine::new(record, l1d, l2, ext, l1p);
     while result.consumed < trace.len() {
         let Some((command, length)) = decode(&trace[result.consumed..]) else {
             result.stop = 11;

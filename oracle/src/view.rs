@@ -20,6 +20,7 @@ pub fn look<'a>(record: &Record, l2: &'a [u8], ext: &'a [u8], address: u32) -> &
     }
 }
 
+/// The record is checked whole, L1P's lines too (02, U4), but the call is not lent L1P's buffer.
 /// "a second call with the same arguments returns the number, 0 when
 /// accepted." The numbers are 1, 2, "4: viewed address not of 64" and "5:
 /// viewed line not wholly in SRAM or external memory".

@@ -6,7 +6,7 @@
 //! the L2 sets in use; the counts of dirty lines are of all sets.
 
 use crate::geometry::{
-    external_length_is_legal, l2_length_is_legal, mode_is_legal, place, L1d, Place, L2,
+    external_length_is_legal, l2_length_is_legal, mode_is_legal, place, L1d, L1p, Place, L2,
 };
 use crate::record::{L2Set, Line, Record};
 
@@ -26,10 +26,12 @@ pub enum Clause {
     UnusedSets,
     Inclusion,
     DirtyCounts,
+    L1pClean,
+    L1pPlaces,
 }
 
 /// All clauses, with the sizes and the mode first.
-pub const CLAUSES: [Clause; 13] = [
+pub const CLAUSES: [Clause; 15] = [
     Clause::SizesAndMode,
     Clause::MarBits,
     Clause::Frozen,
@@ -43,6 +45,8 @@ pub const CLAUSES: [Clause; 13] = [
     Clause::UnusedSets,
     Clause::Inclusion,
     Clause::DirtyCounts,
+    Clause::L1pClean,
+    Clause::L1pPlaces,
 ];
 
 /// "A record is well formed when" every clause holds.
@@ -72,6 +76,8 @@ pub fn holds(record: &Record, clause: Clause) -> bool {
         Clause::Inclusion => external_l1d_lines_lie_in_l2_lines(record),
         // 02, U5: "A record whose counts are wrong isn't well formed".
         Clause::DirtyCounts => record.counts_are_right(),
+        Clause::L1pClean => l1p_lines_are_clean(record),
+        Clause::L1pPlaces => l1p_lines_lie_where_they_may(record),
     }
 }
 
@@ -119,14 +125,17 @@ fn invalid_ways_are_empty(record: &Record) -> bool {
     let as_said = |line: &Line| line.valid || (!line.dirty && line.address == 0);
     record.l1d.iter().all(|set| set.lines.iter().all(as_said))
         && l2_sets_in_use(record).iter().all(|set| set.lines.iter().all(as_said))
+        && record.l1p.iter().all(|set| set.lines.iter().all(as_said))
 }
 
 /// "valid line addresses are multiples of the line length".
 fn addresses_are_multiples_of_the_line_length(record: &Record) -> bool {
     let l1d_multiple = |line: &Line| !line.valid || line.address % L1d::LINE == 0;
     let l2_multiple = |line: &Line| !line.valid || line.address % L2::LINE == 0;
+    let l1p_multiple = |line: &Line| !line.valid || line.address % L1p::LINE == 0;
     record.l1d.iter().all(|set| set.lines.iter().all(l1d_multiple))
         && l2_sets_in_use(record).iter().all(|set| set.lines.iter().all(l2_multiple))
+        && record.l1p.iter().all(|set| set.lines.iter().all(l1p_multiple))
 }
 
 /// "and lie in their own set".
@@ -139,12 +148,15 @@ fn lines_lie_in_their_own_set(record: &Record) -> bool {
             .iter()
             .all(|line| !line.valid || L2::set_of(record.mode, line.address) == Some(number))
     });
-    l1d && l2
+    let l1p = record.l1p.iter().enumerate().all(|(number, set)| {
+        set.lines.iter().all(|line| !line.valid || L1p::set_of(line.address) == number)
+    });
+    l1d && l2 && l1p
 }
 
 /// "no line twice", in each cache by itself. Lines of different sets have
 /// different addresses, each lying in its own set, so one set is looked at at
-/// a time.
+/// a time. A set of L1P has one line.
 fn no_line_is_held_twice(record: &Record) -> bool {
     record.l1d.iter().all(|set| lines_differ(&set.lines))
         && l2_sets_in_use(record).iter().all(|set| lines_differ(&set.lines))
@@ -164,6 +176,26 @@ fn l1d_lines_lie_where_they_may(record: &Record) -> bool {
         set.lines.iter().all(|line| {
             !line.valid
                 || match place(s, record.e, line.address, L1d::LINE) {
+                    Some(Place::Sram) => true,
+                    Some(Place::External) => record.mar_bit(line.address) == 1,
+                    None => false,
+                }
+        })
+    })
+}
+
+/// 02, U4: "L1P lines are always clean". Of an invalid way that is said already.
+fn l1p_lines_are_clean(record: &Record) -> bool {
+    record.l1p.iter().all(|set| set.lines.iter().all(|line| !line.valid || !line.dirty))
+}
+
+/// 02, U4: L1P lines "lie where L1D lines may, and needn't be in L2".
+fn l1p_lines_lie_where_they_may(record: &Record) -> bool {
+    let s = record.sram_size();
+    record.l1p.iter().all(|set| {
+        set.lines.iter().all(|line| {
+            !line.valid
+                || match place(s, record.e, line.address, L1p::LINE) {
                     Some(Place::Sram) => true,
                     Some(Place::External) => record.mar_bit(line.address) == 1,
                     None => false,

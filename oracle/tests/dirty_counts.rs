@@ -48,10 +48,10 @@ fn a_fresh_start_has_none() {
     make_dirty(&mut setup, A);
     setup.write(1, A + 128, 1);
     assert_eq!(counts(&setup), (1, 1));
-    let Setup { l1d, l2, ext, .. } = &mut setup;
-    let (record, number) = fresh_start(l1d, l2, ext);
+    let Setup { l1d, l2, ext, l1p, .. } = &mut setup;
+    let (record, number) = fresh_start(l1d, l2, ext, l1p);
     assert_eq!((record.dirty_l1d, record.dirty_l2, number), (0, 0, 0));
-    let (record, number) = fresh_start(l1d, l2, &mut []);
+    let (record, number) = fresh_start(l1d, l2, &mut [], l1p);
     assert_eq!((record.dirty_l1d, record.dirty_l2, number), (0, 0, 1));
 }
 

@@ -19,8 +19,8 @@ fn cached(mode: u32) -> Setup {
 }
 
 fn events(setup: &mut Setup, command: Command) -> Events {
-    let Setup { record, l1d, l2, ext } = setup;
-    let (reply, events) = direct_with_events(record, l1d, l2, ext, &command);
+    let Setup { record, l1d, l2, ext, l1p } = setup;
+    let (reply, events) = direct_with_events(record, l1d, l2, ext, l1p, &command);
     assert_eq!(reply.answer.number, 0);
     events
 }
@@ -282,6 +282,10 @@ fn lists_with_drops_keep_to_the_sentences() {
             let seen = match &call {
                 Single::Command(command) => history.call(command, &answer),
                 Single::Unaligned(access) => history.unaligned(access, &answer),
+                Single::Program(call) => {
+                    history.program(call, answer.number == 0);
+                    Ok(Read::default())
+                }
                 Single::Transfer(_) | Single::Frame(_) => unreachable!(),
             };
             match seen {

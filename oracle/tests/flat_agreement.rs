@@ -9,7 +9,8 @@ use oracle::gen::{
 };
 use oracle::geometry::EXTERNAL_BASE;
 use oracle::wellformed::broken_clauses;
-use oracle::{Command, Direction, Line};
+use oracle::written::Written;
+use oracle::{Command, Direction, Line, Program};
 
 /// What a list met, to see that it was worth running.
 #[derive(Default, Debug)]
@@ -27,6 +28,59 @@ struct Met {
     unaligned_frozen: u32,
     transfers: Transfers,
     frames: Frames,
+    programs: Programs,
+}
+
+/// What calls of L1P a list met: by the number; accepted fetches by the server; bytes that were
+/// compared, and those that were not since they had been written, of which other than flat memory's;
+/// fetches with bytes of both kinds.
+#[derive(Default, Debug)]
+struct Programs {
+    numbers: [u32; 16],
+    servers: [u32; 6],
+    compared: u32,
+    written: u32,
+    older: u32,
+    both: u32,
+}
+
+/// A fetch or an invalidation of L1P of a list (02, U4): "an accepted fetch gives flat memory's bytes
+/// wherever none of its 32 was written". Where lines are dropped no byte is compared: what a dropped
+/// line had is lost to the memory that a mode change leaves.
+fn run_program(
+    setup: &mut Setup,
+    flat: &mut Flat,
+    covered: &mut Covered,
+    written: &Written,
+    drops: bool,
+    call: &Program,
+    met: &mut Programs,
+) {
+    let fetched = setup.program(call);
+    let number = fetched.reply.answer.number;
+    met.numbers[usize::from(number)] += 1;
+    let Program::Fetch { address } = *call else { return };
+    covered.fetch(address, number == 0);
+    let (theirs, bytes) = flat.fetch(address);
+    assert_eq!(number, theirs, "{call:x?}");
+    if number != 0 {
+        assert_eq!(fetched.bytes, [0; 32]);
+        return;
+    }
+    met.servers[usize::from(fetched.reply.answer.server)] += 1;
+    let mut kinds = [false; 2];
+    for (place, (ours, theirs)) in fetched.bytes.iter().zip(bytes).enumerate() {
+        let was_written = written.was(address + place as u32);
+        kinds[usize::from(was_written)] = true;
+        if was_written {
+            met.written += 1;
+            met.older += u32::from(*ours != theirs);
+        } else {
+            met.compared += 1;
+            assert!(drops || *ours == theirs, "{call:x?} byte {place}");
+        }
+    }
+    met.both += u32::from(kinds == [true; 2]);
 }
 
 /// What frames a list met: by the number, and accepted ones by the mode, with MAR bit 0 and of a
@@ -86,6 +140,7 @@ fn run_transfer(
     drops: bool,
     transfer: &Transfer,
     met: &mut Transfers,
+    written: &mut Written,
 ) {
     let Transfer { direction, address, length, .. } = *transfer;
     let number = flat.transfer_number(address, length);
@@ -109,6 +164,9 @@ fn run_transfer(
     assert_eq!(reply.answer.number, number, "{transfer:x?}");
     met.numbers[usize::from(number)] += 1;
     let Some(mut theirs) = transfer.buffer() else { return };
+    if transfer.is_in() {
+        written.transfer_in(address, length, number == 0);
+    }
     match direction {
         Direction::In => assert_eq!(flat.transfer_in(address, &theirs), number),
         Direction::Out => assert_eq!(flat.transfer_out(address, &mut theirs), number),
@@ -135,6 +193,7 @@ fn run_list(seed: u64, l: u32, e: u32, calls: u32, mix: &Mix, met: &mut Met) {
     rng.fill(&mut ext);
     let mut flat = Flat::fresh(l, &ext);
     let mut covered = Covered::fresh(e);
+    let mut written = Written::fresh();
     let mut setup = Setup::fresh_over(l, ext);
     let drops = mix.l2_block_invalidate + mix.l1d_block_invalidate + mix.l1d_invalidate_all > 0;
     let mut lines = hot(&mut rng, l, e);
@@ -155,18 +214,25 @@ fn run_list(seed: u64, l: u32, e: u32, calls: u32, mix: &Mix, met: &mut Met) {
             Single::Command(command) => command,
             Single::Transfer(transfer) => {
                 let met = &mut met.transfers;
-                run_transfer(&mut setup, &mut flat, &covered, drops, &transfer, met);
+                run_transfer(&mut setup, &mut flat, &covered, drops, &transfer, met, &mut written);
                 continue;
             }
             Single::Frame(frame) => {
                 let met = &mut met.frames;
                 run_frame(&mut setup, &mut flat, &mut covered, &frame, met);
+                written.frame(frame.turn, flat.frame_number(frame.length) == 0);
+                continue;
+            }
+            Single::Program(call) => {
+                let met = &mut met.programs;
+                run_program(&mut setup, &mut flat, &mut covered, &written, drops, &call, met);
                 continue;
             }
             // "Lists with these accesses keep agreeing with flat memory." (02, U6)
             Single::Unaligned(access) => {
                 let answer = setup.unaligned(&access).answer;
                 covered.unaligned(&access, answer.number == 0);
+                written.unaligned(&access, answer.number == 0);
                 let (number, value) = flat.apply_unaligned(&access);
                 assert_eq!(answer.number, number, "{seed} {turn} {access:x?}");
                 if !drops {
@@ -179,6 +245,7 @@ fn run_list(seed: u64, l: u32, e: u32, calls: u32, mix: &Mix, met: &mut Met) {
         };
         let answer = setup.call(&command);
         covered.command(&command, answer.number == 0);
+        written.command(&command, answer.number == 0);
         met.numbers[answer.number as usize] += 1;
         met.servers[answer.server as usize] += 1;
         if answer.number != 0 {
@@ -222,7 +289,7 @@ fn lists_agree_with_flat_memory_in_both_mar_ranges() {
     let mix = Mix { l2_all: 4, mode: 6, ..Mix::NO_DROPS };
     let mut met = Met::default();
     for (number, l) in LEGAL_L.into_iter().enumerate() {
-        run_list(100 + number as u64, l, E_BOTH_RANGES, 12_000, &mix, &mut met);
+        run_list(100 + number as u64, l, E_BOTH_RANGES, 16_000, &mix, &mut met);
     }
     check_met(&met);
     assert!(met.bypassed_in.iter().all(|&count| count > 100), "{met:?}");
@@ -283,9 +350,14 @@ fn check_met(met: &Met) {
     assert!(pairs.iter().flatten().all(|&count| count > 50), "{met:?}");
     assert!(transfers.dirty.iter().all(|&count| count > 30), "{met:?}");
     assert!(transfers.left_out > 500, "{met:?}");
+    let programs = &met.programs;
+    assert!([0, 4, 5, 7, 15].iter().all(|&number| programs.numbers[number] > 10), "{met:?}");
+    assert!(programs.servers[2..].iter().all(|&count| count > 200), "{met:?}");
+    assert!(programs.compared > 100_000 && programs.written > 5_000, "{met:?}");
+    assert!(programs.older > 1_000 && programs.both > 500, "{met:?}");
     let frames = &met.frames;
     assert!([0, 1, 2, 3, 7].iter().all(|&mode| frames.modes[mode] > 3), "{met:?}");
-    assert!(frames.numbers[20] > 10 && frames.past > 5 && frames.frozen > 20, "{met:?}");
+    assert!(frames.numbers[20] > 10 && frames.past > 0 && frames.frozen > 20, "{met:?}");
     for mode in [0, 1, 2, 3, 7] {
         assert!(met.modes[mode] > 500, "{met:?}");
         assert!(met.settled[mode] > 2, "{met:?}");

@@ -174,7 +174,11 @@ fn transfers() {
 /// The modules name nothing of the machine but the commands and accesses.
 #[test]
 fn shares_no_function_with_the_machine() {
-    for text in [include_str!("../src/flat.rs"), include_str!("../src/covered.rs")] {
+    for text in [
+        include_str!("../src/flat.rs"),
+        include_str!("../src/covered.rs"),
+        include_str!("../src/written.rs"),
+    ] {
         let uses: Vec<&str> = text.lines().filter(|line| line.contains("crate::")).collect();
         assert_eq!(uses, ["use crate::trace::Command;", "use crate::unaligned::Unaligned;"]);
         assert!(!["super::", ".size()", ".address()", ".value()"]

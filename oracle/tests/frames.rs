@@ -28,8 +28,8 @@ fn columns(pixels: &[u8]) -> [u32; 64] {
 
 /// A frame that is accepted, and what has to come back.
 fn accepted(setup: &mut Setup, turn: u8, pixels: &[u8]) {
-    let Setup { record, l1d, l2, ext } = setup;
-    let framed = oracle::calls::frame(record, l1d, l2, ext, turn, pixels);
+    let Setup { record, l1d, l2, ext, l1p } = setup;
+    let framed = oracle::calls::frame(record, l1d, l2, ext, l1p, turn, pixels);
     assert_eq!(framed, Framed { number: 0, turn: 1 - turn % 2, sums: columns(pixels) });
 }
 
@@ -57,8 +57,8 @@ fn each_pixel_counts_in_its_column() {
     for pixel in (0..3_072).step_by(37).chain([0, 63, 64, 3_008, 3_071]) {
         let mut pixels = vec![0; 3_072];
         pixels[pixel] = 200;
-        let Setup { record, l1d, l2, ext } = &mut setup;
-        let framed = oracle::calls::frame(record, l1d, l2, ext, 0, &pixels);
+        let Setup { record, l1d, l2, ext, l1p } = &mut setup;
+        let framed = oracle::calls::frame(record, l1d, l2, ext, l1p, 0, &pixels);
         let sums: [u32; 64] = std::array::from_fn(|column| 200 * u32::from(column == pixel % 64));
         assert_eq!(framed, Framed { number: 0, turn: 1, sums });
     }

@@ -286,10 +286,10 @@ fn a_fresh_start_is_thawed() {
     let mut setup = Setup::fresh(65_536, 65_536);
     assert_eq!(setup.record.frozen, 0);
     freeze(&mut setup);
-    let Setup { l1d, l2, ext, .. } = &mut setup;
-    let (record, number) = oracle::calls::fresh_start(l1d, l2, ext);
+    let Setup { l1d, l2, ext, l1p, .. } = &mut setup;
+    let (record, number) = oracle::calls::fresh_start(l1d, l2, ext, l1p);
     assert_eq!((record.frozen, number), (0, 0));
-    let (record, number) = oracle::calls::fresh_start(l1d, l2, &mut []);
+    let (record, number) = oracle::calls::fresh_start(l1d, l2, &mut [], l1p);
     assert_eq!((record.frozen, number), (0, 1));
 }
 

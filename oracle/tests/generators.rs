@@ -135,6 +135,7 @@ fn nothing_panics_whatever_the_content() {
             l1d: vec![1; if rng.chance(3, 4) { 16_384 } else { rng.below(40_000) as usize }],
             l2: vec![2; if rng.chance(3, 4) { l } else { rng.below(300_000) } as usize],
             ext: vec![3; if rng.chance(3, 4) { e } else { rng.below(300_000) } as usize],
+            l1p: vec![5; if rng.chance(3, 4) { 16_384 } else { 16_352 }],
         };
         if rng.chance(1, 8) {
             setup.record.l = rng.next_u32();
@@ -168,6 +169,12 @@ fn nothing_panics_whatever_the_content() {
                     let number = setup.frame(&frame).number;
                     assert!(well_formed || number == 1 || number == 2);
                 }
+                Call::Program(call) => {
+                    let fetched = setup.program(&call);
+                    let number = fetched.reply.answer.number;
+                    assert!(well_formed || number == 1 || number == 2);
+                    assert!(number == 0 || fetched.bytes == [0; 32]);
+                }
                 Call::Run { trace, answer_bytes } => {
                     let result = setup.run(&trace, &mut vec![0; answer_bytes]);
                     assert!(well_formed || result.stop == 1 || result.stop == 2);
@@ -180,13 +187,13 @@ fn nothing_panics_whatever_the_content() {
             }
             assert!(well_formed || setup.record == before);
         }
-        fresh_start(&mut setup.l1d, &mut setup.l2, &mut setup.ext);
+        fresh_start(&mut setup.l1d, &mut setup.l2, &mut setup.ext, &mut setup.l1p);
     }
     // Nothing lent at all.
-    let (record, number) = fresh_start(&mut [], &mut [], &mut []);
+    let (record, number) = fresh_start(&mut [], &mut [], &mut [], &mut []);
     assert_eq!(number, 1);
     assert!(record == Record::fresh(32_768, 128));
-    let mut setup = Setup { record, l1d: vec![], l2: vec![], ext: vec![] };
+    let mut setup = Setup { record, l1d: vec![], l2: vec![], ext: vec![], l1p: vec![0; 16_384] };
     assert_eq!(setup.read(1, 0), Answer::refused(1));
     assert_eq!(setup.look_number(0), 1);
 }

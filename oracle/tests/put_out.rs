@@ -545,8 +545,8 @@ fn every_direct_call_carries_it() {
     let mut setup = full(1);
     let mut same = setup.clone();
     let command = Command::Read { size: 4, address: A + 5 * APART };
-    let Setup { record, l1d, l2, ext } = &mut same;
-    let reply = direct(record, l1d, l2, ext, &command);
+    let Setup { record, l1d, l2, ext, l1p } = &mut same;
+    let reply = direct(record, l1d, l2, ext, l1p, &command);
     assert_eq!(reply, setup.reply(&command));
     // The lines that were used longest ago.
     assert_eq!(reply.report, report(dirty(A), dirty(A + 2 * APART), 128, 128));

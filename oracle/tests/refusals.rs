@@ -79,6 +79,9 @@ fn number_1_lengths() {
         let mut setup = good.clone();
         setup.l1d.resize(length, 0);
         bad.push(setup);
+        let mut setup = good.clone();
+        setup.l1p.resize(length, 0);
+        bad.push(setup);
     }
     for length in [0, 1, 32_768, 65_535, 65_537, 98_304, 294_912] {
         let mut setup = good.clone();
@@ -119,29 +122,35 @@ fn number_1_legal_ends() {
 
 #[test]
 fn number_1_fresh_start() {
-    for (l1d, l2, ext) in [
-        (16_383, 65_536, 65_536),
-        (0, 65_536, 65_536),
-        (16_384, 0, 65_536),
-        (16_384, 65_537, 65_536),
-        (16_384, 294_912, 65_536),
-        (16_384, 65_536, 0),
-        (16_384, 65_536, 64),
-        (16_384, 65_536, 33_554_432 + 128),
+    for (l1d, l2, ext, l1p) in [
+        (16_383, 65_536, 65_536, 16_384),
+        (16_384, 65_536, 65_536, 16_383),
+        (16_384, 65_536, 65_536, 16_385),
+        (16_384, 65_536, 65_536, 0),
+        (0, 65_536, 65_536, 16_384),
+        (16_384, 0, 65_536, 16_384),
+        (16_384, 65_537, 65_536, 16_384),
+        (16_384, 294_912, 65_536, 16_384),
+        (16_384, 65_536, 0, 16_384),
+        (16_384, 65_536, 64, 16_384),
+        (16_384, 65_536, 33_554_432 + 128, 16_384),
     ] {
-        let (mut l1d, mut l2, mut ext) = (vec![1; l1d], vec![2; l2], vec![3; ext]);
-        let (record, number) = fresh_start(&mut l1d, &mut l2, &mut ext);
+        let (mut l1d, mut l2) = (vec![1; l1d], vec![2; l2]);
+        let (mut ext, mut l1p) = (vec![3; ext], vec![4; l1p]);
+        let (record, number) = fresh_start(&mut l1d, &mut l2, &mut ext, &mut l1p);
         assert_eq!(number, 1);
         assert!(record == Record::fresh(32_768, 128));
         assert!(l1d.iter().all(|&byte| byte == 1));
         assert!(l2.iter().all(|&byte| byte == 2));
         assert!(ext.iter().all(|&byte| byte == 3));
+        assert!(l1p.iter().all(|&byte| byte == 4));
     }
     let (mut l1d, mut l2, mut ext) = (vec![1; 16_384], vec![2; 98_304], vec![3; 256]);
-    let (record, number) = fresh_start(&mut l1d, &mut l2, &mut ext);
+    let mut l1p = vec![4; 16_384];
+    let (record, number) = fresh_start(&mut l1d, &mut l2, &mut ext, &mut l1p);
     assert_eq!(number, 0);
     assert!(record == Record::fresh(98_304, 256));
-    assert!(l1d.iter().chain(l2.iter()).all(|&byte| byte == 0));
+    assert!(l1d.iter().chain(l2.iter()).chain(l1p.iter()).all(|&byte| byte == 0));
     assert!(ext.iter().all(|&byte| byte == 3));
 }
 

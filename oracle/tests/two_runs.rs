@@ -7,8 +7,8 @@
 use oracle::gen::{
     hot_for, l_for, look_address, single, Frame, Mix, Rng, Setup, Single, Transfer, LEGAL_MODES,
 };
-use oracle::geometry::{L1d, EXTERNAL_BASE, L2};
-use oracle::{Command, Line, Reply, Unaligned};
+use oracle::geometry::{L1d, L1p, EXTERNAL_BASE, L2};
+use oracle::{Command, Line, Program, Reply, Unaligned};
 
 /// Random memories under a record of this mode.
 fn setup(rng: &mut Rng, mode: u32) -> Setup {
@@ -31,13 +31,14 @@ fn other_value(rng: &mut Rng, size: u32, value: u64) -> u64 {
 #[test]
 fn data_steers_nothing() {
     let mut rng = Rng::new(8);
-    let (mut transferred, mut framed) = (0, 0);
+    let (mut transferred, mut framed, mut fetched) = (0, 0, 0);
     for turn in 0..60 {
         let mut one = setup(&mut rng, LEGAL_MODES[turn % LEGAL_MODES.len()]);
         let mut other = one.clone();
         rng.fill(&mut other.l1d);
         rng.fill(&mut other.l2);
         rng.fill(&mut other.ext);
+        rng.fill(&mut other.l1p);
         let lines = hot_for(&mut rng, &one.record);
         for _ in 0..200 {
             let first = single(&mut rng, &lines, &Mix { frame: 12, ..Mix::ALL });
@@ -66,6 +67,17 @@ fn data_steers_nothing() {
                 framed += u32::from(ours.number == 0);
                 continue;
             }
+            if let Single::Program(call) = first {
+                let (ours, theirs) = (one.program(&call), other.program(&call));
+                assert_eq!(
+                    (ours.reply, ours.l1p_left),
+                    (theirs.reply, theirs.l1p_left),
+                    "{call:?}"
+                );
+                assert!(one.record == other.record, "{call:?}");
+                fetched += u32::from(ours.bytes != theirs.bytes);
+                continue;
+            }
             let (ours, theirs) = (one.single(&first), other.single(&second));
             let shared = |reply: Reply| (reply.answer.number, reply.answer.server, reply.report);
             assert_eq!(shared(ours), shared(theirs), "{first:?}");
@@ -75,6 +87,7 @@ fn data_steers_nothing() {
         }
     }
     assert!(transferred > 200 && framed > 20, "{transferred} {framed}");
+    assert!(fetched > 200, "{fetched}");
 }
 
 /// Every place of the two differs at address x alone, the first standing for `from`.
@@ -106,6 +119,9 @@ fn same_lines_but(x: u32, one: &Setup, other: &Setup) {
             line(at, from, L2::LINE, &one.l2, &other.l2);
         }
     }
+    for (set, held) in record.l1p.iter().enumerate() {
+        line(&held.lines[0], L1p::offset(set), L1p::LINE, &one.l1p, &other.l1p);
+    }
     assert!(one.l2[..s as usize] == other.l2[..s as usize], "SRAM");
 }
 
@@ -114,7 +130,7 @@ fn one_byte_stays_at_its_address() {
     let mut rng = Rng::new(80);
     // A byte that is written, by the CPU or by a transfer in, is soon the same in both.
     let mix = Mix { write: 40, transfer: 20, ..Mix::ALL };
-    let (mut parted, mut buffers) = (0, 0);
+    let (mut parted, mut buffers, mut fetched) = (0, 0, 0);
     for turn in 0..150 {
         let mut one = setup(&mut rng, LEGAL_MODES[turn % LEGAL_MODES.len()]);
         let mut lines = hot_for(&mut rng, &one.record);
@@ -145,6 +161,21 @@ fn one_byte_stays_at_its_address() {
                 same_lines_but(x, &one, &other);
                 continue;
             }
+            if let Single::Program(call) = call {
+                let (ours, theirs) = (one.program(&call), other.program(&call));
+                assert_eq!(
+                    (ours.reply, ours.l1p_left),
+                    (theirs.reply, theirs.l1p_left),
+                    "{call:?}"
+                );
+                let at = if let Program::Fetch { address } = call { address } else { 0 };
+                same_but(x, at, &ours.bytes, &theirs.bytes);
+                fetched += u32::from(ours.bytes != theirs.bytes);
+                assert!(one.record == other.record, "{call:?}");
+                same_but(x, EXTERNAL_BASE, &one.ext, &other.ext);
+                same_lines_but(x, &one, &other);
+                continue;
+            }
             let (ours, theirs) = (one.single(&call).answer, other.single(&call).answer);
             parted += u32::from(ours.value != theirs.value);
             let (at, size) = match call {
@@ -166,4 +197,5 @@ fn one_byte_stays_at_its_address() {
     }
     assert!(parted > 100, "the byte was hardly seen: {parted}");
     assert!(buffers > 10, "a transfer hardly saw it: {buffers}");
+    assert!(fetched > 50, "a fetch hardly saw it: {fetched}");
 }

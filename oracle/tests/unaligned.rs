@@ -593,7 +593,7 @@ fn one_access_in_six_is_drawn() {
     for _ in 0..30_000 {
         match single(&mut rng, &lines, &Mix::ALL) {
             Single::Command(Command::Read { .. } | Command::Write { .. }) => plain += 1,
-            Single::Command(_) | Single::Transfer(_) | Single::Frame(_) => {}
+            Single::Command(_) | Single::Transfer(_) | Single::Frame(_) | Single::Program(_) => {}
             Single::Unaligned(access) => {
                 unaligned += 1;
                 across += u32::from(access.address() % 64 > 64 - access.size().min(8));
