@@ -13,7 +13,8 @@ use mathlib.Core.List.{List, [], _∷_, map, _++_}
 use mathlib.Core.Path.{_≡_, refl}
 use lib.ListN.{length, getD, replicate}
 use Rattle.model.specs.Bytes.{little}
-use Rattle.model.specs.Records.{State, state, withExternal, withCounts, l1dSetAt, wellFormed, freshRecord, freshState}
+use Rattle.model.specs.Lines.{lineOf}
+use Rattle.model.specs.Records.{State, state, withExternal, withCounts, l1dSetAt, withL1dLine, withL2Line, wellFormed, freshL1dSet, freshL2Set, freshRecord, freshState}
 use Rattle.model.specs.Homes.{memoryPart}
 use Rattle.model.specs.Reports.{noReport, leftKind, leftAddress}
 use Rattle.model.specs.Trace.{command}
@@ -21,6 +22,7 @@ use Rattle.model.specs.Calls.{Reply, Call, oneCommand, freshStart, look,
 use Rattle.model.specs.Flat.{Flat, FlatReply, flat, freshFlat, flatCalled}
 use Rattle.model.specs.Opened.{opened}
 use Rattle.model.specs.declared.Order2.{Order2}
+use Rattle.model.specs.declared.Record.{Record}
 
 -- ---- a place of a list: the call, and what is answered: number, server, value; flat memory's number and value; the
 -- bytes handed back, as one number, and flat memory's
@@ -313,21 +315,42 @@ abbrev ownAnswer : Reported → List ℕ
 ownAnswer p =
     getD (p .place .answer) 0 0 ∷ getD (p .place .answer) 1 0 ∷ getD (p .place .answer) 2 0 ∷ getD (p .place .answer) 5 0 ∷ p .report
 
--- "An L2 line is evicted and its dirty L1D half forgotten.": five lines of one L2 set. The half goes out with its line,
--- which is dirty by it, and is no longer in L1D. Then an L2 line that a write made dirty leaves, and one that was
--- written back and is clean. A write miss chooses no way of L1D, a hit chooses none at all. Last, a dirty line leaves
--- L1D: its bytes go into L2, and none of them to external memory.
+-- mode 1 with MAR bit 128 set, and four clean lines in L2 set 0, way 0 the last in order; then a line in L1D set 1
+unfoldable pub fullSet : ℕ → ℕ → ℕ → ℕ → Record
+fullSet a b c d =
+    withL2Line (withL2Line (withL2Line (withL2Line (record {
+      l2len = 32768;
+      extlen = 65536;
+      mode = 1;
+      mar128 = true;
+      mar129 = false;
+      frozen = false;
+      «dirty_l1d» = 0;
+      «dirty_l2» = 0;
+      l1d = replicate 128 freshL1dSet;
+      l2 = replicate 512 freshL2Set;
+    }) 0 0 (lineOf a false)) 0 1 (lineOf b false)) 0 2 (lineOf c false)) 0 3 (lineOf d false)
+
+unfoldable pub withHeld : ℕ → ℕ → Bool → Record → Record
+withHeld w a d r = withL1dLine r 1 w (lineOf a d)
+
+-- "An L2 line is evicted and its dirty L1D half forgotten.": a fifth line comes to a full set. The half goes out with
+-- its line, which is dirty by it, and is no longer in L1D; a write miss chooses no way of L1D. Then a clean L2 line
+-- leaves. A hit chooses no way. A dirty line leaves L1D: its bytes go into L2, and none of them to external memory; they
+-- go out when the L2 line leaves, which is dirty by them.
 pub evicted : List Reported
 evicted =
-    silent (mode 1 0) ∷ silent (mar128 1 0) ∷ reports (reads 0x80000040 4 2) 1 0 1 0 128 0 ∷ silent (writes 0x80000040 8 1)
-    ∷ reports (writes 0x80002000 1 4) 0 0 1 0 128 0 ∷ reports (writes 0x80004000 1 4) 0 0 1 0 128 0
-    ∷ reports (writes 0x80006000 1 4) 0 0 1 0 128 0 ∷ reports (writes 0x80008000 1 4) 0 0 3 0x80000000 128 128
-    ∷ silent (lies 0x80000040 8) ∷ reports (reads 0x80000040 4 8) 1 0 3 0x80002000 128 128 ∷ silent (all 2)
-    ∷ reports (reads 0x80002040 4 0) 1 0 2 0x80004000 128 0 ∷ silent (writes 0x80002040 9 1) ∷ reports (reads 0x80000040 3 8) 1 0 0 0 0 0
-    ∷ reports (reads 0x80004040 4 0) 3 0x80002040 2 0x80006000 128 0 ∷ []
+    reports (writes 0x80002000 1 4) 0 0 3 0x80000000 128 128 ∷ silent (lies 0x80000040 8) ∷ reports (reads 0x80000040 4 8) 1 0 2 0x80004000 128 0
+    ∷ silent (writes 0x80000040 9 1) ∷ silent (reads 0x80008040 1 0) ∷ reports (reads 0x80002040 3 0) 3 0x80000040 0 0 0 0
+    ∷ silent (lies 0x80000040 8) ∷ silent (writes 0x80006000 1 3) ∷ silent (writes 0x80008000 1 3)
+    ∷ reports (writes 0x80004000 1 4) 0 0 3 0x80000000 128 128 ∷ silent (lies 0x80000040 9) ∷ []
 
-evicted-holds : alone evicted (cut 8320 24704 (halves 32768)) ≡ map ownAnswer evicted
-unfolding opened answered told alone stepped cut evicted
+evicted-holds :
+    alone evicted
+    (state (withHeld 0 0x80000040 true (withHeld 1 0x80008040 false (fullSet 0x80000000 0x80004000 0x80006000 0x80008000)))
+    (replicate 64 0 ++ (8 ∷ replicate 8255 0)) (halves 8192) (halves 16384))
+    ≡ map ownAnswer evicted
+unfolding opened answered told alone stepped fullSet withHeld evicted
 evicted-holds = refl
 
 -- Mode 0: past the caches the bytes of the access; a line that comes 64, into an empty way; a write miss its own bytes;
@@ -350,14 +373,14 @@ putOut-holds = refl
 -- byte comes first: L2 puts the line at 80002000h out, whose upper half leaves L1D with it, so that the upper half's
 -- byte finds that way empty and the line at 80004040h stays. From the highest address down it would leave.
 pub upwards : List Reported
-upwards =
-    silent (mode 1 0) ∷ silent (mar128 1 0) ∷ reports (reads 0x80004040 4 0) 1 0 1 0 128 0
-    ∷ reports (reads 0x80002040 4 0) 1 0 1 0 128 0 ∷ reports (writes 0x80006000 1 4) 0 0 1 0 128 0
-    ∷ reports (writes 0x80008000 1 4) 0 0 1 0 128 0 ∷ silent (writes 0x80004000 1 3)
-    ∷ reports (loads 4 0x8000003E 0 4 0x20000) 0 0 0 0 128 0 ∷ silent (reads 0x80004040 1 0) ∷ []
+upwards = reports (loads 4 0x8000003E 0 4 0x20000) 0 0 0 0 128 0 ∷ silent (reads 0x80004040 1 0) ∷ []
 
-upwards-holds : alone upwards (cut 8320 24704 (halves 32768)) ≡ map ownAnswer upwards
-unfolding opened answered told alone stepped cut upwards
+upwards-holds :
+    alone upwards
+    (state (withHeld 0 0x80004040 false (withHeld 1 0x80002040 false (fullSet 0x80002000 0x80004000 0x80006000 0x80008000)))
+    (replicate 8320 0) (replicate 128 0) (halves 0))
+    ≡ map ownAnswer upwards
+unfolding opened answered told alone stepped fullSet withHeld upwards
 upwards-holds = refl
 
 -- "only the byte counts come back, added up": read and written by each call of a list. In mode 1 across two L2 lines,
