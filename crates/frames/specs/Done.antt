@@ -18,7 +18,7 @@ use Rattle.agreement.proofs.Good.{Well}
 use Rattle.agreement.proofs.Tested.{well-due, well-shape, call-step, call-well}
 use Rattle.agreement.proofs.Transfers.{transfer-in-step, transfer-in-well}
 use Rattle.agreement.proofs.Frames.{columns-same, frames-add-up}
-use Rattle.frames.specs.Reads.{readsTo, byteGiven, reads-called}
+use Rattle.frame_rows.specs.Reads.{readsTo, byteGiven, reads-called}
 
 -- ---- the number due
 module _ (e n : ℕ) where

@@ -15,7 +15,7 @@ use Prim.Native.Nat.{ℕ}
 use borrow.Author.Needs.{needs}
 use Rattle.frames.proofs.frame.Statement.{statement}
 use Rattle.frames.proofs.frame.Tie as tie
-use Rattle.frames.proofs.add_up.Reads as add-up-reads
+use Rattle.frame_rows.proofs.add_up.Reads as add-up-reads
 use Rattle.frames.proofs.due_for.Reads as due-for-reads
 use Rattle.frames.proofs.next_turn.Reads as next-turn-reads
 use Rattle.frames.proofs.place_of.Reads as place-of-reads

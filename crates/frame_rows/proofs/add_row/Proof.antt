@@ -1,7 +1,7 @@
 -- `frames::add_row` meets its contract (specs/Rows): past the caches the row is read as it stands; where L1D has the
 -- line behind the first read the others are hits; else they go through the loop. No sum wraps: what is added is a byte.
-use Rattle.frames.specs.Rows.{Row, row-at, past-row, past-added, hits-done, hits-added, rest-done, rest-added}
-use Rattle.frames.specs.Sums.{Added}
+use Rattle.frame_rows.specs.Rows.{Row, row-at, past-row, past-added, hits-done, hits-added, rest-done, rest-added}
+use Rattle.frame_rows.specs.Sums.{Added}
 use Rattle.unaligned.specs.Meets.{lent-well}
 use Rattle.model.specs.Records.{State}
 use Rattle.model.specs.Lines.{l1dSetOf, l1dData, l1dLine}
@@ -20,8 +20,8 @@ use mathlib.Core.Path.{_≡_, refl, sym, ap, _∙_, subst}
 use Prim.Native.Nat.{ℕ, _+_, _<_, _≤_}
 use borrow.Author.Tests.{not-true, not-false, lt-ltb}
 use borrow.Author.Needs.{needs}
-use Rattle.frames.proofs.add_row.Statement.{statement}
-use Rattle.frames.proofs.add_row.Tie as tie
+use Rattle.frame_rows.proofs.add_row.Statement.{statement}
+use Rattle.frame_rows.proofs.add_row.Tie as tie
 
 -- ---- the way back: the arguments, the state that was lent, what is known of the row
 abbrev at-start : tie.After-is-cacheable → tie.Start

@@ -5,8 +5,8 @@ use lib.ListN.{length-replicate}
 use native.Mathlib.Omega.{arith}
 use Prim.Native.Nat.{ℕ, _%_, _≤_}
 use borrow.Author.Needs.{needs}
-use Rattle.frames.proofs.read_byte.Statement.{statement}
-use Rattle.frames.proofs.read_byte.Tie as tie
+use Rattle.frame_rows.proofs.read_byte.Statement.{statement}
+use Rattle.frame_rows.proofs.read_byte.Tie as tie
 
 slice-aggregate-run : tie.Need-slice-aggregate-run
 slice-aggregate-run c = search needs

@@ -33,8 +33,8 @@ use Rattle.agreement.proofs.Unaligned.{one-due, AllFit, read-up, up-bytes}
 use Rattle.tags.specs.Words.{recordIn, stateIn}
 use Rattle.unaligned.specs.Meets.{lent-well}
 use Rattle.run.specs.Upwards.{upAnswers}
-use Rattle.frames.specs.Reads.{readsTo, byteGiven, reads-join, byte-join, answer-byte, reads-called}
-use Rattle.frames.specs.Sums.{Added}
+use Rattle.frame_rows.specs.Reads.{readsTo, byteGiven, reads-join, byte-join, answer-byte, reads-called}
+use Rattle.frame_rows.specs.Sums.{Added}
 
 -- ---- one byte
 little-one : (bs : List ℕ) → length bs ≡ 1 → little bs ≡ getD bs 0 0

@@ -15,7 +15,7 @@ use Rattle.model.specs.Calls.{step}
 use Rattle.model.specs.Bytewise.{byteRead}
 use Rattle.agreement.specs.Frames.{columnSum, columnSums, sumsOf}
 use Rattle.model.specs.Laws.{bool}
-use Rattle.frames.specs.Reads.{readsTo, byteGiven, reads-join, byte-join}
+use Rattle.frame_rows.specs.Reads.{readsTo, byteGiven, reads-join, byte-join}
 
 -- ---- each of 64 sums is its column's, of r rows
 abbrev pub Columns : (ℕ → ℕ) → ℕ → List ℕ → Type 0

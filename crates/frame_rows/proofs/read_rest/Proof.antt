@@ -4,8 +4,8 @@ use Rattle.model.specs.Calls.{Run}
 use mathlib.Core.Path.{ap}
 use native.Mathlib.Omega.{arith}
 use borrow.Author.Needs.{needs}
-use Rattle.frames.proofs.read_rest.Statement.{statement}
-use Rattle.frames.proofs.read_rest.Tie as tie
+use Rattle.frame_rows.proofs.read_rest.Statement.{statement}
+use Rattle.frame_rows.proofs.read_rest.Tie as tie
 use Rattle.run.proofs.run.Reads as run-reads
 
 sub-run : tie.Need-sub-run

@@ -1,9 +1,9 @@
 -- `frames::add_up` meets its contract: before each turn the rows in front are read and added up; each turn is one row
 -- more (specs/Sums), of a state that is well formed and has E as it was (specs/Rows). No sum wraps: each is one of at
 -- most 48 bytes.
-use Rattle.frames.specs.Reads.{readsTo, byteGiven, no-reads}
-use Rattle.frames.specs.Sums.{Columns, no-rows, room-left, row-read, row-added, summed}
-use Rattle.frames.specs.Rows.{PlaceAt, RowAt, reads-lent, reads-ext}
+use Rattle.frame_rows.specs.Reads.{readsTo, byteGiven, no-reads}
+use Rattle.frame_rows.specs.Sums.{Columns, no-rows, room-left, row-read, row-added, summed}
+use Rattle.frame_rows.specs.Rows.{PlaceAt, RowAt, reads-lent, reads-ext}
 use Rattle.unaligned.specs.Meets.{lent-well}
 use Rattle.agreement.proofs.Good.{Well}
 use Rattle.tags.specs.Words.{recordWords, recordIn, stateIn}
@@ -15,8 +15,8 @@ use mathlib.Core.List.{List}
 use mathlib.Core.Path.{_≡_, refl, sym, ap, _∙_}
 use Prim.Native.Nat.{ℕ, _+_, _*_, _-_, _≤_}
 use borrow.Author.Needs.{needs}
-use Rattle.frames.proofs.add_up.Statement.{statement}
-use Rattle.frames.proofs.add_up.Tie as tie
+use Rattle.frame_rows.proofs.add_up.Statement.{statement}
+use Rattle.frame_rows.proofs.add_up.Tie as tie
 
 record Kept (z₀ : State) (p : ℕ) (l1d₀ l2₀ ext₀ tags l1d l2 ext sums : List ℕ) (row : ℕ) : Type 0 where
   most : row ≤ 48
