@@ -1,6 +1,8 @@
 // An access on lent words: each function is the step of paper 01 itself, and all are total: they say what they do for
 // every content of the words. Nothing here sees a word: lines, orders and bits are reached through crate tags, bytes
 // through crate memory.
+#![tactic(auto)]
+
 ghost use Rattle.std.specs.Prelude.{true, false, cond, ◌≢◌, ◌≡◌, List, [], ℕ, ◌<◌, eqb, ltb, length};
 ghost use Rattle.model.specs.Bytes.{little, little_bytes};
 ghost use Rattle.model.specs.Lines.{l1d_set_of};

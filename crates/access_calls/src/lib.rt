@@ -1,6 +1,8 @@
 // Non-aligned accesses (02, U6), program fetches and L1P's own invalidations (02, U4) as calls on the words of the
 // whole chip: checks 1 and 2, then what lies below. A refused call leaves every word and every byte as it was. The
 // contracts equate the answer, the chip and every lent byte with the definitions (program/specs/Chip).
+#![tactic(auto)]
+
 ghost use Rattle.std.specs.Prelude.{◌≢◌, ◌≡◌, ◌<◌, length};
 ghost use Rattle.model.specs.Calls.{read_unaligned, write_unaligned};
 ghost use Rattle.program.specs.Chip.{on_data, fetch, l1p_block, l1p_all, chip_called};

@@ -3,6 +3,8 @@
 // bits set in modes 0, 1 and 2. For each of these it prints how many accesses each server has served and how many were
 // refused with each number, where there are any, then "end", the stop number and the bytes consumed, all decimal.
 // Trace and external memory have room for 1,048,576 bytes.
+#![tactic(auto)]
+
 ghost use Rattle.std.specs.Prelude.{◌≡◌, ◌≤◌, length};
 
 use program::ChipRecord;

@@ -1,6 +1,7 @@
 // bench-trace: reads a trace from standard input, its first 4,096 bytes, runs it from a fresh start with L = E =
 // 65,536 and external memory zero, and prints number, server and value of each answer, then "end", the stop number
 // and the bytes consumed, all decimal.
+#![tactic(auto)]
 
 // One answer of ten bytes: number, server, value, with a blank between and a line end.
 fn show(answer: &[u8]) -> bool {

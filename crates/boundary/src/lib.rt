@@ -2,6 +2,8 @@
 // words. A lent memory is a pointer and a length. None requires anything: every content of the record and of a
 // memory, every length and every number meets a check. The contracts equate the answer, the chip that the words
 // stand for and every lent byte with the definitions; a refused command changes no word.
+#![tactic(auto)]
+
 ghost use Rattle.std.specs.Prelude.{[], ◌≢◌, ◌≡◌};
 ghost use Rattle.model.specs.Trace.{command};
 ghost use Rattle.model.specs.Calls.{one_command, fresh_start, read_unaligned, write_unaligned, transfer_in, transfer_out};

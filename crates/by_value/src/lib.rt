@@ -3,6 +3,8 @@
 // and L1P's lines in an array by set; each call puts it into words, makes the call on the words, and takes it out
 // again. None requires anything. The contracts equate the answer, the record and every lent byte with the definitions
 // (program/specs/Chip, Runs).
+#![tactic(auto)]
+
 ghost use Rattle.std.specs.Prelude.{List, [], ◌≡◌, ℕ, length};
 ghost use Rattle.model.specs.Trace.{command};
 ghost use Rattle.model.specs.Calls.{one_command, fresh_start, read_unaligned, write_unaligned, transfer_in, transfer_out};

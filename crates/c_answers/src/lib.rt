@@ -1,5 +1,7 @@
 // The calls on the chip's words with their answers as C is given them: what left a way of a cache is a kind and an
 // address (02, U2). The kinds are those of paper 02 in their order, and an address that there is none of is 0.
+#![tactic(auto)]
+
 ghost use Rattle.std.specs.Prelude.{◌≢◌, ◌≡◌, length};
 ghost use Rattle.model.specs.Trace.{command};
 ghost use Rattle.model.specs.Calls.{one_command, fresh_start, read_unaligned, write_unaligned, transfer_in, transfer_out};

@@ -3,6 +3,8 @@
 // refused call leaves every word and every byte as it was. The contracts equate the answer, the chip and every lent
 // byte with the definitions (program/specs/Chip, Runs). L1P's bytes are lent for check 1; only a fresh start changes
 // them.
+#![tactic(auto)]
+
 ghost use Rattle.std.specs.Prelude.{◌≢◌, ◌≡◌, length};
 ghost use Rattle.model.specs.Trace.{command};
 ghost use Rattle.model.specs.Calls.{one_command, fresh_start};

@@ -1,6 +1,8 @@
 // Camera transfers (02, U1) and frames (02, U14) as calls on the words of the whole chip: checks 1 and 2, then what
 // lies below. A refused call leaves every word and every byte as it was. The contracts equate the answer, the chip and
 // every lent byte with the definitions (program/specs/Chip, Runs).
+#![tactic(auto)]
+
 ghost use Rattle.std.specs.Prelude.{◌≢◌, ◌≡◌, length};
 ghost use Rattle.model.specs.Calls.{transfer_in, transfer_out};
 ghost use Rattle.program.specs.Chip.{on_data, chip_called};

@@ -2,6 +2,8 @@
 // L1P too; which lines of L1P it drops; and both with what it does to the data side (`chip_step` of the definitions). No
 // command moves a byte of L1P, so that L1P's bytes are not lent here. Who lends the words of the data side alone gets
 // what the command does there (`step`): one function for both, so that the commands' loops have one caller.
+#![tactic(auto)]
+
 ghost use Rattle.std.specs.Prelude.{◌&&◌, ◌≢◌, ◌≡◌, List, ℕ, ◌≤◌, eqb, length};
 ghost use Rattle.model.specs.Records.{l2_sets_of};
 ghost use Rattle.model.specs.Calls.{reply, command_due, step};

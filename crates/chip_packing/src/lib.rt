@@ -1,5 +1,7 @@
 // The record of the whole chip by value (02, U4: "the record carries its lines"), out of lent words and into them; and
 // the fresh one in words. The data side's is crate packing's, on the front of the words; L1P's lines stand behind.
+#![tactic(auto)]
+
 ghost use Rattle.std.specs.Prelude.{◌≡◌, length};
 ghost use Rattle.model.specs.Records.{fresh_record};
 ghost use Rattle.tags.specs.Words.{record_in};

@@ -1,6 +1,8 @@
 // Each command of paper 01 as an exported Rattle call of its own, the record by value: its operands in the places that
 // the definitions give them, and 0 in those that the command does not have. None requires anything, and each contract
 // is that of the call for this one command.
+#![tactic(auto)]
+
 ghost use Rattle.std.specs.Prelude.{◌≡◌};
 ghost use Rattle.model.specs.Trace.{command};
 ghost use Rattle.model.specs.Calls.{one_command};

@@ -1,5 +1,7 @@
 // Every command that is neither a read nor a write, on lent words: the number due (`command_due` of paper 01's
 // definitions), what an accepted one does (`command_state`), and both together (`step`).
+#![tactic(auto)]
+
 ghost use Rattle.std.specs.Prelude.{◌≢◌, ◌≡◌, List, ℕ, ◌<◌, ◌≤◌, length};
 ghost use Rattle.model.specs.Records.{state};
 ghost use Rattle.model.specs.Calls.{reply, command_due, command_state, step};

@@ -1,4 +1,6 @@
 // Reads commands off a trace (paper 01, "Trace"): a code byte and the numbers that the code takes.
+#![tactic(auto)]
+
 ghost use Rattle.std.specs.Prelude.{◌≡◌};
 ghost use Rattle.decode.specs.Codes.{numbers_behind, DecodedAt};
 

@@ -5,6 +5,8 @@
 // last byte and the bytes of external memory read and written, then what left L2's way, and what left L1P's with its
 // address; of the run bytes consumed, count and stop number, then each answer. What it has to print is told by the
 // reference model (compare/examples/each_call.rs).
+#![tactic(auto)]
+
 ghost use Rattle.std.specs.Prelude.{◌≤◌};
 
 use by_value::Called;

@@ -1,5 +1,7 @@
 // A program fetch (02, U4), on the words of the chip: a hit in L1P, a miss through what lies behind it, or past the
 // caches. The data side's functions are lent the words in front, so that no line of L1P changes there.
+#![tactic(auto)]
+
 ghost use Rattle.std.specs.Prelude.{true, false, List, ◌≢◌, ◌≡◌, ℕ, ◌<◌, ◌≤◌, length, set};
 ghost use Rattle.model.specs.Bytes.{part, stored};
 ghost use Rattle.model.specs.Lines.{line_of};

@@ -1,5 +1,7 @@
 // The rows of a camera frame that came to its place (02, U14): read by the CPU byte by byte, and added up by columns. A
 // row is a line of L1D. Reads are made by the loop of crate run, as everywhere.
+#![tactic(auto)]
+
 ghost use Rattle.std.specs.Prelude.{◌≡◌, ℕ, ◌+◌, ◌*◌, ◌-◌, ◌/◌, ◌%◌, ◌<◌, ◌≤◌, length, get_or};
 ghost use Rattle.model.specs.Refusals.{lent_due};
 ghost use Rattle.model.specs.Trace.{command};

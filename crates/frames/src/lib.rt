@@ -1,6 +1,8 @@
 // Camera frames (02, U14): a frame goes to its place in external memory by the calls that the request names, and its
 // columns are added up by reads of single bytes. Each of them is made by what makes it elsewhere: commands and reads by
 // the loop of crate run, the transfer by crate transfers.
+#![tactic(auto)]
+
 ghost use Rattle.std.specs.Prelude.{◌≢◌, ◌≡◌, ◌+◌, ◌*◌, ◌-◌, ◌/◌, ◌%◌, ◌<◌, length};
 ghost use Rattle.model.specs.Records.{State};
 ghost use Rattle.model.specs.Refusals.{lent_due};

@@ -2,6 +2,8 @@
 // line, the sizes that go by the mode, legal lengths, where an address lies, and the lines that a block touches
 // (paper 01, "Memories lent by the caller", "Lines and the record", "Cache commands"). Every function is total: no
 // caller has to know that a record is well formed.
+#![tactic(auto)]
+
 ghost use Rattle.std.specs.Prelude.{◌≡◌, ◌≢◌, not, ◌+◌, ◌-◌, ◌*◌, ◌%◌, ◌≤◌, ◌<◌, ltb};
 ghost use Rattle.model.specs.Memories.{external_base, cache_size, sram_length, legal_l2, legal_external, is_mode};
 ghost use Rattle.model.specs.Lines.{l1d_set_of, l1d_data, l1d_line, l2_sets, l2_set_in, l2_data_in, l2_line, upper_half, l1p_set_of, l1p_line, l1p_data, empty_line, line_of, holds};

@@ -1,6 +1,8 @@
 // The L1D cache commands on lent words: what is done to one line, to the lines of a block, to all lines. `code` is
 // the trace's; 10 stands for what a mode change does. Each contract is the definition of paper 01 that the code asks
 // for (`l1d_operation`), at one way, at the line of an address, at each line.
+#![tactic(auto)]
+
 ghost use Rattle.std.specs.Prelude.{◌≡◌, ◌<◌, ◌/◌, ◌%◌};
 ghost use Rattle.model.specs.Basics.{each};
 ghost use Rattle.model.specs.Commands.{at_l1d, each_touched};

@@ -1,5 +1,7 @@
 // A line leaves L1D: on lent words, each function is the step of paper 01 itself. All are total: they say what they
 // do for every content of the words.
+#![tactic(auto)]
+
 ghost use Rattle.std.specs.Prelude.{◌&&◌, ◌≡◌, ◌<◌, ◌≤◌};
 ghost use Rattle.model.specs.Bytes.{part};
 ghost use Rattle.model.specs.Homes.{put_home};

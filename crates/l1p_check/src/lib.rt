@@ -1,6 +1,8 @@
 // Which lent words stand for well-formed lines of L1P (02, U4: "L1P lines are always clean, lie where L1D lines may,
 // and needn't be in L2."), and L1P's part of checks 1, 2 and 10. The words are read where they stand. A byte valid or
 // dirty of a mark that is neither 0 nor 1 makes a line that is not well formed; the padding of a mark is not looked at.
+#![tactic(auto)]
+
 ghost use Rattle.std.specs.Prelude.{◌≡◌, ◌<◌, length};
 ghost use Rattle.model.specs.Records.{sram_of};
 ghost use Rattle.tags.specs.Words.{record_words, line_in, record_in};

@@ -1,6 +1,8 @@
 // What makes lines of L1P invalid (02, U4), on the words of the chip: the line of an address; the lines inside an L2
 // line, inside the L2 lines that a block touches, inside all of them, as far as L2 has them; L1P's own invalidations.
 // The data side's words are read alone, and stay as they were; so do all bytes.
+#![tactic(auto)]
+
 ghost use Rattle.std.specs.Prelude.{List, ◌≢◌, ◌≡◌, ℕ, ◌<◌, ◌≤◌, ◌%◌, ◌/◌, length};
 ghost use Rattle.model.specs.Records.{l2_sets_of};
 ghost use Rattle.tags.specs.Words.{record_in, state_in};

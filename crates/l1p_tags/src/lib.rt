@@ -1,5 +1,7 @@
 // The lines of L1P in the words behind those of the data side (02, U4): mark and address of the line of each set. A
 // mark is that of crate tags. Each function says what it does to the chip that the words stand for.
+#![tactic(auto)]
+
 ghost use Rattle.std.specs.Prelude.{◌≡◌, ◌<◌, length, set};
 ghost use Rattle.model.specs.Lines.{holds};
 ghost use Rattle.program.specs.L1p.{l1p_at};

@@ -2,6 +2,8 @@
 // trace's for a block; 10 and 11 are writeback and writeback-invalidate where L1D holds nothing, as behind a mode
 // change or a command over all lines, which empty L1D first. Each contract is the definition that the code asks for
 // (`l2_operation`), at one way, at the line of an address, at each line.
+#![tactic(auto)]
+
 ghost use Rattle.std.specs.Prelude.{◌≡◌, ◌≢◌, List, ℕ, ◌<◌, length};
 ghost use Rattle.model.specs.Ways.{empty_l1d};
 ghost use Rattle.model.specs.Commands.{at_l1d, at_l2, drop_l2, each_touched, each_l2, unless_mode0};

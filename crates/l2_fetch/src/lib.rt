@@ -1,6 +1,8 @@
 // What lies behind L1D for an access (paper 01, "CPU reads and writes"): L2 finds or fetches the line, a way of L1D
 // is filled from it (or, frozen, only the bytes of a read are taken), the bytes of a write go there. Each function is
 // the step of paper 01 itself, and all are total: they say what they do for every content of the record.
+#![tactic(auto)]
+
 ghost use Rattle.std.specs.Prelude.{true, false, ◌≡◌, List, ℕ, ◌<◌, ◌≤◌};
 ghost use Rattle.model.specs.Bytes.{little, little_bytes};
 ghost use Rattle.model.specs.Lines.{l1d_set_of, l1d_line};

@@ -1,5 +1,7 @@
 // A line leaves L2: on lent words, each function is the step of paper 01 itself. All are total: they say what they do
 // for every content of the words.
+#![tactic(auto)]
+
 ghost use Rattle.std.specs.Prelude.{◌≡◌, List, ℕ, ◌<◌, ◌≤◌};
 ghost use Rattle.model.specs.Lines.{l1d_set_of, l1d_line, upper_half};
 ghost use Rattle.model.specs.Records.{l1d_set_at};

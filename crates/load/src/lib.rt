@@ -1,6 +1,8 @@
 // A load to repeat (02, U9): words from a seed, an access for each, and the trace of the first of them, written into a
 // lent output. Whether it has room is asked first, by a pass over the words that stops where there is none: so no byte
 // changes where the trace is too long, and the time goes by the output's length however many accesses are asked for.
+#![tactic(auto)]
+
 ghost use Rattle.std.specs.Prelude.{◌≡◌, ℕ, ◌+◌, ◌<◌, ◌≤◌, length, nat_le};
 ghost use Rattle.traces.specs.Writing.{command_bytes, written, write_all};
 ghost use Rattle.traces.specs.Load.{sum32, access_of, accesses, load_bytes, load_trace};

@@ -1,5 +1,7 @@
 // Refusals 9 and 10 of the refusal table of paper 01 on lent words: a MAR bit, and whether either cache holds a line
 // of its range. The words are read where they stand.
+#![tactic(auto)]
+
 ghost use Rattle.std.specs.Prelude.{◌≡◌, ◌<◌, length};
 ghost use Rattle.model.specs.Refusals.{in_range, holds_range, mar_due};
 ghost use Rattle.tags.specs.Words.{record_words, line_in, record_in};

@@ -1,6 +1,8 @@
 // Lines and values between lent memories. Every function that takes a place is total: what does not lie in its memory
 // is not touched, so that no caller has to know that a record is well formed. Lines go through an array by value,
 // which the compiler turns into wide moves; so does it with a long copy between two slices of one length.
+#![tactic(auto)]
+
 ghost use Rattle.std.specs.Prelude.{true, ◌≡◌, ◌+◌, ◌≤◌, ◌<◌, length, take, leb};
 ghost use Rattle.model.specs.Bytes.{part, stored, little, little_bytes, zero_from};
 ghost use Rattle.model.specs.Reports.{taken};

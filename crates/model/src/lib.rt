@@ -1,5 +1,7 @@
 // The record that a caller keeps between calls, and the order in which the ways of a set were used.
 // The definitions of paper 01 stand in specs/, in the paper's order.
+#![tactic(auto)]
+
 ghost use Rattle.std.specs.Prelude.{◌≡◌, ◌<◌};
 ghost use Rattle.model.specs.Lines.{used2, used4, Permutation2, Permutation4};
 ghost use Rattle.model.specs.Records.{fresh_record};

@@ -1,4 +1,6 @@
 // Mode and MAR changes and the freeze on lent words.
+#![tactic(auto)]
+
 ghost use Rattle.std.specs.Prelude.{◌≡◌, List, ℕ, ◌≤◌, length};
 ghost use Rattle.model.specs.Modes.{smaller, change_mode, change_mar, change_freeze};
 ghost use Rattle.tags.specs.Words.{record_words, state_in};

@@ -1,5 +1,7 @@
 // Numbers of a trace (paper 01, "Trace"): groups of seven bits, low group first, top bit set on all but the last,
 // shortest form only.
+#![tactic(auto)]
+
 ghost use Rattle.std.specs.Prelude.{◌≡◌, ◌*◌, ◌^◌, ◌≤◌, drop};
 ghost use Rattle.model.specs.Trace.{number_below};
 ghost use Rattle.numbers.specs.Told.{told};

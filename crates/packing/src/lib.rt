@@ -1,6 +1,8 @@
 // The record by value, with its sets in arrays of set structs, out of lent words and into them; and the fresh record
 // in words. Words stand for one record (`record_in`, crate tags): `unpack` gives that record, and after `pack` and
 // `write_fresh` the words stand for the record that is asked for.
+#![tactic(auto)]
+
 ghost use Rattle.std.specs.Prelude.{◌≡◌, ◌<◌, length, replicate};
 ghost use Rattle.model.specs.Records.{fresh_record, fresh_l1d_set, fresh_l2_set, with_l1d_set, with_l2_set, with_counts};
 ghost use Rattle.tags.specs.Words.{record_words, l1d_in, l2_in, record_in};

@@ -1,5 +1,7 @@
 // Program fetches (02, U4): what is stated in specs/ and shown in proofs/, and the record by value that carries L1P's
 // lines.
+#![tactic(auto)]
+
 ghost use Rattle.std.specs.Prelude.{◌≡◌};
 ghost use Rattle.model.specs.Records.{fresh_record};
 ghost use Rattle.program.specs.L1p.{fresh_l1p};

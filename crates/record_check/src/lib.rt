@@ -2,6 +2,8 @@
 // read where they stand: nothing is copied. The tests of sets have one caller each, so that the compiler makes one
 // loop of them. A byte of a mark or of a MAR bit that is neither 0 nor 1 makes a record that is not well formed, as it
 // does in C's layout by value; the padding of a mark is not looked at.
+#![tactic(auto)]
+
 ghost use Rattle.std.specs.Prelude.{true, ◌≡◌, ◌-◌, ◌≤◌, ◌<◌, length};
 ghost use Rattle.model.specs.Records.{dirty_lines, permuted4, well_formed, sram_of, l2_sets_of};
 ghost use Rattle.model.specs.Refusals.{lent_due};

@@ -1,5 +1,7 @@
 // The lowest number of the refusal table that is due (paper 01, "Refusal table"); 0 where none is. Every function
 // answers for every argument.
+#![tactic(auto)]
+
 ghost use Rattle.std.specs.Prelude.{true, ◌≡◌, ◌+◌, ◌≤◌};
 ghost use Rattle.model.specs.Memories.{external_base};
 ghost use Rattle.model.specs.Refusals.{size_ok, place_ok, value_ok, access_due, block_due, mode_due, freeze_due};

@@ -2,6 +2,8 @@
 // puts down its answer. One function for all of them, so that the steps of an access have one caller and the compiler
 // makes one loop of them. On the words of the whole chip a command may drop lines of L1P (02, U4); who lends the words
 // of the data side alone gets what the commands do there.
+#![tactic(auto)]
+
 ghost use Rattle.std.specs.Prelude.{◌≢◌, ◌≡◌, List, ℕ, ◌+◌, ◌*◌, ◌≤◌, ◌<◌, length};
 ghost use Rattle.model.specs.Records.{sram_of, l2_sets_of};
 ghost use Rattle.model.specs.Calls.{step, ran, put_answer};

@@ -1,4 +1,6 @@
 // Runs of up to four of eight commands (02, U12): from a number the run, from a run its number. A run is its digits.
+#![tactic(auto)]
+
 ghost use Rattle.std.specs.Prelude.{◌≡◌, ◌≤◌, ◌<◌, ◌^◌, ◌-◌, ◌++◌, replicate};
 ghost use Rattle.model.specs.Trace.{command};
 ghost use Rattle.traces.specs.ShortRuns.{command_of_digit, digits_of_value, short_run_of, short_run_number};

@@ -2,6 +2,8 @@
 // five words for a set of L1D (mark and address of two lines, the order), nine for a set of L2. A mark is 0, or 1 for a
 // clean and 257 for a dirty line: the bytes valid and dirty. Each function says what it does to the record that the
 // words stand for.
+#![tactic(auto)]
+
 ghost use Rattle.std.specs.Prelude.{◌≡◌, ◌%◌, ◌/◌, ◌<◌, ◌≤◌, length, set};
 ghost use Rattle.model.specs.Ways.{l1d_find, l2_find, l1d_victim, l2_victim};
 ghost use Rattle.model.specs.Lines.{l1d_put, l2_put, l1d_use, l2_use};

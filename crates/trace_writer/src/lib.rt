@@ -1,5 +1,7 @@
 // Writes a trace (02, U7): one command at a time behind the point that the writer has reached. A command is made in an
 // array first, so that one that is refused or does not fit has changed no byte of the output.
+#![tactic(auto)]
+
 ghost use Rattle.std.specs.Prelude.{cond, ◌≡◌, ◌+◌, ◌≤◌, ◌++◌, length, take};
 ghost use Rattle.model.specs.Bytes.{stored};
 ghost use Rattle.model.specs.Trace.{command};

@@ -1,6 +1,8 @@
 // Camera transfers (02, U1): all bytes of a lent buffer go into SRAM or external memory, or are taken out of them. A
 // transfer looks at no cache; before one of SRAM the L1D lines that it touches go home. On lent words that passed
 // checks 1 and 2, each contract being the definition of 02 (model/specs/Transfers, Calls).
+#![tactic(auto)]
+
 ghost use Rattle.std.specs.Prelude.{◌≢◌, List, ◌≡◌, ℕ, ◌≤◌, length};
 ghost use Rattle.model.specs.Bytes.{stored};
 ghost use Rattle.model.specs.Records.{state};

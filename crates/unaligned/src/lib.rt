@@ -1,5 +1,7 @@
 // Non-aligned accesses (02, U6): each byte is a command of its own, carried out by the run of one given command, so
 // that nothing of an access is written again and the steps of an access keep one caller.
+#![tactic(auto)]
+
 ghost use Rattle.std.specs.Prelude.{true, ◌≢◌, ◌≡◌, ◌+◌, ◌<◌, ◌≤◌, length};
 ghost use Rattle.model.specs.Refusals.{size_ok, lent_due};
 ghost use Rattle.model.specs.Trace.{command};

@@ -2,6 +2,8 @@
 // contracts equate the part and the number with the definitions (program/specs/Chip, model/specs/Calls, Refusals). The
 // view is lent neither L1D's bytes nor L1P's: [] stands for them, and any others would do as well (specs/Seen,
 // `due-any`, `view-any`).
+#![tactic(auto)]
+
 ghost use Rattle.std.specs.Prelude.{[], ◌≡◌, length};
 ghost use Rattle.model.specs.Refusals.{view_lent_due};
 ghost use Rattle.program.specs.Chip.{chip_view_due, chip_view};

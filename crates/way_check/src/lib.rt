@@ -1,6 +1,8 @@
 // One way of a lent record, by its two words: whether it is empty, or holds a line that may stand there (paper 01,
 // "Lines and the record"; part of refusal 2). A byte valid or dirty of a mark that is neither 0 nor 1 makes a way that
 // is not well formed, as it does in C's layout by value; the padding of a mark is not looked at.
+#![tactic(auto)]
+
 ghost use Rattle.std.specs.Prelude.{◌||◌, ◌≡◌, ◌*◌, ◌-◌, ◌%◌, ◌≤◌, ◌<◌, eqb, length};
 ghost use Rattle.model.specs.Basics.{any_of};
 ghost use Rattle.model.specs.Lines.{holds};
