@@ -7,7 +7,7 @@ ghost use Rattle.model.specs.Lines.{used2, used4, Permutation2, Permutation4};
 ghost use Rattle.model.specs.Records.{fresh_record};
 
 // One way of a set: an invalid way is clean with address 0.
-#[derive(Drop)]
+#[derive(Clone, Copy)]
 pub struct Line {
     pub valid: bool,
     pub dirty: bool,
@@ -15,14 +15,14 @@ pub struct Line {
 }
 
 // The two ways of an L1D set, most recently used first.
-#[derive(Drop)]
+#[derive(Clone, Copy)]
 pub struct Order2 {
     pub first: u8,
     pub second: u8,
 }
 
 // The four ways of an L2 set, most recently used first.
-#[derive(Drop)]
+#[derive(Clone, Copy)]
 pub struct Order4 {
     pub first: u8,
     pub second: u8,
@@ -30,13 +30,13 @@ pub struct Order4 {
     pub fourth: u8,
 }
 
-#[derive(Drop)]
+#[derive(Clone, Copy)]
 pub struct L1dSet {
     pub lines: [Line; 2],
     pub order: Order2,
 }
 
-#[derive(Drop)]
+#[derive(Clone, Copy)]
 pub struct L2Set {
     pub lines: [Line; 4],
     pub order: Order4,
@@ -59,7 +59,7 @@ pub struct Record {
 }
 
 // A command as a trace or a direct call gives it; numbers that a code does not take are 0.
-#[derive(Drop)]
+#[derive(Clone, Copy)]
 pub struct Command {
     pub code: u8,
     pub first: u32,
@@ -69,7 +69,7 @@ pub struct Command {
 
 // What the choice of a way found there (02, U2): no way was chosen, the way was empty, or the line at this address left
 // it, clean or dirty.
-#[derive(Drop)]
+#[derive(Clone, Copy)]
 pub enum Left {
     NoWay,
     Empty,
@@ -78,7 +78,7 @@ pub enum Left {
 }
 
 // What left a way that was chosen, and how many of its bytes went to external memory (02, U2).
-#[derive(Drop)]
+#[derive(Clone, Copy)]
 pub struct Gone {
     pub left: Left,
     pub written: u32,
