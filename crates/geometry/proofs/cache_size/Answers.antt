@@ -1,0 +1,39 @@
+-- `geometry::cache_size` meets its contract: each case of the code is a case of `cache_size`; a number that none names
+-- has no cache.
+use Rattle.model.specs.Memories.{cache_size}
+use native.Mathlib.Omega.{arith}
+use Rattle.std.proofs.Common.{refl, sym, ◌≢◌}
+use Rattle.geometry.specs.Geometry.{no-cache}
+use Rattle.geometry.proofs.cache_size.Goals as goal
+
+pub returns-in-0 : goal.returns-in-0
+unfolding cache_size
+returns-in-0 c = (rw c.in-0.is refl, omega arith)
+
+pub returns-in-1 : goal.returns-in-1
+unfolding cache_size
+returns-in-1 c = (rw c.in-1.is refl, omega arith)
+
+pub returns-in-2 : goal.returns-in-2
+unfolding cache_size
+returns-in-2 c = (rw c.in-2.is refl, omega arith)
+
+pub returns-in-3 : goal.returns-in-3
+unfolding cache_size
+returns-in-3 c = (rw c.in-3.is refl, omega arith)
+
+pub returns-in-7 : goal.returns-in-7
+unfolding cache_size
+returns-in-7 c = (rw c.in-7.is refl, omega arith)
+
+pub returns-in-4 : goal.returns-in-4
+returns-in-4 c =
+    let m = c.args.mode in
+    let one : m ≢ 1 = omega arith in let two : m ≢ 2 = omega arith in let three : m ≢ 3 = omega arith in let seven : m ≢ 7 = omega arith in
+    (sym (no-cache m one two three seven), omega arith)
+
+pub returns-in_default : goal.returns-in_default
+returns-in_default c =
+    let m = c.args.mode in
+    let one : m ≢ 1 = omega arith in let two : m ≢ 2 = omega arith in let three : m ≢ 3 = omega arith in let seven : m ≢ 7 = omega arith in
+    (sym (no-cache m one two three seven), omega arith)

@@ -1,0 +1,13 @@
+-- `geometry::line_holds` meets its contract: each return is a case of the definition, by the tests on its way and
+-- what its callees ensure.
+use Rattle.model.specs.Lines.{holds}
+use mathlib.Core.Path.{refl}
+use Rattle.geometry.proofs.line_holds.Goals as goal
+
+pub returns-then-x : goal.returns-then-x
+unfolding holds
+returns-then-x c = rw c.if-x.true refl
+
+pub returns-else-x : goal.returns-else-x
+unfolding holds
+returns-else-x c = rw c.if-x.false refl
