@@ -281,14 +281,14 @@ fetch-same z z' s a =
     (λ x x' r. let p = r.next in record { number = r.number; server = r.server; report = r.report; next = pair-stored p.1 })
 
 pub called_same : (c c' : Call) → SameButWritten c c' → (z z' : State) → SameButStored z z' → Same (called c z) (called c' z')
-called_same (one_command c) (one_command c') (same_command {k} {a} {b} {v} {v'} f) z z' s = command-same z z' s k a b v v' f
-called_same fresh_start fresh_start same_start z z' s = fresh-same z z' s
-called_same (look a) (look a') (same_look {a = y}) z z' s = look-same z z' s y
-called_same (read_unaligned n a) (read_unaligned n' a') (same_read {n = m} {a = y}) z z' s = read-unaligned-same z z' s m y
-called_same (write_unaligned n a v) (write_unaligned n' a' v') (same_write {n = m} {a = y} {v = u} {v' = u'} f) z z' s = write-unaligned-same z z' s m y u u' f
-called_same (transfer_in a bs) (transfer_in a' bs') (same_in {a = y} {bs = cs} {bs' = cs'} e) z z' s = transfer-in-same z z' s y cs cs' e
-called_same (transfer_out a o) (transfer_out a' o') (same_out {a = y} {o = u} {o' = u'} e) z z' s = transfer-out-same z z' s y u u' e
-called_same (fetch_behind a) (fetch_behind a') (same_fetch {a = y}) z z' s = fetch-same z z' s y
+called_same c c' (same_command {k} {a} {b} {v} {v'} f) z z' s = command-same z z' s k a b v v' f
+called_same c c' same_start z z' s = fresh-same z z' s
+called_same c c' (same_look {a = y}) z z' s = look-same z z' s y
+called_same c c' (same_read {n = m} {a = y}) z z' s = read-unaligned-same z z' s m y
+called_same c c' (same_write {n = m} {a = y} {v = u} {v' = u'} f) z z' s = write-unaligned-same z z' s m y u u' f
+called_same c c' (same_in {a = y} {bs = cs} {bs' = cs'} e) z z' s = transfer-in-same z z' s y cs cs' e
+called_same c c' (same_out {a = y} {o = u} {o' = u'} e) z z' s = transfer-out-same z z' s y u u' e
+called_same c c' (same_fetch {a = y}) z z' s = fetch-same z z' s y
 
 pub same-behaviour : SameBehaviour
 same-behaviour z z' s cs cs' h = along h z z' s

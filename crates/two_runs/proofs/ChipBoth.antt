@@ -282,14 +282,14 @@ module _ (R : Runs) (x x' : Chip) (h : ChipPair R x x') where
 
   -- ---- each call of the data side
   pub data-both : (c c' : Call) → SameButWritten c c' → R.Alike c c' → DataBoth R c (chip_called (on_data c) x) (chip_called (on_data c') x')
-  data-both (one_command c) (one_command c') (same_command {k} {a} {b} {v} {v'} f) al = command-both k a b v v' f al
-  data-both fresh_start fresh_start same_start al = fresh-both al
-  data-both (look a) (look a') (same_look {a = y}) al = look-both y al
-  data-both (read_unaligned n a) (read_unaligned n' a') (same_read {n = m} {a = y}) al = behind (read_unaligned m y) (read_unaligned m y) al
-  data-both (write_unaligned n a v) (write_unaligned n' a' v') (same_write {n = m} {a = y} {v = u} {v' = u'} f) al = behind (write_unaligned m y u) (write_unaligned m y u') al
-  data-both (transfer_in a bs) (transfer_in a' bs') (same_in {a = y} {bs = cs} {bs' = cs'} e) al = behind (transfer_in y cs) (transfer_in y cs') al
-  data-both (transfer_out a o) (transfer_out a' o') (same_out {a = y} {o = u} {o' = u'} e) al = behind (transfer_out y u) (transfer_out y u') al
-  data-both (fetch_behind a) (fetch_behind a') (same_fetch {a = y}) al = behind (fetch_behind y) (fetch_behind y) al
+  data-both c c' (same_command {k} {a} {b} {v} {v'} f) al = command-both k a b v v' f al
+  data-both c c' same_start al = fresh-both al
+  data-both c c' (same_look {a = y}) al = look-both y al
+  data-both c c' (same_read {n = m} {a = y}) al = behind (read_unaligned m y) (read_unaligned m y) al
+  data-both c c' (same_write {n = m} {a = y} {v = u} {v' = u'} f) al = behind (write_unaligned m y u) (write_unaligned m y u') al
+  data-both c c' (same_in {a = y} {bs = cs} {bs' = cs'} e) al = behind (transfer_in y cs) (transfer_in y cs') al
+  data-both c c' (same_out {a = y} {o = u} {o' = u'} e) al = behind (transfer_out y u) (transfer_out y u') al
+  data-both c c' (same_fetch {a = y}) al = behind (fetch_behind y) (fetch_behind y) al
 
   -- ---- a fetch
   module _ (a : ℕ) where

@@ -60,10 +60,10 @@ own-shared b =
     (record { number = b.number; server = b.server; report = b.report; l1p_left = b.left; rec = b.next.data_side.rec; lines = b.next.lines }, b.next)
 
 chip-shared : (c c' : ChipCall) → ChipSameButWritten c c' → (x x' : Chip) → ChipPair first x x' → SharedNext (chip_called c x) (chip_called c' x')
-chip-shared (on_data c) (on_data c') (same_data w) x x' h = data-shared (data-both first x x' h c c' w w)
-chip-shared (fetch a) (fetch a') (same_fetch {a = y}) x x' h = own-shared (fetch-both first x x' h y)
-chip-shared (l1p_block b c) (l1p_block b' c') (same_block {b = y} {c = n}) x x' h = own-shared (block-both first x x' h y n)
-chip-shared l1p_all l1p_all same_all x x' h = own-shared (all_both first x x' h)
+chip-shared _ _ (same_data {c} {c'} w) x x' h = data-shared (data-both first x x' h c c' w w)
+chip-shared _ _ (same_fetch {a = y}) x x' h = own-shared (fetch-both first x x' h y)
+chip-shared _ _ (same_block {b = y} {c = n}) x x' h = own-shared (block-both first x x' h y n)
+chip-shared _ _ same_all x x' h = own-shared (all_both first x x' h)
 
 pub same-chip-behaviour : SameChipBehaviour
 same-chip-behaviour x x' s cs cs' w =
