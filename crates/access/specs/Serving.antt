@@ -14,7 +14,7 @@ use Rattle.model.specs.Access.{Access, access, cacheable, l1d_bytes, evict_l1d, 
 use Rattle.model.specs.Refusals.{size_ok, multiple_of, place_ok, value_ok, access_due, lowest_due, unless}
 use Rattle.model.specs.Calls.{Reply, reply, replied, command_due, read_done, write_done, accepted, step}
 use Rattle.model.specs.Reports.{Report, report, no_report, l1d_left, fetch_left, taken, bytes_in, memory_moved, put_memory_moved, home_moved, write_home_moved, evict_l1d_moved, read_emptied_moved, read_thawed_moved, read_frozen_moved, read_miss_moved, write_miss_moved, read_miss_report, write_miss_report, read_report, write_report}
-use Rattle.model.specs.Erased.{write-miss-read, write-miss-written, frozen-read, frozen-written, emptied-read, emptied-written, thawed-read, thawed-written}
+use Rattle.model.proofs.Erased.{write-miss-read, write-miss-written, frozen-read, frozen-written, emptied-read, emptied-written, thawed-read, thawed-written}
 use Rattle.model.specs.declared.Left.TheVariants.{NoWay}
 use Rattle.model.specs.declared.Line.{Line}
 use Rattle.model.specs.declared.Record.{Record}

@@ -19,7 +19,7 @@ use Rattle.model.specs.Ways.{in_l2, l2_way, empty_l1d}
 use Rattle.model.specs.Access.{writeback_l1d, evict_l1d}
 use Rattle.model.specs.Homes.{home_is_l2, put_memory, put_l2, put_home, write_out_l2}
 use Rattle.model.specs.Modes.{flush_l1d, flush_l2, new_mode, change_mode}
-use Rattle.model.specs.Emptied.{back-lines}
+use Rattle.model.proofs.Emptied.{back-lines}
 use Rattle.model.specs.Laws.{bool}
 use Rattle.model.specs.declared.Line.{Line}
 use Rattle.model.specs.declared.L1dSet.{L1dSet}

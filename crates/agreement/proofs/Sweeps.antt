@@ -18,7 +18,7 @@ use Rattle.model.specs.Access.{evict_l1d}
 use Rattle.model.specs.Homes.{write_out_l2, writeback_l2, evict_l2}
 use Rattle.model.specs.Modes.{flush_l2}
 use Rattle.model.specs.Commands.{block_end, lines_touched, each_touched, each_l2, at_l2, at_l1d, unless_mode0, evict_all_l1d, l2_writeback_all, l2_writeback_invalidate_all, l2_writeback_block, l2_writeback_invalidate_block, l1d_writeback_invalidate_block}
-use Rattle.model.specs.Emptied.{evicted-all}
+use Rattle.model.proofs.Emptied.{evicted-all}
 use Rattle.model.specs.Laws.{bool, false-true, cond-elim, no-ways, touched-lines}
 use Rattle.model.specs.declared.Line.{Line}
 use Rattle.model.specs.declared.Record.{Record}

@@ -15,7 +15,7 @@ use Rattle.model.specs.Commands.{at_l2, at_l1d, each_touched, each_l2, unless_mo
 use Rattle.model.specs.Calls.{reply, command_due, command_state, accepted, step}
 use Rattle.model.specs.Laws.{bool, both_true, no-ways}
 use Rattle.model.specs.declared.Command.{Command}
-use Rattle.model.specs.Emptied.{Bare, evicted-all}
+use Rattle.model.proofs.Emptied.{Bare, evicted-all}
 use Rattle.sweeps.specs.Emptied.{clear_l2, bare-writebacks, bare-evicts}
 use Rattle.l1d_commands.specs.Steps.{l1d_operation}
 use Rattle.l2_commands.specs.Steps.{l2_operation}

@@ -18,7 +18,7 @@ use Rattle.model.specs.Refusals.{lowest_due, unless, lent_due}
 use Rattle.model.specs.Fetches.{fetch_access, fetch_report, fetch_due}
 use Rattle.model.specs.Calls.{fetch_due_in, fetch_behind_done}
 use Rattle.model.specs.Laws.{cond-elim, length_part, lowest_due-none}
-use Rattle.model.specs.Erased.{frozen-read, frozen-written}
+use Rattle.model.proofs.Erased.{frozen-read, frozen-written}
 use Rattle.model.specs.declared.Left.{Left}
 use Rattle.model.specs.declared.Left.TheVariants.{NoWay}
 use Rattle.model.specs.declared.Line.{Line}

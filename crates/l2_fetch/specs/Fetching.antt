@@ -12,7 +12,7 @@ use Rattle.model.specs.Ways.{l2_find, l2_victim, in_l2, l2_way, use_l2}
 use Rattle.model.specs.Homes.{home_is_l2, memory_part, put_memory, put_l2, l2_way_for, take_halves, evict_l2, fill_l2, bring_l2, fetch_l2, home_server}
 use Rattle.model.specs.Access.{home_part, fill_l1d, write_home}
 use Rattle.model.specs.Reports.{Moved, still, fetch_left, taken, bytes_in, memory_moved, put_memory_moved, write_out_l2_moved, fill_l2_moved, writeback_l2_moved, evict_l2_moved, bring_l2_moved, fetch_l2_moved, home_moved, write_home_moved}
-use Rattle.model.specs.Erased.{evict_l2-next}
+use Rattle.model.proofs.Erased.{evict_l2-next}
 use Rattle.model.specs.declared.Gone.{Gone}
 use Rattle.model.specs.declared.Left.{Left}
 use Rattle.model.specs.declared.Left.TheVariants.{NoWay}

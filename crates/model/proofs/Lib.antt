@@ -1,2 +1,4 @@
 pub mod Worked
 pub mod Offsets
+pub mod Emptied
+pub mod Erased

@@ -20,5 +20,3 @@ pub mod Bytewise
 pub mod Stays
 pub mod Laws
 pub mod Opened
-pub mod Emptied
-pub mod Erased

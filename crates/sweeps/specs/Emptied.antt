@@ -10,7 +10,7 @@ use Rattle.model.specs.Records.{State, l2_sets_of, l2_line_at, with_l2_line}
 use Rattle.model.specs.Ways.{way_holding, l1d_find, l1d_way, in_l1d, empty_l2}
 use Rattle.model.specs.Homes.{take_half, take_halves, write_out_l2, writeback_l2, evict_l2}
 use Rattle.model.specs.Commands.{each_l2}
-use Rattle.model.specs.Emptied.{Bare}
+use Rattle.model.proofs.Emptied.{Bare}
 use Rattle.model.specs.Laws.{bool}
 
 same-bare : (z z' : State) → z'.rec.l1d ≡ z.rec.l1d → Bare z → Bare z'

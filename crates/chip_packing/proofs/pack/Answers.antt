@@ -14,4 +14,4 @@ pub returns : goal.returns
 returns c =
     let u = c.pack in
     let ws = c.args.words.now in
-    (c.put_lines.ensures.rest ∙ back-record ws u.new.tags (u.auto.1.0 ∙ lent_length ws c.requires) ∙ u.ensures, c.put_lines.ensures.words_after)
+    (c.put_lines.ensures.rest ∙ back-record ws u.new.tags (u.auto.tags ∙ lent_length ws c.requires) ∙ u.ensures, c.put_lines.ensures.words_after)

@@ -108,7 +108,7 @@ returns-else-second c =
     let one : (let a = c.args in One a.trace.now a.at c.numbers_behind-count.result (first)) =
     record { coded = coded; some = c.if-count-eq0.false; known = c.if-count-eq4.false; is = c.number_at-first.ensures } in
     let two : (let a = c.args in Two a.trace.now a.at c.numbers_behind-count.result (first) (second)) =
-    record { one = one; ok = c.if-first.taken; more = c.if-count-eq1.false; is = c.number_at-second.ensures } in
+    record { one = one; ok = c.if-first.true; more = c.if-count-eq1.false; is = c.number_at-second.ensures } in
     decode-no-second (two) c.if-second.false
 
 pub overflow_cast-result-then-count-eq2 : goal.overflow_cast-result-then-count-eq2
@@ -134,7 +134,7 @@ overflow_cast-result-then-count-eq2-2 c =
     let one : (let a = c.args in One a.trace.now a.at c.numbers_behind-count.result (first)) =
     record { coded = coded; some = c.if-count-eq0.false; known = c.if-count-eq4.false; is = c.number_at-first.ensures } in
     let two : (let a = c.args in Two a.trace.now a.at c.numbers_behind-count.result (first) (second)) =
-    record { one = one; ok = c.if-first.taken; more = c.if-count-eq1.false; is = c.number_at-second.ensures } in
+    record { one = one; ok = c.if-first.true; more = c.if-count-eq1.false; is = c.number_at-second.ensures } in
     let small-second : (Fits w32 (second).value) =
     omega (arith, second-small (two) c.if-second.true) in
     small-second
@@ -150,7 +150,7 @@ overflow_add-result-then-count-eq2 c =
     let one : (let a = c.args in One a.trace.now a.at c.numbers_behind-count.result (first)) =
     record { coded = coded; some = c.if-count-eq0.false; known = c.if-count-eq4.false; is = c.number_at-first.ensures } in
     let two : (let a = c.args in Two a.trace.now a.at c.numbers_behind-count.result (first) (second)) =
-    record { one = one; ok = c.if-first.taken; more = c.if-count-eq1.false; is = c.number_at-second.ensures } in
+    record { one = one; ok = c.if-first.true; more = c.if-count-eq1.false; is = c.number_at-second.ensures } in
     let ends-second : (c.args.at + 1 + (first).used + (second).used < 18446744073709551616) =
     second-ends (two) c.if-second.true in
     omega (arith, ends-second)
@@ -166,7 +166,7 @@ overflow_add-result-then-count-eq2-2 c =
     let one : (let a = c.args in One a.trace.now a.at c.numbers_behind-count.result (first)) =
     record { coded = coded; some = c.if-count-eq0.false; known = c.if-count-eq4.false; is = c.number_at-first.ensures } in
     let two : (let a = c.args in Two a.trace.now a.at c.numbers_behind-count.result (first) (second)) =
-    record { one = one; ok = c.if-first.taken; more = c.if-count-eq1.false; is = c.number_at-second.ensures } in
+    record { one = one; ok = c.if-first.true; more = c.if-count-eq1.false; is = c.number_at-second.ensures } in
     let ends-second : (c.args.at + 1 + (first).used + (second).used < 18446744073709551616) =
     second-ends (two) c.if-second.true in
     omega (arith, ends-second)
@@ -182,7 +182,7 @@ returns-then-count-eq2 c =
     let one : (let a = c.args in One a.trace.now a.at c.numbers_behind-count.result (first)) =
     record { coded = coded; some = c.if-count-eq0.false; known = c.if-count-eq4.false; is = c.number_at-first.ensures } in
     let two : (let a = c.args in Two a.trace.now a.at c.numbers_behind-count.result (first) (second)) =
-    record { one = one; ok = c.if-first.taken; more = c.if-count-eq1.false; is = c.number_at-second.ensures } in
+    record { one = one; ok = c.if-first.true; more = c.if-count-eq1.false; is = c.number_at-second.ensures } in
     decode-two (two) c.if-second.true c.if-count-eq2.true
 
 -- ---- the value
@@ -197,7 +197,7 @@ overflow_add-at-4 c =
     let one : (let a = c.args in One a.trace.now a.at c.numbers_behind-count.result (first)) =
     record { coded = coded; some = c.if-count-eq0.false; known = c.if-count-eq4.false; is = c.number_at-first.ensures } in
     let two : (let a = c.args in Two a.trace.now a.at c.numbers_behind-count.result (first) (second)) =
-    record { one = one; ok = c.if-first.taken; more = c.if-count-eq1.false; is = c.number_at-second.ensures } in
+    record { one = one; ok = c.if-first.true; more = c.if-count-eq1.false; is = c.number_at-second.ensures } in
     let ends-second : (c.args.at + 1 + (first).used + (second).used < 18446744073709551616) =
     second-ends (two) c.if-second.true in
     omega (arith, ends-second)
@@ -213,7 +213,7 @@ overflow_add-at-5 c =
     let one : (let a = c.args in One a.trace.now a.at c.numbers_behind-count.result (first)) =
     record { coded = coded; some = c.if-count-eq0.false; known = c.if-count-eq4.false; is = c.number_at-first.ensures } in
     let two : (let a = c.args in Two a.trace.now a.at c.numbers_behind-count.result (first) (second)) =
-    record { one = one; ok = c.if-first.taken; more = c.if-count-eq1.false; is = c.number_at-second.ensures } in
+    record { one = one; ok = c.if-first.true; more = c.if-count-eq1.false; is = c.number_at-second.ensures } in
     let ends-second : (c.args.at + 1 + (first).used + (second).used < 18446744073709551616) =
     second-ends (two) c.if-second.true in
     omega (arith, ends-second)
@@ -229,7 +229,7 @@ overflow_add-at-6 c =
     let one : (let a = c.args in One a.trace.now a.at c.numbers_behind-count.result (first)) =
     record { coded = coded; some = c.if-count-eq0.false; known = c.if-count-eq4.false; is = c.number_at-first.ensures } in
     let two : (let a = c.args in Two a.trace.now a.at c.numbers_behind-count.result (first) (second)) =
-    record { one = one; ok = c.if-first.taken; more = c.if-count-eq1.false; is = c.number_at-second.ensures } in
+    record { one = one; ok = c.if-first.true; more = c.if-count-eq1.false; is = c.number_at-second.ensures } in
     let ends-second : (c.args.at + 1 + (first).used + (second).used < 18446744073709551616) =
     second-ends (two) c.if-second.true in
     omega (arith, ends-second)
@@ -247,9 +247,9 @@ returns-else-value c =
     let one : (let a = c.args in One a.trace.now a.at c.numbers_behind-count.result (first)) =
     record { coded = coded; some = c.if-count-eq0.false; known = c.if-count-eq4.false; is = c.number_at-first.ensures } in
     let two : (let a = c.args in Two a.trace.now a.at c.numbers_behind-count.result (first) (second)) =
-    record { one = one; ok = c.if-first.taken; more = c.if-count-eq1.false; is = c.number_at-second.ensures } in
+    record { one = one; ok = c.if-first.true; more = c.if-count-eq1.false; is = c.number_at-second.ensures } in
     let three : (let a = c.args in Three a.trace.now a.at c.numbers_behind-count.result (first) (second) (value)) =
-    record { two = two; ok = c.if-second.taken; more = c.if-count-eq2.false; is = c.number_at-value.ensures } in
+    record { two = two; ok = c.if-second.true; more = c.if-count-eq2.false; is = c.number_at-value.ensures } in
     decode-no-value (three) c.if-value.false
 
 pub overflow_cast-result-2 : goal.overflow_cast-result-2
@@ -275,7 +275,7 @@ overflow_cast-result-3 c =
     let one : (let a = c.args in One a.trace.now a.at c.numbers_behind-count.result (first)) =
     record { coded = coded; some = c.if-count-eq0.false; known = c.if-count-eq4.false; is = c.number_at-first.ensures } in
     let two : (let a = c.args in Two a.trace.now a.at c.numbers_behind-count.result (first) (second)) =
-    record { one = one; ok = c.if-first.taken; more = c.if-count-eq1.false; is = c.number_at-second.ensures } in
+    record { one = one; ok = c.if-first.true; more = c.if-count-eq1.false; is = c.number_at-second.ensures } in
     let small-second : (Fits w32 (second).value) =
     omega (arith, second-small (two) c.if-second.true) in
     small-second
@@ -293,9 +293,9 @@ overflow_add-result-2 c =
     let one : (let a = c.args in One a.trace.now a.at c.numbers_behind-count.result (first)) =
     record { coded = coded; some = c.if-count-eq0.false; known = c.if-count-eq4.false; is = c.number_at-first.ensures } in
     let two : (let a = c.args in Two a.trace.now a.at c.numbers_behind-count.result (first) (second)) =
-    record { one = one; ok = c.if-first.taken; more = c.if-count-eq1.false; is = c.number_at-second.ensures } in
+    record { one = one; ok = c.if-first.true; more = c.if-count-eq1.false; is = c.number_at-second.ensures } in
     let three : (let a = c.args in Three a.trace.now a.at c.numbers_behind-count.result (first) (second) (value)) =
-    record { two = two; ok = c.if-second.taken; more = c.if-count-eq2.false; is = c.number_at-value.ensures } in
+    record { two = two; ok = c.if-second.true; more = c.if-count-eq2.false; is = c.number_at-value.ensures } in
     let ends-value : (c.args.at + 1 + (first).used + (second).used + (value).used < 18446744073709551616) =
     value-ends (three) c.if-value.true in
     omega (arith, ends-value)
@@ -313,9 +313,9 @@ overflow_add-result-3 c =
     let one : (let a = c.args in One a.trace.now a.at c.numbers_behind-count.result (first)) =
     record { coded = coded; some = c.if-count-eq0.false; known = c.if-count-eq4.false; is = c.number_at-first.ensures } in
     let two : (let a = c.args in Two a.trace.now a.at c.numbers_behind-count.result (first) (second)) =
-    record { one = one; ok = c.if-first.taken; more = c.if-count-eq1.false; is = c.number_at-second.ensures } in
+    record { one = one; ok = c.if-first.true; more = c.if-count-eq1.false; is = c.number_at-second.ensures } in
     let three : (let a = c.args in Three a.trace.now a.at c.numbers_behind-count.result (first) (second) (value)) =
-    record { two = two; ok = c.if-second.taken; more = c.if-count-eq2.false; is = c.number_at-value.ensures } in
+    record { two = two; ok = c.if-second.true; more = c.if-count-eq2.false; is = c.number_at-value.ensures } in
     let ends-value : (c.args.at + 1 + (first).used + (second).used + (value).used < 18446744073709551616) =
     value-ends (three) c.if-value.true in
     omega (arith, ends-value)
@@ -333,9 +333,9 @@ overflow_add-result-4 c =
     let one : (let a = c.args in One a.trace.now a.at c.numbers_behind-count.result (first)) =
     record { coded = coded; some = c.if-count-eq0.false; known = c.if-count-eq4.false; is = c.number_at-first.ensures } in
     let two : (let a = c.args in Two a.trace.now a.at c.numbers_behind-count.result (first) (second)) =
-    record { one = one; ok = c.if-first.taken; more = c.if-count-eq1.false; is = c.number_at-second.ensures } in
+    record { one = one; ok = c.if-first.true; more = c.if-count-eq1.false; is = c.number_at-second.ensures } in
     let three : (let a = c.args in Three a.trace.now a.at c.numbers_behind-count.result (first) (second) (value)) =
-    record { two = two; ok = c.if-second.taken; more = c.if-count-eq2.false; is = c.number_at-value.ensures } in
+    record { two = two; ok = c.if-second.true; more = c.if-count-eq2.false; is = c.number_at-value.ensures } in
     let ends-value : (c.args.at + 1 + (first).used + (second).used + (value).used < 18446744073709551616) =
     value-ends (three) c.if-value.true in
     omega (arith, ends-value)
@@ -353,7 +353,7 @@ returns c =
     let one : (let a = c.args in One a.trace.now a.at c.numbers_behind-count.result (first)) =
     record { coded = coded; some = c.if-count-eq0.false; known = c.if-count-eq4.false; is = c.number_at-first.ensures } in
     let two : (let a = c.args in Two a.trace.now a.at c.numbers_behind-count.result (first) (second)) =
-    record { one = one; ok = c.if-first.taken; more = c.if-count-eq1.false; is = c.number_at-second.ensures } in
+    record { one = one; ok = c.if-first.true; more = c.if-count-eq1.false; is = c.number_at-second.ensures } in
     let three : (let a = c.args in Three a.trace.now a.at c.numbers_behind-count.result (first) (second) (value)) =
-    record { two = two; ok = c.if-second.taken; more = c.if-count-eq2.false; is = c.number_at-value.ensures } in
+    record { two = two; ok = c.if-second.true; more = c.if-count-eq2.false; is = c.number_at-value.ensures } in
     decode-three (three) c.if-value.true

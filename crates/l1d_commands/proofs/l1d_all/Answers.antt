@@ -17,7 +17,7 @@ pub loop-k-preserved : goal.loop-k-preserved
 loop-k-preserved c =
     let a = c.args in let l = c.loop-k in
     turned l.invariant (λ i. act-fixed a.code (i / 2) (i % 2)) c.loop-k-test.true c.l1d_operate.new.tags c.l1d_operate.new.l2 c.l1d_operate.new.ext
-    c.l1d_operate.auto.tags c.l1d_operate.auto.1.1.1.1.1.1.1.0 c.l1d_operate.auto.1.1.1.1.1.1.1.1.0 c.l1d_operate.ensures
+    c.l1d_operate.auto.tags c.l1d_operate.auto.l2 c.l1d_operate.auto.ext c.l1d_operate.ensures
 
 pub shape_of-tags : goal.shape_of-tags
 shape_of-tags c = c.loop-k.invariant.words

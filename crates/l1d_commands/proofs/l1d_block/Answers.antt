@@ -26,7 +26,7 @@ pub loop-k-preserved : goal.loop-k-preserved
 loop-k-preserved c =
     let a = c.args in let l = c.loop-k in
     turned l.invariant (λ i. at-l1d (l1d_operation a.code) (act-fixed a.code) ((a.base / 64 + i) * 64)) c.loop-k-test.true c.l1d_touched.new.tags c.l1d_touched.new.l2 c.l1d_touched.new.ext
-    c.l1d_touched.auto.tags c.l1d_touched.auto.1.1.1.1.1.1.0 c.l1d_touched.auto.1.1.1.1.1.1.1.0 (c.l1d_touched.ensures ∙ ap (λ (b : ℕ). at_l1d (l1d_operation a.code) b (state (record_in l.tags) a.l1d.now l.l2 l.ext)) c.line_after-a.ensures)
+    c.l1d_touched.auto.tags c.l1d_touched.auto.l2 c.l1d_touched.auto.ext (c.l1d_touched.ensures ∙ ap (λ (b : ℕ). at_l1d (l1d_operation a.code) b (state (record_in l.tags) a.l1d.now l.l2 l.ext)) c.line_after-a.ensures)
 
 pub shape_of-tags : goal.shape_of-tags
 shape_of-tags c = c.loop-k.invariant.words
