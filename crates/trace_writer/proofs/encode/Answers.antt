@@ -96,5 +96,5 @@ returns c =
     let a = c.args in
     holds_more (two) (omega arith) a.value c.add_number.ensures in
     let a = c.args in
-    bytes-three a.code a.first a.second a.value a.count c.requires.1 c.if-count-eq0.left c.if-count-eq1.left
+    bytes-three a.code a.first a.second a.value a.count c.requires.1 c.if-count-eq0.false c.if-count-eq1.false
     c.if-count-eq2.false (three)

@@ -25,7 +25,7 @@ copy_in-requires c =
     let known : (let a = c.args in Tested a.out.now a.at (asked) c.encode-n.new.bytes c.encode-n.result c.number_due-number.result) =
     let a = c.args in
     tested a.code a.first a.second a.value _ c.numbers_taken-count.ensures (search rules)
-    c.if-count-eq4.left
+    c.if-count-eq4.false
     a.out.now a.at c.encode-n.ensures _ _ c.is_narrow-narrow.ensures
     c.fits.ensures c.number_due-number.ensures in
     let t = known in
@@ -38,7 +38,7 @@ overflow_add-result c =
     let known : (let a = c.args in Tested a.out.now a.at (asked) c.encode-n.new.bytes c.encode-n.result c.number_due-number.result) =
     let a = c.args in
     tested a.code a.first a.second a.value _ c.numbers_taken-count.ensures (search rules)
-    c.if-count-eq4.left
+    c.if-count-eq4.false
     a.out.now a.at c.encode-n.ensures _ _ c.is_narrow-narrow.ensures
     c.fits.ensures c.number_due-number.ensures in
     omega (arith, tested-room (known) c.if-number-eq0.true)
@@ -50,7 +50,7 @@ returns-then-number-eq0 c =
     let known : (let a = c.args in Tested a.out.now a.at (asked) c.encode-n.new.bytes c.encode-n.result c.number_due-number.result) =
     let a = c.args in
     tested a.code a.first a.second a.value _ c.numbers_taken-count.ensures (search rules)
-    c.if-count-eq4.left
+    c.if-count-eq4.false
     a.out.now a.at c.encode-n.ensures _ _ c.is_narrow-narrow.ensures
     c.fits.ensures c.number_due-number.ensures in
     rw c.copy_in.ensures (put-done (known) c.if-number-eq0.true)
@@ -62,7 +62,7 @@ returns c =
     let known : (let a = c.args in Tested a.out.now a.at (asked) c.encode-n.new.bytes c.encode-n.result c.number_due-number.result) =
     let a = c.args in
     tested a.code a.first a.second a.value _ c.numbers_taken-count.ensures (search rules)
-    c.if-count-eq4.left
+    c.if-count-eq4.false
     a.out.now a.at c.encode-n.ensures _ _ c.is_narrow-narrow.ensures
     c.fits.ensures c.number_due-number.ensures in
     put-due (known) c.if-number-eq0.false
