@@ -8,4 +8,4 @@ use Rattle.l2_writeback.proofs.evict_l2.Goals as goal
 pub returns : goal.returns
 returns c =
     let a = c.args in let k = c.requires in let d = a.l1d.now in let e = a.ext.now in let z = state (record_in a.tags.now) d a.l2.now e in
-    let p = c.writeback_l2-g in let y = state (record_in p.new.0) d p.new.1.1.1.1.1.1.0 p.new.1.1.1.1.1.1.1.0 in record { ext_after = evicted z y (record_in c.l2_put.new.tags) a.t a.v c.empty_line.result p.ensures.0 c.empty_line.ensures c.l2_put.ensures; told = p.ensures.1 }
+    let p = c.writeback_l2-g in let y = state (record_in p.new.tags) d p.new.l2 p.new.ext in record { ext_after = evicted z y (record_in c.l2_put.new.tags) a.t a.v c.empty_line.result p.ensures.ext_after c.empty_line.ensures c.l2_put.ensures; told = p.ensures.told }
