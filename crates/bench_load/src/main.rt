@@ -13,7 +13,7 @@ use program::ChipRecord;
 const FRESH: u8 = 255;
 
 // A number of the command line.
-#[derive(Drop)]
+#[derive(Clone, Copy)]
 struct Given {
     fine: bool,
     value: u64,
