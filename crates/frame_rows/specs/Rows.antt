@@ -31,7 +31,7 @@ use Rattle.model.specs.declared.L1dSet.{L1dSet}
 use Rattle.agreement.proofs.Invariant.{Layout}
 use Rattle.agreement.proofs.Good.{layout_of, Anything, Well}
 use Rattle.agreement.proofs.Tested.{well-due, well-shape}
-use Rattle.agreement.proofs.Unaligned.{one-due, AllFit, read_up, up-bytes}
+use Rattle.agreement.proofs.Unaligned.{one-due, AllFit, read_up_lem, up-bytes}
 use Rattle.tags.specs.Words.{record_in, state_in}
 use Rattle.unaligned.specs.Meets.{lent-well}
 use Rattle.run.specs.Upwards.{up_answers}
@@ -254,7 +254,7 @@ module _ (z : State) (q : Well z) (p n : ℕ) (above : external_base ≤ p) (wit
 
   read-well : Well (reads_to p n z) × (layout_of (reads_to p n z).rec ≡ layout_of z.rec)
   read-well =
-      let r = read_up z Anything q p n all_there in let e = (up-bytes z q n p all_there).next ∙ sym (reads-called p n z q).same in
+      let r = read_up_lem z Anything q p n all_there in let e = (up-bytes z q n p all_there).next ∙ sym (reads-called p n z q).same in
       rw (← e) (r.good, r.kept.layout)
 
   pub reads-lent : lent_due (reads_to p n z) ≡ 0

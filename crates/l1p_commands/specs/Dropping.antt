@@ -1,6 +1,6 @@
 -- What the loops that drop lines of L1P share: after k turns the lines are those behind the first k drops, and the
 -- words of the data side are as they were (`Dropping`). Over plain words.
-use Rattle.std.specs.Prelude.{ℕ, zero, suc, ◌+◌, ◌*◌, ◌/◌, ◌%◌, ◌≤◌, ◌<◌, Bool, cond, ◌&&◌, ◌≡◌, List, [], ◌≢◌, length, get_or, set, replicate, eqb, ltb}
+use Rattle.std.specs.Prelude.{ℕ, zero, suc, ◌+◌, ◌*◌, ◌/◌, ◌≤◌, ◌<◌, ◌≡◌, List, [], ◌≢◌, length, set, eqb, ltb}
 use Rattle.std.proofs.Math.Bool.{true, false}
 use Rattle.std.proofs.Math.Path.{refl, sym, ap}
 use Rattle.std.proofs.Common.{◌∙◌, arith, length-set, get_or-set_same, get_or-set_other, ext_get_or}
@@ -8,7 +8,7 @@ use Rattle.std.proofs.lemmas.List.{length-replicate, get_or-replicate}
 use borrow.Author.Tests.{eqb-true, eqb-false, eq-eqb, ne_eqb, lt-ltb, le-ltb}
 use Rattle.model.specs.Basics.{each}
 use Rattle.model.specs.Lines.{empty_line, holds, l2_set_in, l2_line}
-use Rattle.model.specs.Records.{State, state, l2_sets_of, l2_set_of, l2_set_at, l2_line_at, l2_kind_by, mode0}
+use Rattle.model.specs.Records.{State, state, l2_sets_of, l2_set_of, l2_set_at, l2_line_at, mode0}
 use Rattle.model.specs.Commands.{lines_touched}
 use Rattle.model.specs.Ways.{l2_find, l2_way, in_l2}
 use Rattle.model.specs.Laws.{bool, mode0-sets}

@@ -2,7 +2,7 @@
 -- what is added is a byte.
 use Rattle.frame_rows.specs.Sums.{adding-none, column-added, adding-all}
 use Prim.Native.Nat.{◌+◌, ◌-◌}
-use mathlib.Core.Path.{refl, sym, ◌∙◌}
+use mathlib.Core.Path.{refl}
 use native.Mathlib.Omega.{arith}
 use lib.ListN.{get_or}
 use Rattle.frame_rows.proofs.add_bytes.Goals as goal
@@ -35,9 +35,6 @@ pub loop-c-preserved : goal.loop-c-preserved
 loop-c-preserved c =
     let l = c.loop-c in let a = c.args in
     column-added a.from (λ k. get_or a.bytes.now (a.at + k) 0) a.sums.now l.sums l.c (get_or a.bytes.now (a.at + l.c) 0) l.invariant c.loop-c-test.true refl
-
-pub shape_of-sums : goal.shape_of-sums
-shape_of-sums c = c.loop-c.invariant.long ∙ sym c.requires.sums_len.0
 
 pub returns : goal.returns
 returns c =

@@ -32,9 +32,6 @@ add_bytes-requires c =
     c.requires.by_index in
     let e = c.external_place.ensures.0 in let r = row in let u = r.above in let w = r.within in let n = r.ext in record { sums_len = (c.requires.tags_len.1, (omega arith, omega arith)); by_index = λ k _ h. room k h }
 
-pub shape_of-sums-then-not-is_cacheable : goal.shape_of-sums-then-not-is_cacheable
-shape_of-sums-then-not-is_cacheable c = c.add_bytes.auto.sums
-
 pub returns-then-not-is_cacheable : goal.returns-then-not-is_cacheable
 returns-then-not-is_cacheable c =
     let initial : (State) =
@@ -92,26 +89,6 @@ add_bytes-requires-then-w-lt-WAYS c =
     row_at a.tags.now a.l1d.now a.l2.now a.ext.now p.ext_value a.address p.row_at in
     let d = c.data_at.ensures.0 in let i = c.set_of-i.ensures.1 in let w = c.if-w-lt-WAYS.true in
     let n = c.read_byte-first.auto.l1d in let l = (row).l1d in record { sums_len = (summed, (omega arith, omega arith)); by_index = room-behind }
-
-pub shape_of-tags-then-w-lt-WAYS : goal.shape_of-tags-then-w-lt-WAYS
-shape_of-tags-then-w-lt-WAYS c = c.use_hit.auto.tags ∙ c.read_byte-first.auto.tags
-
-pub shape_of-l1d-then-w-lt-WAYS : goal.shape_of-l1d-then-w-lt-WAYS
-shape_of-l1d-then-w-lt-WAYS c = c.read_byte-first.auto.l1d
-
-pub shape_of-l2-then-w-lt-WAYS : goal.shape_of-l2-then-w-lt-WAYS
-shape_of-l2-then-w-lt-WAYS c = c.read_byte-first.auto.l2
-
-pub shape_of-ext-then-w-lt-WAYS : goal.shape_of-ext-then-w-lt-WAYS
-shape_of-ext-then-w-lt-WAYS c = c.read_byte-first.auto.ext
-
-pub shape_of-sums-then-w-lt-WAYS : goal.shape_of-sums-then-w-lt-WAYS
-shape_of-sums-then-w-lt-WAYS c =
-    let sums-behind : (List ℕ) =
-    let ss = c.args.sums.now in set ss 0 (get_or ss 0 0 + c.read_byte-first.result) in
-    let summed : (length (sums-behind) ≡ 64) =
-    simp length-set c.requires.tags_len.1 in
-    let l = c.requires.tags_len.1 in c.add_bytes-then-w-lt-WAYS.auto.sums ∙ summed ∙ sym l
 
 pub returns-then-w-lt-WAYS : goal.returns-then-w-lt-WAYS
 unfolding l1d_way in_l1d
@@ -181,26 +158,6 @@ add_answers-requires c =
     let room-behind : ((k : ℕ) → 1 ≤ k → k < 64 → get_or (sums-behind) k 0 + 255 < 4294967296) =
     λ k g h. let ss = c.args.sums.now in let r = room k h in
     let e = get_or-set_other ss 0 k (get_or ss 0 0 + c.read_byte-first.result) 0 (λ e. omega arith) in omega arith in record { sums_len = (summed, c.read_rest.auto.answers ∙ length-replicate {A = ℕ} 630 0); by_index = room-behind }
-
-pub shape_of-tags : goal.shape_of-tags
-shape_of-tags c = c.read_rest.auto.tags ∙ c.read_byte-first.auto.tags
-
-pub shape_of-l1d : goal.shape_of-l1d
-shape_of-l1d c = c.read_rest.auto.l1d ∙ c.read_byte-first.auto.l1d
-
-pub shape_of-l2 : goal.shape_of-l2
-shape_of-l2 c = c.read_rest.auto.l2 ∙ c.read_byte-first.auto.l2
-
-pub shape_of-ext : goal.shape_of-ext
-shape_of-ext c = c.read_rest.auto.ext ∙ c.read_byte-first.auto.ext
-
-pub shape_of-sums : goal.shape_of-sums
-shape_of-sums c =
-    let sums-behind : (List ℕ) =
-    let ss = c.args.sums.now in set ss 0 (get_or ss 0 0 + c.read_byte-first.result) in
-    let summed : (length (sums-behind) ≡ 64) =
-    simp length-set c.requires.tags_len.1 in
-    let l = c.requires.tags_len.1 in c.add_answers.auto.sums ∙ summed ∙ sym l
 
 pub returns : goal.returns
 returns c =

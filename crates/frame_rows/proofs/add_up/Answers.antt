@@ -1,6 +1,7 @@
 -- `frames::add_up` meets its contract: before each turn the rows in front are read and added up; each turn is one row
 -- more (specs/Sums), of a state that is well formed and has E as it was (specs/Rows). No sum wraps: each is one of at
 -- most 48 bytes.
+use Rattle.frame_rows.specs.Reads.{byte_given, no_reads}
 use Rattle.frame_rows.specs.Sums.{no_rows, room-left, row_read, row-added, summed}
 use Rattle.frame_rows.specs.Rows.{PlaceAt, RowAt, reads-lent, reads-ext}
 use Rattle.unaligned.specs.Meets.{lent-well}
@@ -19,7 +20,7 @@ loop-row-init c =
     let a = c.args in let z = state_in a.tags.now a.l1d.now a.l2.now a.ext.now in
     record {
       most = omega arith;
-      tags_long = c.requires.0;
+      tags_long = c.requires.tags_len;
       l1d_long = refl;
       l2_long = refl;
       ext_long = refl;
@@ -33,9 +34,9 @@ overflow_add-place c =
     let initial : (State) =
     let a = c.args in state_in a.tags.now a.l1d.now a.l2.now a.ext.now in
     let well : (Well (initial)) =
-    let a = c.args in lent-well a.tags.now a.l1d.now a.l2.now a.ext.now c.requires.1.0 in
+    let a = c.args in lent-well a.tags.now a.l1d.now a.l2.now a.ext.now c.requires.ext_value in
     let place : (PlaceAt c.args.tags.now c.args.place) =
-    c.requires.1.1 in
+    c.requires.place_at in
     let w = (place).within in let t = c.loop-row-test.true in
     let m = (well).tidy.sizes.ext_most in omega arith
 
@@ -45,11 +46,11 @@ slice_bounds-add_row-end c = sym c.loop-row.invariant.sums_long
 pub add_row-requires : goal.add_row-requires
 add_row-requires c =
     let place : (PlaceAt c.args.tags.now c.args.place) =
-    c.requires.1.1 in
+    c.requires.place_at in
     let initial : (State) =
     let a = c.args in state_in a.tags.now a.l1d.now a.l2.now a.ext.now in
     let well : (Well (initial)) =
-    let a = c.args in lent-well a.tags.now a.l1d.now a.l2.now a.ext.now c.requires.1.0 in
+    let a = c.args in lent-well a.tags.now a.l1d.now a.l2.now a.ext.now c.requires.ext_value in
     let same-ext : ((record_in c.loop-row.tags).extlen ≡ (initial).rec.extlen) =
     let l = c.loop-row in let p = place in let u = p.above in let w = p.within in let m = l.invariant.most in
     ap (λ (z : State). z.rec.extlen) l.invariant.read ∙ reads-ext (initial) (well) c.args.place (l.row * 64) u (omega arith) in
@@ -77,18 +78,6 @@ loop-row-preserved c =
       read = row_read p z l.row y v.read (state_in r.new.tags r.new.l1d r.new.l2 r.new.ext) r.ensures.ext_after;
       added = row-added p z l.row y v.read l.sums r.new.sums r.ensures.told v.added;
     }
-
-pub shape_of-tags : goal.shape_of-tags
-shape_of-tags c = c.loop-row.invariant.tags_long ∙ sym c.requires.0
-
-pub shape_of-l1d : goal.shape_of-l1d
-shape_of-l1d c = c.loop-row.invariant.l1d_long
-
-pub shape_of-l2 : goal.shape_of-l2
-shape_of-l2 c = c.loop-row.invariant.l2_long
-
-pub shape_of-ext : goal.shape_of-ext
-shape_of-ext c = c.loop-row.invariant.ext_long
 
 pub returns : goal.returns
 returns c =

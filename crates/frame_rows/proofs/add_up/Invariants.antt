@@ -1,6 +1,7 @@
 -- `frames::add_up` meets its contract: before each turn the rows in front are read and added up; each turn is one row
 -- more (specs/Sums), of a state that is well formed and has E as it was (specs/Rows). No sum wraps: each is one of at
 -- most 48 bytes.
+use Rattle.frame_rows.specs.Reads.{reads_to, byte_given}
 use Rattle.frame_rows.specs.Sums.{Columns}
 use Rattle.tags.specs.Words.{record_words, state_in}
 use Rattle.model.specs.Records.{State}

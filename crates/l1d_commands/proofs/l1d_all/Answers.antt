@@ -1,6 +1,6 @@
 -- `l1d_sweeps::l1d_all` meets its contract: after k turns the state is that of the first k ways (`Swept` of
 -- sweeping/specs/Loop).
-use Prim.Native.Nat.{◌-◌, ◌/◌, ◌%◌}
+use Prim.Native.Nat.{◌/◌, ◌%◌}
 use native.Mathlib.Omega.{arith}
 use Rattle.sweeps.specs.Loop.{begun, turned, whole}
 use Rattle.l1d_commands.specs.Steps.{act-fixed}

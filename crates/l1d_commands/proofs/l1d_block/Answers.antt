@@ -1,6 +1,6 @@
 -- `l1d_sweeps::l1d_block` meets its contract: after k turns the state is that of the first k touched lines (`Swept`
 -- of sweeping/specs/Loop).
-use Prim.Native.Nat.{ℕ, ◌+◌, ◌*◌, ◌-◌, ◌/◌}
+use Prim.Native.Nat.{ℕ, ◌+◌, ◌*◌, ◌/◌}
 use mathlib.Core.Path.{ap, ◌∙◌}
 use native.Mathlib.Omega.{arith}
 use Rattle.model.specs.Commands.{at_l1d}

@@ -1,5 +1,4 @@
 -- `l1d_sweeps::l1d_operate` meets its contract: each way through the code is the case of `l1d_operation` at its code.
-use Prim.Native.Nat.{◌-◌}
 use mathlib.Core.Path.{ap, ◌∙◌}
 use Rattle.model.specs.Records.{state, with_l1d_line}
 use Rattle.tags.specs.Words.{record_in}

@@ -1,6 +1,5 @@
 -- `l1d_sweeps::l1d_touched` meets its contract: the way that holds the line, or none (`l1d-way`, `l1d-none` of
 -- sweeping/specs/At).
-use Prim.Native.Nat.{◌-◌}
 use Rattle.model.specs.Records.{state}
 use Rattle.tags.specs.Words.{record_in}
 use Rattle.sweeps.specs.At.{l1d-none, l1d-way}

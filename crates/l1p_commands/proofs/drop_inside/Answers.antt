@@ -1,5 +1,4 @@
 -- `l1p_commands::drop_inside` meets its contract: after k turns the first k of the four lines are dropped (`Dropping`).
-use Prim.Native.Nat.{◌-◌}
 use mathlib.Core.Path.{◌∙◌}
 use Rattle.program.specs.L1p.{drop_inside}
 use Rattle.l1p_commands.specs.Dropping.{begun, turned, whole}

@@ -1,6 +1,6 @@
 -- `l1p_commands::drop_under_all` meets its contract: after k turns the lines under the first k ways are dropped
 -- (`Dropping`).
-use Prim.Native.Nat.{◌/◌, ◌%◌, ◌-◌}
+use Prim.Native.Nat.{◌/◌, ◌%◌}
 use mathlib.Core.Path.{ap, ◌∙◌}
 use mathlib.Core.List.{[]}
 use native.Mathlib.Omega.{arith}

@@ -1,6 +1,6 @@
 -- `l1p_commands::drop_under_block` meets its contract: in mode 0 nothing is done (`block_none`); else after k turns the
 -- lines under the first k touched L2 lines are dropped (`Dropping`).
-use Prim.Native.Nat.{ℕ, ◌-◌}
+use Prim.Native.Nat.{ℕ}
 use mathlib.Core.Path.{refl, sym, ap, ◌∙◌}
 use mathlib.Core.List.{[]}
 use mathlib.Core.Logic.{◌≢◌}
@@ -42,5 +42,8 @@ shape_of-words c = c.loop-k.invariant.long
 pub returns : goal.returns
 returns c =
     let l = c.loop-k in let ws = c.args.words.now in
-    let some : l2_sets_of (record_in ws) ≢ 0 = λ n. c.if-sets-eq0.false (c.requires.0.0 ∙ n) in record { by_index = λ d m e. whole l.invariant c.loop-k-test.false ∙ block-lines (bare ws) c.args.base c.args.count c.lines_touched-n.result (lines_in ws) some
-          c.lines_touched-n.ensures ∙ under-block-bare ws d m e c.args.base c.args.count (lines_in ws); rest = l.invariant.rest }
+    let some : l2_sets_of (record_in ws) ≢ 0 = λ n. c.if-sets-eq0.false (c.requires.0.0 ∙ n) in record {
+      by_index = λ d m e. whole l.invariant c.loop-k-test.false ∙ block-lines (bare ws) c.args.base c.args.count c.lines_touched-n.result (lines_in ws) some
+          c.lines_touched-n.ensures ∙ under-block-bare ws d m e c.args.base c.args.count (lines_in ws);
+      rest = l.invariant.rest;
+    }

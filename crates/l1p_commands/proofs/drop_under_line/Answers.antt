@@ -1,7 +1,7 @@
 -- `l1p_commands::drop_under_line` meets its contract: L2 has the line, whose four lines of L1P are dropped
 -- (`line-found`), or has it not (`line-missed`). The data side's words are lent as a part, whose record is that of all
 -- words (`lent-record`).
-use Prim.Native.Nat.{ℕ, ◌-◌}
+use Prim.Native.Nat.{ℕ}
 use mathlib.Core.Path.{◌≡◌, refl, sym, ap, ◌∙◌}
 use lib.Dec.{ltb}
 use mathlib.Core.List.{List}

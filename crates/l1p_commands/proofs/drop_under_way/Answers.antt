@@ -1,7 +1,6 @@
 -- `l1p_commands::drop_under_way` meets its contract: the way has a valid line, whose four lines are dropped
 -- (`way-valid`), or has none (`way-empty`). The data side's words are lent as a part, whose record is that of all words
 -- (`lent-record`).
-use Prim.Native.Nat.{◌-◌}
 use mathlib.Core.Path.{refl, sym, ap, ◌∙◌}
 use Rattle.model.specs.Records.{state, l2_line_at}
 use Rattle.model.specs.declared.Record.{Record}
@@ -19,11 +18,17 @@ l2_line-x-requires c = (c.requires.0, lent_length c.args.words.now c.requires.1)
 pub returns-then-x : goal.returns-then-x
 returns-then-x c =
     let a = c.args in
-    let ws = a.words.now in record { by_index = λ d m e. way-valid (state (record_in ws) d m e) a.t a.v c.l2_line-x.result
+    let ws = a.words.now in record {
+      by_index = λ d m e. way-valid (state (record_in ws) d m e) a.t a.v c.l2_line-x.result
           (c.l2_line-x.ensures ∙ ap (λ (r : Record). l2_line_at r a.t a.v) (lent-record ws)) (lines_in ws) c.if-x.true (lines_in c.drop_inside.new.words)
-          c.drop_inside.ensures.words_after; rest = c.drop_inside.ensures.rest }
+          c.drop_inside.ensures.words_after;
+      rest = c.drop_inside.ensures.rest;
+    }
 
 pub returns-else-x : goal.returns-else-x
 returns-else-x c =
-    let a = c.args in let ws = a.words.now in record { by_index = λ d m e. way-empty (state (record_in ws) d m e) a.t a.v c.l2_line-x.result
-          (c.l2_line-x.ensures ∙ ap (λ (r : Record). l2_line_at r a.t a.v) (lent-record ws)) (lines_in ws) c.if-x.false; rest = refl }
+    let a = c.args in let ws = a.words.now in record {
+      by_index = λ d m e. way-empty (state (record_in ws) d m e) a.t a.v c.l2_line-x.result
+          (c.l2_line-x.ensures ∙ ap (λ (r : Record). l2_line_at r a.t a.v) (lent-record ws)) (lines_in ws) c.if-x.false;
+      rest = refl;
+    }

@@ -1,6 +1,5 @@
 -- `l1p_commands::invalidate_all` meets its contract: after s turns the first s sets are empty (`Dropping`), in the end
 -- all are (`emptied-all`).
-use Prim.Native.Nat.{◌-◌}
 use mathlib.Core.Path.{ap, ◌∙◌}
 use Rattle.model.specs.declared.Line.{Line}
 use lib.ListN.{set}

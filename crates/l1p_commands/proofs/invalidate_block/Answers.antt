@@ -1,6 +1,6 @@
 -- `l1p_commands::invalidate_block` meets its contract: after k turns the first k touched lines are dropped
 -- (`Dropping`).
-use Prim.Native.Nat.{ℕ, ◌-◌}
+use Prim.Native.Nat.{ℕ}
 use mathlib.Core.Path.{ap, ◌∙◌}
 use native.Mathlib.Omega.{arith}
 use Rattle.program.specs.L1p.{drop_l1p, invalidate_l1p_block}

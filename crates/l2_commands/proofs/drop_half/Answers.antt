@@ -1,6 +1,5 @@
 -- `l2_sweeps::drop_half` meets its contract: the way that holds the half is emptied, or there is none (`l1d-way`,
 -- `l1d-none` of sweeping/specs/At).
-use Prim.Native.Nat.{◌-◌}
 use mathlib.Core.Path.{ap, ◌∙◌}
 use Rattle.model.specs.Ways.{empty_l1d}
 use Rattle.model.specs.Records.{state, with_l1d_line}

@@ -1,5 +1,4 @@
 -- `l2_sweeps::drop_l2` meets its contract: lower half, upper half, line (`dropped`).
-use Prim.Native.Nat.{◌-◌}
 use mathlib.Core.Path.{ap, ◌∙◌}
 use Rattle.model.specs.Records.{state, with_l2_line}
 use Rattle.tags.specs.Words.{record_in}

@@ -1,6 +1,6 @@
 -- `l2_commands::l2_all` meets its contract: after k turns the state is that of the first k ways (`Swept` of
 -- sweeps/specs/Loop).
-use Prim.Native.Nat.{◌-◌, ◌/◌, ◌%◌}
+use Prim.Native.Nat.{◌/◌, ◌%◌}
 use mathlib.Core.Path.{refl}
 use native.Mathlib.Omega.{arith}
 use Rattle.model.specs.Records.{state}

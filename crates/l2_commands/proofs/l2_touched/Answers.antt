@@ -1,6 +1,5 @@
 -- `l2_sweeps::l2_touched` meets its contract: the way that holds the line, or none (`l2-way`, `l2-none` of
 -- sweeping/specs/At).
-use Prim.Native.Nat.{◌-◌}
 use Rattle.model.specs.Records.{state}
 use Rattle.tags.specs.Words.{record_in}
 use Rattle.sweeps.specs.At.{l2-none, l2-way}
