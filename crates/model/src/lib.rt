@@ -44,7 +44,7 @@ pub struct L2Set {
 
 // L, E, the mode, the MAR bits 128 and 129, whether L1D is frozen (02, U11), how many lines are dirty in L1D and in L2
 // (02, U5), and the sets of both caches.
-#[derive(Drop)]
+#[derive(Clone, Copy)]
 pub struct Record {
     pub l2len: u32,
     pub extlen: u32,

@@ -9,7 +9,7 @@ ghost use Rattle.program.specs.L1p.{fresh_l1p};
 use model::{Line, Record};
 
 // The record of the data side, and L1P's lines by set: L1P is direct-mapped, so a set is its one line and has no order.
-#[derive(Drop)]
+#[derive(Clone, Copy)]
 pub struct ChipRecord {
     pub data_side: Record,
     pub l1p: [Line; 512],
