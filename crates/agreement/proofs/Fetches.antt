@@ -2,11 +2,11 @@
 -- bytes are held, whatever L1D has above them (`fetch-good`). Why: L2 acts as for a data read (`fetch_l2-good`), and the
 -- bytes come from an L2 line or from memory, of which every byte is held, seen or not.
 use Prim.Native.Nat.{ℕ, ◌+◌, ◌%◌, ◌≤◌, ◌<◌}
-use mathlib.Core.Bool.{true, cond}
-use mathlib.Core.Path.{◌≡◌, refl, sym, ap, ◌∙◌}
+use mathlib.Core.Bool.{true}
+use mathlib.Core.Path.{◌≡◌, refl, sym, ◌∙◌}
 use native.Mathlib.Omega.{arith}
 use lib.ListN.{length, get_or}
-use lib.Dec.{ltb, leb, eqb}
+use lib.Dec.{eqb}
 use borrow.Author.Tests.{eqb-true, leb-true, lt-ltb, le-ltb}
 use Rattle.model.specs.Memories.{external_base}
 use Rattle.model.specs.Lines.{l2_line}
@@ -14,9 +14,9 @@ use Rattle.model.specs.Records.{State, sram_of, l2_set_of}
 use Rattle.model.specs.Homes.{home_is_l2, memory_part, l2_way_for, fetch_l2}
 use Rattle.model.specs.Access.{Access, access, cacheable, read_frozen}
 use Rattle.model.specs.Fetches.{fetch_access, fetch_due}
-use Rattle.model.specs.Refusals.{unless, multiple_of, place_ok, lent_due}
+use Rattle.model.specs.Refusals.{unless, multiple_of, place_ok}
 use Rattle.model.specs.Calls.{Reply, fetch_due_in, fetch_behind_done, no_fetch, fetch_behind_step, fetch_behind_call}
-use Rattle.model.specs.Laws.{bool, cond-elim, lowest_due-none, unless-none}
+use Rattle.model.specs.Laws.{cond-elim, lowest_due-none, unless-none}
 use Rattle.agreement.proofs.Invariant.{Allowed}
 use Rattle.agreement.proofs.Memory.{Fits, read_length, read_at}
 use Rattle.agreement.proofs.Good.{layout_of, Good, Kept, kept_refl, Anything, Well, Hit, l2_level}

@@ -21,7 +21,7 @@ use model::{Command, Gone, Left};
 // What lies behind L1D for an address: whether the L2 cache is its home, and then the set and the way that have its
 // line; who serves it; and what is reported of the fetch (02, U2): which line left for it, and how many bytes of
 // external memory were read and written.
-#[derive(Drop)]
+#[derive(Clone, Copy)]
 pub struct Fetched {
     pub homed: bool,
     pub set: usize,

@@ -1,11 +1,11 @@
 -- 02, U2. Without the stretches that it moved, each step of Reports is 01's step: the cases of both are the same. And
 -- how many bytes a step that is made of others has read and stored: as many as these have.
-use Rattle.std.specs.Prelude.{ℕ, ◌+◌, cond, ◌≡◌, refl, List, [], ◌∷◌, ◌++◌, length, ltb}
+use Rattle.std.specs.Prelude.{ℕ, ◌+◌, ◌≡◌, refl, List, [], ◌∷◌, ◌++◌, length, ltb}
 use Rattle.std.proofs.Common.{sym, ap, ◌∙◌, add-zero, zero-add, add_assoc}
 use Rattle.model.specs.Memories.{external_base}
 use Rattle.model.specs.Laws.{cond-elim, cond_both}
 use Rattle.model.specs.Lines.{l1d_set_of, l1d_line, l2_line}
-use Rattle.model.specs.Records.{State, l2_set_of, l1d_set_at, l1d_line_at, l2_line_at}
+use Rattle.model.specs.Records.{State, l1d_set_at, l1d_line_at, l2_line_at}
 use Rattle.model.specs.Ways.{l1d_victim, in_l2, use_l2, empty_l1d, empty_l2}
 use Rattle.model.specs.Homes.{home_is_l2, put_memory, put_home, l2_way_for, write_out_l2, writeback_l2, evict_l2, fill_l2, bring_l2, fetch_l2}
 use Rattle.model.specs.Access.{writeback_l1d, evict_l1d}

@@ -23,7 +23,7 @@ use Rattle.model.specs.Refusals.{lowest_due, unless, place_ok, lent_due}
 use Rattle.model.specs.Unaligned.{bytes_placed}
 use Rattle.model.specs.Transfers.{transferred_in}
 use Rattle.model.specs.Commands.{block_end, lines_touched, each_l2, unless_mode0}
-use Rattle.model.specs.Calls.{Reply, replied, reply, refused, carried_out, command_due, read_done, write_done, command_state, accepted, step, call, unaligned_due_in, read_unaligned_done, write_unaligned_done, read_unaligned_step, write_unaligned_step, read_unaligned_call, write_unaligned_call, transfer_due_in, transfer_in_step, transfer_in_call}
+use Rattle.model.specs.Calls.{Reply, replied, refused, carried_out, command_due, read_done, write_done, command_state, accepted, step, call, unaligned_due_in, read_unaligned_done, write_unaligned_done, read_unaligned_step, write_unaligned_step, read_unaligned_call, write_unaligned_call, transfer_due_in, transfer_in_step, transfer_in_call}
 use Rattle.model.specs.declared.Command.{Command}
 use Rattle.model.specs.declared.L1dSet.{L1dSet}
 use Rattle.model.specs.declared.L2Set.{L2Set}

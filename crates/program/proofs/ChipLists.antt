@@ -3,37 +3,36 @@
 -- Why: what a fetch is served by L2, SRAM or external memory is flat memory's where nothing was written, whatever L1D
 -- holds above it (`unwritten-next`); L1P has what it was served, and flat memory has changed since then only where it
 -- was written, but for a mode change, which drops every line of L1P (`L1pRight`).
-use Prim.Native.Nat.{ℕ, suc, ◌+◌, ◌*◌, ◌/◌, ◌%◌, ◌≤◌, ◌<◌}
-use mathlib.Core.Bool.{Bool, true, false, cond, ◌&&◌, ◌||◌}
+use Prim.Native.Nat.{ℕ, ◌+◌, ◌*◌, ◌<◌}
+use mathlib.Core.Bool.{Bool, true, false, cond, ◌||◌}
 use mathlib.Core.Path.{◌≡◌, refl, sym, ap, ◌∙◌, subst, fun_ext}
 use mathlib.Core.Logic.{⊎_elim}
 use mathlib.Core.List.{List, [], ◌∷◌}
 use native.Mathlib.Omega.{arith}
-use lib.ListN.{length, get_or, set, replicate, length-replicate, get_or-replicate}
+use lib.ListN.{length, get_or, set, replicate, length-replicate}
 use lib.Dec.{eqb}
 use borrow.Author.Tests.{eqb-true, eqb-false}
 use Rattle.model.specs.Bytes.{part, stored}
-use Rattle.model.specs.Memories.{external_base, legal_l2, legal_external}
-use Rattle.model.specs.Lines.{l2_line, line_of, empty_line}
+use Rattle.model.specs.Memories.{legal_l2, legal_external}
+use Rattle.model.specs.Lines.{l2_line, line_of}
 use Rattle.model.specs.Records.{State, sram_of, fresh_record, fresh_state}
 use Rattle.model.specs.Access.{cacheable}
-use Rattle.model.specs.Fetches.{fetch_access, fetch_due}
 use Rattle.model.specs.Refusals.{mode_due, block_due}
 use Rattle.model.specs.Flat.{Flat, FlatReply, flat_reply, flat_handed_back, flat_part, fresh_flat, flat_due, flat_read, flat_write, flat_change, flat_step, flat_unaligned_due, flat_read_unaligned, flat_write_unaligned, flat_transfer_due, flat_transfer_in, flat_transfer_out, flat_fetch_due, flat_fetch, flat_called}
-use Rattle.model.specs.Calls.{Reply, refused, fresh_call, fetch_due_in, fetch_behind_done, fetch_behind_step, Call, one_command, fresh_start, look, read_unaligned, write_unaligned, transfer_in, transfer_out, fetch_behind, called}
-use Rattle.model.specs.Laws.{bool, false-true, both_true, cond-elim, cond_both, length_part, part_at}
+use Rattle.model.specs.Calls.{fetch_due_in, fetch_behind_done, fetch_behind_step, Call, one_command, fresh_start, look, read_unaligned, write_unaligned, transfer_in, transfer_out, fetch_behind, called}
+use Rattle.model.specs.Laws.{bool, false-true, both_true, cond-elim, length_part, part_at}
 use Rattle.model.specs.declared.Line.{Line}
 use Rattle.model.specs.declared.Command.{Command}
-use Rattle.agreement.specs.Covered.{remembered, is_accepted, transfer_joins, covered_by, covered_since}
-use Rattle.agreement.specs.Demand.{listed_call, compared, global, AgreesAt, Settled}
-use Rattle.agreement.proofs.Memory.{Fits, read_at}
+use Rattle.agreement.specs.Covered.{remembered, transfer_joins}
+use Rattle.agreement.specs.Demand.{listed_call, compared}
+use Rattle.agreement.proofs.Memory.{read_at}
 use Rattle.agreement.proofs.Good.{layout_of, Good, good-well, holds-tells}
 use Rattle.agreement.proofs.Fetches.{fetch-tells, fetch-fits, fetch-good, fetch-step}
 use Rattle.agreement.proofs.Changes.{fresh-l1d-empty, fresh-l2-empty}
 use Rattle.agreement.proofs.Uncached.{Told, told-next, told_none, covered_next, Reach, transfer-reach}
 use Rattle.agreement.proofs.Agreement.{flat_byte, Is, Matches, flat-fits, sram-below, call-agrees, call-matches, fresh-matches, fresh-accepted}
 use Rattle.program.specs.L1p.{l1p_set_of, l1p_line, l1p_data, l1p_at, in_l1p, fresh_l1p, l1p_length, invalidate_l1p_block}
-use Rattle.program.specs.Fetches.{Chip, chip, ChipReply, with_l1p, beside_l1p, fetch_hit, fetch_miss, fetch_done, fetch_step, refused_fetch}
+use Rattle.program.specs.Fetches.{Chip, chip, ChipReply, beside_l1p, fetch_hit, fetch_miss, fetch_done, fetch_step}
 use Rattle.program.specs.Chip.{l1p_block_call, l1p_all_call, fetch_call, ChipCall, on_data, fetch, l1p_block, l1p_all, chip_called}
 use Rattle.program.specs.Lists.{flat_chip, written_by, is_mode_change, written, as_calls, chip_joins, chip_joined, listed_chip, chip_listed, DataAgrees, FetchAgrees, ChipAgreesAt, ChipAgree, end, next, ChipDemand3, chip_remembered}
 use Rattle.program.proofs.Unwritten.{Unwritten, renewed, behind, unwritten-next}

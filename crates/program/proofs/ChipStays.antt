@@ -2,29 +2,27 @@
 -- stand, its bytes as many. Why: the data side does not see L1P, and what it may change of the places of L1P's lines
 -- is the layout, which a mode change and a MAR change alter alone: the first drops every line, the second is refused
 -- where it would leave one.
-use Prim.Native.Nat.{ℕ, zero, suc, ◌+◌, ◌*◌, ◌/◌, ◌%◌, ◌<◌}
+use Prim.Native.Nat.{ℕ, zero, suc}
 use mathlib.Core.Bool.{Bool, true, false, not, cond, ◌&&◌, ◌||◌}
 use mathlib.Core.Path.{◌≡◌, refl, sym, ap, ◌∙◌, subst}
 use mathlib.Core.Logic.{◌⊎◌, inl, inr}
 use mathlib.Core.List.{List}
 use native.Mathlib.Omega.{arith}
-use lib.ListN.{length, get_or, set, replicate, length-set, length-replicate}
+use lib.ListN.{length, set, length-set, length-replicate}
 use lib.Seq.{get_or-set_same, get_or-set_other}
 use lib.Dec.{ltb, leb, eqb}
 use borrow.Author.Tests.{eqb-true, eqb-false, eq-eqb, ne_eqb, leb-true}
-use Rattle.model.specs.Bytes.{little_bytes, stored}
+use Rattle.model.specs.Bytes.{little_bytes}
 use Rattle.model.specs.Memories.{external_base}
 use Rattle.model.specs.Lines.{line_of, empty_line}
-use Rattle.model.specs.Records.{State, sram_of, with_l2, with_external}
+use Rattle.model.specs.Records.{State, sram_of}
 use Rattle.model.specs.Homes.{put_memory}
 use Rattle.model.specs.Access.{cacheable}
 use Rattle.model.specs.Modes.{change_mode, change_mar}
-use Rattle.model.specs.Unaligned.{read_up, write_up}
 use Rattle.model.specs.Transfers.{sent_home, transferred_in, transferred_out}
-use Rattle.model.specs.Fetches.{fetch_access}
-use Rattle.model.specs.Refusals.{lowest_due, unless, multiple_of, place_ok, holds_range, mar_due, mode_due, block_due, view_due, view_lent_due, lent_due}
+use Rattle.model.specs.Refusals.{lowest_due, unless, multiple_of, place_ok, holds_range, mar_due, mode_due, block_due, view_due, view_lent_due}
 use Rattle.model.specs.Trace.{command}
-use Rattle.model.specs.Calls.{Reply, refused, carried_out, handed_back, command_due, command_state, accepted, step, call, fresh_ok, fresh_call, view_call, view_done, unaligned_due_in, read_unaligned_done, read_unaligned_step, read_unaligned_call, write_unaligned_done, write_unaligned_step, write_unaligned_call, transfer_due_in, transfer_in_step, transfer_in_call, transfer_out_step, transfer_out_call, fetch_due_in, fetch_behind_done, no_fetch, fetch_behind_step, fetch_behind_call, Call, one_command, fresh_start, look, read_unaligned, write_unaligned, transfer_in, transfer_out, fetch_behind, called}
+use Rattle.model.specs.Calls.{Reply, refused, carried_out, handed_back, command_due, command_state, accepted, step, call, fresh_ok, view_call, view_done, unaligned_due_in, read_unaligned_done, read_unaligned_step, write_unaligned_done, write_unaligned_step, transfer_due_in, transfer_in_step, transfer_out_step, fetch_due_in, fetch_behind_done, no_fetch, fetch_behind_step, Call, one_command, fresh_start, look, read_unaligned, write_unaligned, transfer_in, transfer_out, fetch_behind, called}
 use Rattle.model.specs.Laws.{bool, cond-elim, cond_both, both_true, false-true, length-stored, lowest_due-none}
 use Rattle.model.specs.declared.Line.{Line}
 use Rattle.model.specs.declared.Left.TheVariants.{NoWay}
@@ -37,11 +35,11 @@ use Rattle.agreement.proofs.Unaligned.{accepted-read-up, accepted-write-up, anyt
 use Rattle.agreement.proofs.Transfers.{sent-good, transfer-in-step, transfer-out-step}
 use Rattle.agreement.proofs.Fetches.{fetch-tells, fetch-good, fetch-step}
 use Rattle.agreement.proofs.Stays.{called-well}
-use Rattle.program.specs.L1p.{l1p_set_of, l1p_data, l1p_at, in_l1p, l1p_ok, fresh_l1p, l1p_holds_range, invalidate_l1p_block}
-use Rattle.program.specs.Fetches.{Chip, chip, ChipReply, with_l1p, beside_l1p, fetch_hit, fetch_miss, fetch_done, fetch_step, refused_fetch}
+use Rattle.program.specs.L1p.{l1p_set_of, l1p_data, l1p_at, in_l1p, l1p_ok, fresh_l1p, l1p_holds_range}
+use Rattle.program.specs.Fetches.{Chip, ChipReply, with_l1p, beside_l1p, fetch_hit, fetch_miss, fetch_done, fetch_step, refused_fetch}
 use Rattle.program.specs.Chip.{lines_after, chip_command_due, chip_step, chip_lent_due, chip_view_due, chip_fresh, chip_view, behind_checks, fetch_call, l1p_block_call, l1p_all_call, ChipCall, on_data, fetch, l1p_block, l1p_all, chip_called}
 use Rattle.program.specs.Lists.{is_mode_change}
-use Rattle.program.proofs.L1pLines.{L1pPlaced, L1pTidy, LineFits, Fewer, fewer-refl, fewer-command, fewer-own-block, fewer-own-all, tidy-fewer, tidy-fresh}
+use Rattle.program.proofs.L1pLines.{L1pPlaced, L1pTidy, Fewer, fewer-refl, fewer-command, fewer-own-block, fewer-own-all, tidy-fewer, tidy-fresh}
 use Rattle.program.proofs.L1pStays.{tidy-makes, layout-kept, tidy-mar}
 
 -- ---- a well-formed chip, and that checks 1 and 2 find nothing

@@ -3,20 +3,19 @@
 use Prim.Native.Nat.{ℕ, zero, suc, ◌+◌, ◌*◌, ◌/◌, ◌%◌, ◌≤◌, ◌<◌}
 use mathlib.Core.Bool.{Bool, true, false, cond, ◌||◌}
 use mathlib.Core.Path.{◌≡◌, refl, sym, ap, ◌∙◌}
-use mathlib.Core.Logic.{◌≢◌, ◌⊎◌, inl, inr, ⊎_elim}
+use mathlib.Core.Logic.{◌⊎◌, inl, inr, ⊎_elim}
 use mathlib.Core.List.{List}
 use native.Mathlib.Omega.{arith}
-use lib.ListN.{length, get_or, set, replicate, length-set, length-replicate, get_or-replicate}
+use lib.ListN.{length, length-set, length-replicate, get_or-replicate}
 use lib.Seq.{get_or-set_same, get_or-set_other}
-use lib.Dec.{ltb, eqb}
-use borrow.Author.Tests.{eqb-true, eqb-false, ltb-true, ltb-false}
+use lib.Dec.{eqb}
+use borrow.Author.Tests.{eqb-true, eqb-false}
 use Rattle.model.specs.Basics.{each}
 use Rattle.model.specs.Memories.{external_base}
-use Rattle.model.specs.Lines.{Kind, each_way, l2_line_length, empty_line}
+use Rattle.model.specs.Lines.{empty_line}
 use Rattle.model.specs.Records.{State, l2_kind_by, l2_line_at, mode0}
 use Rattle.model.specs.Ways.{in_l2}
 use Rattle.model.specs.Commands.{lines_touched}
-use Rattle.model.specs.Trace.{command}
 use Rattle.model.specs.Laws.{bool, cond-elim}
 use Rattle.model.specs.declared.Line.{Line}
 use Rattle.model.specs.declared.Command.{Command}

@@ -1,20 +1,19 @@
 -- The bytes of L1P's lines are flat memory's wherever nothing was written since (`L1pRight`), and stay so: when lines
 -- are dropped (`right-fewer`), when something else is written (`right-later`, `flat-kept`), and when a line comes whose
 -- bytes are so (`right-filled`). Why: L1P is written by a fetch alone, and flat memory by writes alone.
-use Prim.Native.Nat.{ℕ, ◌+◌, ◌*◌, ◌/◌, ◌%◌, ◌-◌, ◌≤◌, ◌<◌}
-use mathlib.Core.Bool.{Bool, true, false, cond, ◌&&◌}
+use Prim.Native.Nat.{ℕ, ◌+◌, ◌*◌, ◌-◌, ◌≤◌, ◌<◌}
+use mathlib.Core.Bool.{Bool, true, false, cond}
 use mathlib.Core.Path.{◌≡◌, refl, sym, ap, ◌∙◌, subst}
-use mathlib.Core.Logic.{◌≢◌, ⊎_elim}
+use mathlib.Core.Logic.{⊎_elim}
 use mathlib.Core.List.{List}
 use native.Mathlib.Omega.{arith}
 use lib.ListN.{length, get_or, set, get_or-replicate}
 use lib.Seq.{get_or-set_same, get_or-set_other}
-use lib.Dec.{leb, ltb, eqb}
-use borrow.Author.Tests.{eqb-true, eqb-false, le-leb, le-ltb, ltb-true, ltb-false}
+use lib.Dec.{eqb}
+use borrow.Author.Tests.{eqb-true, eqb-false, le-leb, ltb-false}
 use Rattle.model.specs.Bytes.{stored, little_bytes}
 use Rattle.model.specs.Lines.{line_of, empty_line}
-use Rattle.model.specs.Refusals.{mode_due}
-use Rattle.model.specs.Flat.{Flat, FlatReply, flat_reply, flat_handed_back, flat_put, flat_mode, flat_due, flat_read, flat_write, flat_change, flat_step, flat_unaligned_due, flat_read_unaligned, flat_write_unaligned, flat_transfer_due, flat_transfer_in, flat_transfer_out, flat_fetch_due, flat_fetch, flat_called}
+use Rattle.model.specs.Flat.{Flat, FlatReply, flat_put, flat_due, flat_read, flat_write, flat_step, flat_unaligned_due, flat_read_unaligned, flat_write_unaligned, flat_transfer_due, flat_transfer_in, flat_transfer_out, flat_fetch_due, flat_fetch, flat_called}
 use Rattle.model.specs.Calls.{Call, one_command, fresh_start, look, read_unaligned, write_unaligned, transfer_in, transfer_out, fetch_behind}
 use Rattle.model.specs.Laws.{bool, cond-elim, false-true, length-little_bytes}
 use Rattle.model.specs.declared.Line.{Line}

@@ -1,13 +1,13 @@
 -- L1P's lines stay as they may stand (`L1pTidy`) through every command. Why: only a mode change and a change of a MAR
 -- bit change what fixes where lines may stand (`layout-kept`); the first drops them all, and a bit is cleared only
 -- where no line of its range is held (`tidy-mar`). And the test of check 2 is this (`tidy-tells`, `tidy-makes`).
-use Prim.Native.Nat.{ℕ, zero, suc, ◌+◌, ◌*◌, ◌/◌, ◌%◌, ◌≤◌, ◌<◌}
-use mathlib.Core.Bool.{Bool, true, false, not, cond, ◌&&◌, ◌||◌}
-use mathlib.Core.Path.{◌≡◌, refl, sym, ap, ◌∙◌, subst}
+use Prim.Native.Nat.{ℕ, zero, suc, ◌+◌, ◌/◌, ◌%◌, ◌≤◌, ◌<◌}
+use mathlib.Core.Bool.{Bool, true, false, not, cond}
+use mathlib.Core.Path.{◌≡◌, refl, sym, ap, ◌∙◌}
 use mathlib.Core.Logic.{◌⊎◌, ⊎_elim}
 use mathlib.Core.List.{List, [], ◌∷◌}
 use native.Mathlib.Omega.{arith}
-use lib.ListN.{length, get_or}
+use lib.ListN.{length}
 use lib.Dec.{ltb, leb, eqb}
 use borrow.Author.Tests.{eqb-true, eqb-false, eq-eqb, lt-ltb, le-ltb, ltb-true, ltb-false, leb-true, le-leb}
 use Rattle.model.specs.Basics.{any_of}
@@ -15,9 +15,8 @@ use Rattle.model.specs.Bytes.{little_bytes}
 use Rattle.model.specs.Memories.{external_base}
 use Rattle.model.specs.Lines.{empty_line}
 use Rattle.model.specs.Records.{State, sram_of, covers, mar_bit, in_sram, in_cacheable, empty_way}
-use Rattle.model.specs.Access.{read_access, write_access}
 use Rattle.model.specs.Modes.{change_mar, change_freeze}
-use Rattle.model.specs.Commands.{l2_writeback_all, l2_writeback_invalidate_all, l2_writeback_block, l2_writeback_invalidate_block, l1d_writeback_invalidate_block}
+use Rattle.model.specs.Commands.{l2_writeback_block, l2_writeback_invalidate_block, l1d_writeback_invalidate_block}
 use Rattle.model.specs.Refusals.{in_range, access_due, block_due, freeze_due}
 use Rattle.model.specs.Trace.{command}
 use Rattle.model.specs.Calls.{Reply, refused, carried_out, command_due, read_done, write_done, command_state, accepted, step}
@@ -25,7 +24,6 @@ use Rattle.model.specs.Laws.{bool, cond-elim, both_true, false-true}
 use Rattle.model.specs.declared.Line.{Line}
 use Rattle.model.specs.declared.Command.{Command}
 use Rattle.model.specs.declared.Record.{Record}
-use Rattle.agreement.proofs.Invariant.{Layout}
 use Rattle.agreement.proofs.Good.{layout_of, Anything, Well}
 use Rattle.agreement.proofs.Due.{accepted-read, accepted-write}
 use Rattle.agreement.proofs.Steps.{codes, dropped-6, dropped-8, dropped-9, other-code}

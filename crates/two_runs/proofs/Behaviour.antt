@@ -16,7 +16,7 @@ use Rattle.model.specs.Refusals.{lent_l1d, lent_l2, lent_external, lent_due, vie
 use Rattle.model.specs.Unaligned.{read_up}
 use Rattle.model.specs.Transfers.{sent_home, transferred_in, transferred_out}
 use Rattle.model.specs.Trace.{command}
-use Rattle.model.specs.Calls.{Reply, refused, carried_out, step, call, fresh_ok, fresh_call, view_done, unaligned_due_in, read_unaligned_done, write_unaligned_done, read_unaligned_step, write_unaligned_step, read_unaligned_call, write_unaligned_call, transfer_due_in, handed_back, transfer_in_step, transfer_in_call, transfer_out_step, transfer_out_call, fetch_due_in, no_fetch, fetch_behind_done, fetch_behind_step, fetch_behind_call, Call, one_command, fresh_start, look, read_unaligned, write_unaligned, transfer_in, transfer_out, fetch_behind, called}
+use Rattle.model.specs.Calls.{Reply, refused, carried_out, step, call, fresh_ok, fresh_call, view_done, unaligned_due_in, read_unaligned_done, write_unaligned_done, read_unaligned_step, write_unaligned_step, read_unaligned_call, write_unaligned_call, transfer_due_in, handed_back, transfer_in_step, transfer_in_call, transfer_out_step, transfer_out_call, fetch_due_in, no_fetch, fetch_behind_done, fetch_behind_step, fetch_behind_call, Call, fresh_start, look, called}
 use Rattle.model.specs.Laws.{length-little_bytes, cond_both}
 use Rattle.two_runs.specs.TwoRuns.{SameButStored, FitAlike, SameButWritten, same_command, same_start, same_look, same_read, same_write, same_in, same_out, same_fetch, ListsSameButWritten, Shared, SharedAlong, SameBehaviour}
 use Rattle.two_runs.specs.TwoRuns as Says

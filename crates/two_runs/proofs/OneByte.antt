@@ -2,7 +2,7 @@
 -- does not stand for address x. Why: `call-both` with the relation of bytes that are equal but for address x; a fresh
 -- start leaves no line and SRAM zero; a view shows a stretch of SRAM or of external memory, and so does a transfer out.
 use Prim.Native.Nat.{ℕ, zero, suc, ◌+◌, ◌*◌, ◌/◌, ◌<◌}
-use mathlib.Core.Bool.{true, false}
+use mathlib.Core.Bool.{true}
 use mathlib.Core.Path.{◌≡◌, refl, sym, ap, ◌∙◌}
 use mathlib.Core.List.{List, [], ◌∷◌}
 use native.Mathlib.Omega.{arith}
@@ -12,7 +12,7 @@ use borrow.Author.Tests.{ltb-true, ltb-false}
 use Rattle.model.specs.Bytes.{little, little_bytes}
 use Rattle.model.specs.Records.{State, with_record, l1d_line_at, l2_line_at, fresh_l1d_set, fresh_l2_set, fresh_record, fresh_state}
 use Rattle.model.specs.Trace.{command}
-use Rattle.model.specs.Calls.{Reply, call, fresh_ok, fresh_call, view_done, read_unaligned_call, write_unaligned_call, transfer_in_call, transfer_out_call, fetch_behind_call, Call, one_command, fresh_start, look, read_unaligned, write_unaligned, transfer_in, transfer_out, fetch_behind, called}
+use Rattle.model.specs.Calls.{Reply, call, fresh_call, view_done, read_unaligned_call, write_unaligned_call, transfer_in_call, transfer_out_call, fetch_behind_call, Call, one_command, fresh_start, look, read_unaligned, write_unaligned, transfer_in, transfer_out, fetch_behind, called}
 use Rattle.model.specs.Laws.{bool, false-true, length-little_bytes}
 use Rattle.model.specs.declared.Line.{Line}
 use Rattle.agreement.proofs.Tables.{l1d_store, l2_store, fresh-line}

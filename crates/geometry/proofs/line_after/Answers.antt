@@ -1,7 +1,6 @@
 -- `geometry::line_after` meets its contract: a line that a block touches has a 32-bit address.
 use Prim.Native.Nat.{◌<◌}
 use native.Mathlib.Omega.{arith}
-use lib.ListN.{length}
 use Rattle.geometry.specs.Blocks.{touched-small, number_small}
 use Rattle.geometry.proofs.line_after.Goals as goal
 

@@ -3,7 +3,6 @@ use Rattle.memory.specs.Copied.{cleared-none, cleared-next, cleared-all, cleared
 use lib.ListN.{length, length-set}
 use native.Mathlib.Omega.{arith}
 use mathlib.Core.Path.{◌≡◌, refl, ◌∙◌}
-use Prim.Native.Nat.{◌-◌}
 use borrow.Author.Rules.{rules}
 use Rattle.memory.proofs.clear_from.Goals as goal
 

@@ -1,6 +1,5 @@
 -- `memory::copy` meets its contract: the bytes are replaced one by one, and the source has as many as there are.
 use mathlib.Core.Path.{◌≡◌, refl, ap, ◌∙◌}
-use Prim.Native.Nat.{◌-◌}
 use native.Mathlib.Omega.{arith}
 use lib.ListN.{length, length-set}
 use Rattle.memory.specs.Copied.{copied, copied-zero, copied_next, copied_all}

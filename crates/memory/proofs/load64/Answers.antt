@@ -1,6 +1,6 @@
 -- `memory::load64` meets its contract: the array is filled from the front.
 use mathlib.Core.Path.{◌≡◌, ap, ◌∙◌}
-use Prim.Native.Nat.{ℕ, ◌-◌}
+use Prim.Native.Nat.{ℕ}
 use native.Mathlib.Omega.{arith}
 use lib.ListN.{length-set, length-replicate, replicate}
 use Rattle.memory.specs.Copied.{copied, copied-zero, copied_next, filled}

@@ -28,5 +28,8 @@ returns c =
     sym c.fits.ensures ∙ c.if-not-fits.false in
     let inside : (let a = c.args in Inside a.dst.now a.src.now a.a a.b 128) =
     both-inside _ _ _ _ 128 (has) (sym c.fits-2.ensures ∙ c.if-not-fits-2.false) in
-    let a = c.args in let h = inside in record { dst_after = c.move64-2.ensures.dst_after ∙ ap (λ (m : List ℕ). stored m (a.a + 64) (part a.src.now (a.b + 64) 64)) c.move64.ensures.dst_after
-          ∙ moved-both a.dst.now a.src.now a.a a.b 64 64 h.to h.from; told = (told_in _ _ _ _ 128 h, omega arith) }
+    let a = c.args in let h = inside in record {
+      dst_after = c.move64-2.ensures.dst_after ∙ ap (λ (m : List ℕ). stored m (a.a + 64) (part a.src.now (a.b + 64) 64)) c.move64.ensures.dst_after
+          ∙ moved-both a.dst.now a.src.now a.a a.b 64 64 h.to h.from;
+      told = (told_in _ _ _ _ 128 h, omega arith);
+    }

@@ -1,6 +1,5 @@
 -- `memory::store64` meets its contract: the first bytes are replaced one by one.
 use mathlib.Core.Path.{◌≡◌, refl}
-use Prim.Native.Nat.{◌-◌}
 use native.Mathlib.Omega.{arith}
 use lib.ListN.{length-set}
 use Rattle.memory.specs.Copied.{copied-zero, copied_next}

@@ -1,7 +1,7 @@
 -- `geometry::L2::sets` meets its contract: each case of the code is a case of `cache_size`, by 512; a number that none
 -- names has no sets.
 use Rattle.model.specs.Memories.{cache_size}
-use Rattle.std.proofs.Common.{refl, rules, arith, sym, ap, ℕ, ◌/◌, ◌≢◌}
+use Rattle.std.proofs.Common.{refl, arith, sym, ap, ℕ, ◌/◌, ◌≢◌}
 use Rattle.geometry.specs.Geometry.{no-cache}
 use Rattle.geometry.proofs.L2.sets.Goals as goal
 
