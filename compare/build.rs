@@ -1,5 +1,5 @@
-//! Links the static library of the boundary. It stands in target/staticlib of
-//! the repository, or in the folder that BOUNDARY_LIB_DIR names.
+//! Links the static library of the boundary. It stands in the folder out/ of its
+//! crate, crates/boundary, or in the folder that BOUNDARY_LIB_DIR names.
 
 use std::env;
 use std::path::PathBuf;
@@ -10,7 +10,7 @@ fn main() {
         Some(folder) => PathBuf::from(folder),
         None => {
             let here = env::var_os("CARGO_MANIFEST_DIR").expect("cargo names the package's folder");
-            PathBuf::from(here).join("..").join("target").join("staticlib")
+            PathBuf::from(here).join("..").join("crates").join("boundary").join("out")
         }
     };
     let archive = folder.join("libboundary.a");

@@ -72,7 +72,8 @@
  * STACK. A call needs at most C64X_STACK_BYTES of stack. That leaves room to grow: no call was measured to take more
  * than 2,264 bytes. `sh bench/stack` measures each of them, and fails where one takes more than is said here.
  *
- * LINKING. The functions stand in target/staticlib/libboundary.a (64-bit x86), which `rt staticlib boundary` writes.
+ * LINKING. The functions stand in crates/boundary/out/libboundary.a (64-bit x86), which `rt lib --cpu=x86-64`, run in
+ * crates/boundary, writes. (Without that word rt builds for x86-64-v2, which older processors lack.)
  * They call nothing but memcpy and memset of the C library: no allocation, no files, no signals.
  */
 #ifndef C64X_H

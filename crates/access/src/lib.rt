@@ -25,7 +25,7 @@ use model::{Command, Left};
 // What a call answers: the number of its refusal (0: accepted), who served it, and the value that was read. And what an
 // access reports (02, U2): which line left a way of L1D and of L2 for it, and how many bytes of external memory it read
 // and wrote.
-#[derive(Drop)]
+#[derive(Clone, Copy)]
 pub struct Answer {
     pub value: u64,
     pub number: u8,
@@ -104,7 +104,7 @@ pub fn hit(tags: &mut [u32], i: usize, w: usize, c: Command, l1d: &mut [u8]) -> 
 
 // ---- a miss
 // A way of L1D that was emptied, or none: which line left it, and how many bytes of it went to external memory.
-#[derive(Drop)]
+#[derive(Clone, Copy)]
 pub struct Room {
     pub way: usize,
     pub left: Left,

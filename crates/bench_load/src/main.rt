@@ -15,7 +15,7 @@ use std::io;
 const FRESH: u8 = 255;
 
 // A number of the command line.
-#[derive(Drop)]
+#[derive(Clone, Copy)]
 struct Given {
     fine: bool,
     value: u64,

@@ -24,7 +24,7 @@ use program::ChipRecord;
 
 // What a call returns: the number of its refusal (0: accepted), the server and the value of an access, what an access
 // reports (02, U2), and the record after it.
-#[derive(Drop)]
+#[derive(Clone, Copy)]
 pub struct Called {
     pub number: u8,
     pub server: u8,
@@ -38,7 +38,7 @@ pub struct Called {
 
 // What a fetch returns (02, U4): number and server, what it reports, the bytes of its line (zero where it is refused),
 // and the record after it.
-#[derive(Drop)]
+#[derive(Clone, Copy)]
 pub struct FetchResult {
     pub number: u8,
     pub server: u8,
@@ -52,7 +52,7 @@ pub struct FetchResult {
 
 // What a frame returns: the number of its refusal (0: accepted), whose turn is next, the sums of the columns, and the
 // record after it.
-#[derive(Drop)]
+#[derive(Clone, Copy)]
 pub struct FrameResult {
     pub number: u8,
     pub turn: u8,
@@ -62,7 +62,7 @@ pub struct FrameResult {
 
 // What a run returns: the record, the bytes of the trace that were consumed, the count of answers, and why it stopped
 // (0: at the end).
-#[derive(Drop)]
+#[derive(Clone, Copy)]
 pub struct RunResult {
     pub record: ChipRecord,
     pub consumed: usize,

@@ -15,14 +15,14 @@ use model::Left;
 
 // What left a way: 0 no way was chosen, 1 it was empty, 2 a clean line, 3 a dirty one, and the line's address.
 #[repr(C)]
-#[derive(Drop)]
+#[derive(Clone, Copy)]
 pub struct CLeft {
     pub address: u32,
     pub kind: u8,
 }
 
 #[repr(C)]
-#[derive(Drop)]
+#[derive(Clone, Copy)]
 pub struct CAnswer {
     pub value: u64,
     pub number: u8,
@@ -35,7 +35,7 @@ pub struct CAnswer {
 
 // What a fetch gives C: its answer, what left its L1P way, and the 32 bytes.
 #[repr(C)]
-#[derive(Drop)]
+#[derive(Clone, Copy)]
 pub struct CFetched {
     pub answer: CAnswer,
     pub l1p_left: CLeft,

@@ -107,7 +107,7 @@ pub fn fresh(
 // What a run returns: the bytes of the trace that were consumed, the count of answers, and why it stopped (0: at the
 // end). C is given it as it stands.
 #[repr(C)]
-#[derive(Drop)]
+#[derive(Clone, Copy)]
 pub struct Ran {
     pub consumed: usize,
     pub count: usize,

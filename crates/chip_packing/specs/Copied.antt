@@ -1,7 +1,7 @@
 -- What the loop that puts L1P's lines into the words keeps after s of them: the first s lines are in place
 -- (`Filling`, crate lists), and the words of the data side are as they were. Over plain words.
 use Rattle.std.specs.Prelude.{ℕ, ◌+◌, ◌≤◌, ◌<◌, List, ◌≡◌, refl, length, set}
-use Rattle.std.proofs.Common.{sym, ap, ◌∙◌, arith, ext_get_or}
+use Rattle.std.proofs.Common.{sym, ◌∙◌, arith, ext_get_or}
 use Rattle.lists.specs.Filled.{Filling, filling-next}
 use Rattle.model.specs.Lines.{empty_line}
 use Rattle.model.specs.declared.Line.{Line}

@@ -7,7 +7,7 @@ ghost use Rattle.decode.specs.Codes.{numbers_behind, DecodedAt};
 use model::Command;
 
 // The command at a place of a trace, and how many bytes it takes; not ok where the trace is damaged.
-#[derive(Drop)]
+#[derive(Clone, Copy)]
 pub struct Decoded {
     pub ok: bool,
     pub command: Command,

@@ -25,7 +25,7 @@ use geometry::{L1p, L2};
 use model::Left;
 
 // What a fetch answers: number, server and report as an access has them, what left its L1P way, and the line's bytes.
-#[derive(Drop)]
+#[derive(Clone, Copy)]
 pub struct Fetched {
     pub answer: Answer,
     pub l1p_left: Left,
@@ -198,7 +198,7 @@ fn miss(
 
 // ---- the whole
 // What the data side's record says of an address, and its sizes.
-#[derive(Drop)]
+#[derive(Clone, Copy)]
 struct Asked {
     due: u8,
     cacheable: bool,

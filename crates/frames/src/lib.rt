@@ -32,7 +32,7 @@ const ANSWER: usize = 10;
 // What a frame returns: the number of its refusal (0: accepted), whose turn is next, and the sums of the columns. C is
 // given it as it stands.
 #[repr(C)]
-#[derive(Drop)]
+#[derive(Clone, Copy)]
 pub struct Framed {
     pub number: u8,
     pub turn: u8,

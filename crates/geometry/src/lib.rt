@@ -14,13 +14,13 @@ ghost use Rattle.geometry.specs.Blocks.{line_after};
 use model::{Left, Line};
 
 // ---- the kinds of the three caches: line length, ways and sets are theirs
-#[derive(Drop)]
+#[derive(Clone, Copy)]
 pub struct L1d {}
 
-#[derive(Drop)]
+#[derive(Clone, Copy)]
 pub struct L2 {}
 
-#[derive(Drop)]
+#[derive(Clone, Copy)]
 pub struct L1p {}
 
 impl L1d {

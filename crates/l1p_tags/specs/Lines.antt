@@ -1,7 +1,7 @@
 -- The chip that lent words stand for (02, U4): "the record carries its lines": behind the words of the data side two
 -- words for each set of L1P, mark and address of its line. Every law about these words ends here.
-use Rattle.std.specs.Prelude.{ℕ, ◌+◌, ◌*◌, ◌-◌, ◌/◌, ◌%◌, ◌≤◌, ◌<◌, ◌≡◌, refl, ◌≢◌, cond, ◌&&◌, List, ◌++◌, length, get_or, set, take, drop, eqb, ltb}
-use Rattle.std.proofs.Common.{sym, ap, ◌∙◌, arith, length-set, get_or-set_same, get_or-set_other, get_or-take, get_or-drop, get_or-append-add, length-take-le}
+use Rattle.std.specs.Prelude.{ℕ, ◌+◌, ◌*◌, ◌-◌, ◌/◌, ◌%◌, ◌≤◌, ◌<◌, ◌≡◌, ◌≢◌, List, ◌++◌, length, set, take, drop, eqb}
+use Rattle.std.proofs.Common.{ap, ◌∙◌, arith, length-set, get_or-set_same, get_or-set_other, get_or-take, get_or-drop, get_or-append-add, length-take-le}
 use Rattle.std.proofs.Math.ListN.{get_or-append}
 use Rattle.lists.specs.Listed.{listed, listed-get, listed_same, listed-few, listed-set, length-listed}
 use Rattle.model.specs.Lines.{empty_line}

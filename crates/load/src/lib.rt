@@ -15,7 +15,7 @@ use model::Command;
 
 // How many bytes the trace has, and the number.
 #[repr(C)]
-#[derive(Drop)]
+#[derive(Clone, Copy)]
 pub struct Load {
     pub length: usize,
     pub number: u8,

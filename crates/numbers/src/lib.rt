@@ -7,7 +7,7 @@ ghost use Rattle.model.specs.Trace.{number_below};
 ghost use Rattle.numbers.specs.Told.{told};
 
 // A number at a place of a trace, and how many bytes it takes; not ok where there is none.
-#[derive(Drop)]
+#[derive(Clone, Copy)]
 pub struct Number {
     pub ok: bool,
     pub value: u64,

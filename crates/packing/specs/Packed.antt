@@ -1,6 +1,6 @@
 -- The record by value and the words that stand for it: an array that is filled with what the words give, and words
 -- that are stored set by set.
-use Rattle.std.specs.Prelude.{ℕ, suc, ◌+◌, ◌*◌, ◌/◌, ◌%◌, ◌≤◌, ◌<◌, Bool, true, false, cond, List, [], ◌∷◌, ◌++◌, ◌≢◌, ◌≡◌, length, get_or, set, take, drop, replicate, ltb, eqb}
+use Rattle.std.specs.Prelude.{ℕ, suc, ◌+◌, ◌*◌, ◌/◌, ◌%◌, ◌≤◌, ◌<◌, Bool, true, false, cond, List, [], ◌∷◌, ◌++◌, ◌≢◌, ◌≡◌, length, get_or, set, take, drop, replicate, eqb}
 use Rattle.std.proofs.Common.{append-nil, sym, ap, ◌∙◌, arith, add-one, length-set, drop_of_length-le, get_or-set_same, get_or-set_other, set-set, drop-cons, take-suc, take_all, length-take-le, lt-ltb}
 use Rattle.std.proofs.Math.Path.{refl}
 use Rattle.std.proofs.lemmas.List.{set_at}

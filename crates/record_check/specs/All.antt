@@ -1,6 +1,6 @@
 -- All sets, and the words as a whole: how a loop goes over the sets, what it has found at its end, and the number due.
 use Prim.Native.Nat.{ℕ, zero, suc, ◌+◌, ◌-◌, ◌/◌, ◌%◌, ◌≤◌, ◌<◌}
-use Rattle.std.specs.Prelude.{Bool, true, ◌&&◌, List, ◌≡◌, length, ltb}
+use Rattle.std.specs.Prelude.{Bool, true, ◌&&◌, List, ◌≡◌, length}
 use Rattle.std.proofs.Math.Bool.{false, and_assoc, and-true, and-false}
 use Rattle.std.proofs.Math.Path.{refl, sym, ap}
 use Rattle.std.proofs.Common.{◌∙◌, add-one}

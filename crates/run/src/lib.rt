@@ -24,7 +24,7 @@ use geometry::L2;
 use model::Command;
 
 // How far a run came, and why it stopped; of one given command the answer.
-#[derive(Drop)]
+#[derive(Clone, Copy)]
 pub struct Ended {
     pub consumed: usize,
     pub count: usize,

@@ -11,7 +11,7 @@ use model::Command;
 
 // The run of a number: four digits, those behind its length being 0.
 #[repr(C)]
-#[derive(Drop)]
+#[derive(Clone, Copy)]
 pub struct ShortRun {
     pub number: u8,
     pub length: u8,
@@ -20,14 +20,14 @@ pub struct ShortRun {
 
 // The number of a run.
 #[repr(C)]
-#[derive(Drop)]
+#[derive(Clone, Copy)]
 pub struct RunNumber {
     pub number: u8,
     pub run: u32,
 }
 
 // Of a number: how long its run is, how many runs as long come before it, and how many are as long.
-#[derive(Drop)]
+#[derive(Clone, Copy)]
 struct Place {
     length: usize,
     value: u32,

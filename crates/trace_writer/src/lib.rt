@@ -11,7 +11,7 @@ ghost use Rattle.trace_writer.specs.Told.{told, wrote, reached};
 
 // The point behind what is written, and the number.
 #[repr(C)]
-#[derive(Drop)]
+#[derive(Clone, Copy)]
 pub struct Put {
     pub at: usize,
     pub number: u8,

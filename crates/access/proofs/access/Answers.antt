@@ -20,8 +20,11 @@ returns-then-due-ne0 c =
     let a = c.args in state (record_in a.tags.now) a.l1d.now a.l2.now a.ext.now in
     let due : (c.access_due-due.result ≡ command_due c.args.c (start)) =
     let a = c.args in let k = c.requires in let x = c.extlen_of in let v = c.checked_value in let n = c.access_due-due in
-    due-is a.c (start) n.result a.sram x.result v.result k.code_bound k.lent.1.1.0 x.ensures v.ensures n.ensures in record { ext_after = ap (λ (q : Answer). answer_of q (start)) c.plain.ensures
-          ∙ step-refused c.args.c (start) c.access_due-due.result (due) c.if-due-ne0.true; refused = λ _. refl }
+    due-is a.c (start) n.result a.sram x.result v.result k.code_bound k.lent.1.1.0 x.ensures v.ensures n.ensures in record {
+      ext_after = ap (λ (q : Answer). answer_of q (start)) c.plain.ensures
+          ∙ step-refused c.args.c (start) c.access_due-due.result (due) c.if-due-ne0.true;
+      refused = λ _. refl;
+    }
 
 -- ---- past the caches
 pub uncached-requires : goal.uncached-requires

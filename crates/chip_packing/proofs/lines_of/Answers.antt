@@ -1,5 +1,4 @@
 -- `chip_packing::lines_of` meets its contract: the lines of the sets passed so far are in the array (`Filling`).
-use Prim.Native.Nat.{◌-◌}
 use mathlib.Core.Path.{◌∙◌}
 use native.Mathlib.Omega.{arith}
 use Rattle.lists.specs.Filled.{filling-first, filling-next, filling-last}

@@ -1,6 +1,5 @@
 -- `chip_packing::put_lines` meets its contract: the lines of the sets passed so far are in the words (`Copying`), in
 -- the end all are (`whole`).
-use Prim.Native.Nat.{◌-◌}
 use lib.ListN.{length}
 use mathlib.Core.Path.{◌≡◌, ◌∙◌}
 use borrow.Author.Rules.{rules}

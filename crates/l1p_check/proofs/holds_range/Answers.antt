@@ -3,7 +3,6 @@ use Rattle.mar_check.specs.Range.{some_from, some_next, some-hit, some_end}
 use Rattle.l1p_check.specs.Sets.{l1p_range_in, range_at, range_all}
 use mathlib.Core.Bool.{true, false}
 use native.Mathlib.Omega.{arith}
-use Prim.Native.Nat.{◌-◌}
 use mathlib.Core.Path.{refl, ◌∙◌}
 use borrow.Author.Rules.{rules}
 use Rattle.l1p_check.proofs.holds_range.Goals as goal

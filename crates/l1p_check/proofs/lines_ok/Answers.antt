@@ -7,7 +7,6 @@ use Rattle.l1p_tags.specs.Lines.{lent-record, lent_length}
 use Rattle.l1p_check.specs.Sets.{l1p_ok_in, ok_at, ok-all}
 use mathlib.Core.Bool.{true, false}
 use native.Mathlib.Omega.{arith}
-use Prim.Native.Nat.{◌-◌}
 use mathlib.Core.Path.{refl, sym, ap, ◌∙◌}
 use borrow.Author.Rules.{rules}
 use Rattle.l1p_check.proofs.lines_ok.Goals as goal

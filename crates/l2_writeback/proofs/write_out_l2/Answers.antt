@@ -22,5 +22,8 @@ pub returns : goal.returns
 returns c =
     let a = c.args in let h = c.requires in let r = record_in a.tags.now in
     let x = c.l2_line-x in let o = c.external_place in let q = c.data_at in let m = c.move128-n in
-    let k = not-false x.result.valid c.if-not-x.false in let y = not-false x.result.dirty c.if-not-x-2.false in record { by_index = λ d. out-dirty r (record_in c.l2_put.new.tags) d a.l2.now a.ext.now m.new.dst a.t a.v a.sram a.sets q.result
-          o.result x.result c.line_at.result x.ensures k y h.lent.1.1.0 h.lent.1.1.1 q.ensures.0 o.ensures.0 m.ensures.dst_after c.line_at.ensures c.l2_put.ensures; told = (λ d. told-dirty (state r d a.l2.now a.ext.now) a.t a.v a.sram a.sets q.result o.result m.result x.result x.ensures k y h.lent.1.1.0 h.lent.1.1.1 q.ensures.0 o.ensures.0 m.ensures.told.0, m.ensures.told.1) }
+    let k = not-false x.result.valid c.if-not-x.false in let y = not-false x.result.dirty c.if-not-x-2.false in record {
+      by_index = λ d. out-dirty r (record_in c.l2_put.new.tags) d a.l2.now a.ext.now m.new.dst a.t a.v a.sram a.sets q.result
+          o.result x.result c.line_at.result x.ensures k y h.lent.1.1.0 h.lent.1.1.1 q.ensures.0 o.ensures.0 m.ensures.dst_after c.line_at.ensures c.l2_put.ensures;
+      told = (λ d. told-dirty (state r d a.l2.now a.ext.now) a.t a.v a.sram a.sets q.result o.result m.result x.result x.ensures k y h.lent.1.1.0 h.lent.1.1.1 q.ensures.0 o.ensures.0 m.ensures.told.0, m.ensures.told.1);
+    }

@@ -36,6 +36,9 @@ returns c =
     let h = c.take_half in let z₁ = state (record_in h.new.tags) d h.new.l2 e in
     let g = c.take_upper in let z₂ = state (record_in g.new.tags) d g.new.l2 e in
     let o = c.write_out_l2-n in let x = c.l2_line-x in let y = c.l2_line in let l = c.left_by-k in
-    let u = upper_half x.result.address in let v = not-false x.result.valid c.if-not-x.false in record { ext_after = back-all z z₁ z₂ (state (record_in o.new.tags) d z₂.l2 o.new.ext) a.t a.v u x.result x.ensures v refl
-          (h.ensures e) (g.ensures e) (o.ensures.by_index d); told = gone-all z z₁ z₂ a.t a.v u o.result x.result y.result l.result _ x.ensures v refl
-          (h.ensures e) (g.ensures e) y.ensures l.ensures (o.ensures.told.0 d, o.ensures.told.1) refl }
+    let u = upper_half x.result.address in let v = not-false x.result.valid c.if-not-x.false in record {
+      ext_after = back-all z z₁ z₂ (state (record_in o.new.tags) d z₂.l2 o.new.ext) a.t a.v u x.result x.ensures v refl
+          (h.ensures e) (g.ensures e) (o.ensures.by_index d);
+      told = gone-all z z₁ z₂ a.t a.v u o.result x.result y.result l.result _ x.ensures v refl
+          (h.ensures e) (g.ensures e) y.ensures l.ensures (o.ensures.told.0 d, o.ensures.told.1) refl;
+    }

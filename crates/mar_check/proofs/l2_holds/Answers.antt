@@ -1,7 +1,6 @@
 -- `range_check::l2_holds` meets its contract: the sets passed so far hold no such line. Assumes nothing.
 use Rattle.mar_check.specs.Range.{some_from, l2_range_in, some_next, some-hit, some_end}
 use native.Mathlib.Omega.{arith}
-use Prim.Native.Nat.{◌-◌}
 use mathlib.Core.Path.{refl, sym, ◌∙◌}
 use borrow.Author.Rules.{rules}
 use Rattle.mar_check.proofs.l2_holds.Goals as goal

@@ -5,7 +5,6 @@ use Rattle.tags.specs.Words.{record_in}
 use Rattle.packing.specs.Packed.{l2-long, l2-first, l2-next, l2-last}
 use native.Mathlib.Omega.{arith}
 use lib.ListN.{replicate, length-replicate, get_or-replicate}
-use Prim.Native.Nat.{◌-◌}
 use mathlib.Core.Path.{refl, sym, ◌∙◌}
 use borrow.Author.Rules.{rules}
 use Rattle.packing.proofs.fresh_l2.Goals as goal

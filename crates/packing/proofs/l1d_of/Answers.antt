@@ -3,7 +3,6 @@ use Rattle.model.specs.Records.{no_l1d_set}
 use Rattle.tags.specs.Words.{l1d_in}
 use Rattle.lists.specs.Filled.{filling-first, filling-next, filling-last}
 use native.Mathlib.Omega.{arith}
-use Prim.Native.Nat.{◌-◌}
 use Rattle.packing.proofs.l1d_of.Goals as goal
 
 pub loop-i-init : goal.loop-i-init

@@ -3,7 +3,6 @@ use Rattle.model.specs.Records.{no_l2_set}
 use Rattle.tags.specs.Words.{l2_in}
 use Rattle.lists.specs.Filled.{filling-first, filling-next, filling-last}
 use native.Mathlib.Omega.{arith}
-use Prim.Native.Nat.{◌-◌}
 use Rattle.packing.proofs.l2_of.Goals as goal
 
 pub loop-j-init : goal.loop-j-init

@@ -4,7 +4,6 @@ use Rattle.tags.specs.Words.{record_in}
 use Rattle.packing.specs.Packed.{l1d-long, l1d-first, l1d-next, l1d-last}
 use native.Mathlib.Omega.{arith}
 use lib.ListN.{length}
-use Prim.Native.Nat.{◌-◌}
 use mathlib.Core.Path.{◌≡◌, refl, ◌∙◌}
 use borrow.Author.Rules.{rules}
 use Rattle.packing.proofs.put_l1d.Goals as goal

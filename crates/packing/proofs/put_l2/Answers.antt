@@ -4,7 +4,6 @@ use Rattle.tags.specs.Words.{record_in}
 use Rattle.packing.specs.Packed.{l2-long, l2-first, l2-next, l2-last}
 use native.Mathlib.Omega.{arith}
 use lib.ListN.{length}
-use Prim.Native.Nat.{◌-◌}
 use mathlib.Core.Path.{◌≡◌, refl, ◌∙◌}
 use borrow.Author.Rules.{rules}
 use Rattle.packing.proofs.put_l2.Goals as goal

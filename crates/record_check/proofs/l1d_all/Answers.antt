@@ -30,9 +30,9 @@ overflow_add-n c =
 pub loop-i-preserved : goal.loop-i-preserved
 loop-i-preserved c =
     let met : (let ws = c.args.tags.now in (l1d_ok_in ws c.loop-i.i ≡ true) × ((c.if-l1d_bare.n ≡ c.loop-i.n + dirty_lines (l1d_lines_in ws c.loop-i.i)) × (dirty_lines (l1d_lines_in ws c.loop-i.i) ≤ 2))) =
-    elim c.if-l1d_bare.branch
-    [ then-l1d_bare w ↦ (let b = c.l1d_bare.ensures w.if-l1d_bare.true in let z = b.1 in let e = w.n-is in (b.0, (omega arith, omega arith)))
-    | else-l1d_bare+then-l1d_set w ↦ (let d = w.l1d_dirty-n.ensures in let m = d.0 in let l = d.1 in let e = w.n-is in (sym w.l1d_set.ensures ∙ w.if-l1d_set.true, (omega arith, omega arith)))
+    elim c.if-l1d_bare.branch [
+      | then-l1d_bare w ↦ (let b = c.l1d_bare.ensures w.if-l1d_bare.true in let z = b.1 in let e = w.n-is in (b.0, (omega arith, omega arith)))
+      | else-l1d_bare+then-l1d_set w ↦ (let d = w.l1d_dirty-n.ensures in let m = d.0 in let l = d.1 in let e = w.n-is in (sym w.l1d_set.ensures ∙ w.if-l1d_set.true, (omega arith, omega arith)))
     ] in
     let a = c.args in let ws = a.tags.now in
     let t = c.loop-i-test.true in let k = dirty_lines (l1d_lines_in ws c.loop-i.i) in let m = met in

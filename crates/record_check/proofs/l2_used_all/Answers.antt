@@ -32,9 +32,9 @@ overflow_add-n c =
 pub loop-j-preserved : goal.loop-j-preserved
 loop-j-preserved c =
     let met : (let ws = c.args.tags.now in (l2_ok_in ws c.loop-j.j ≡ true) × ((c.if-l2_bare.n ≡ c.loop-j.n + dirty_lines (l2_lines_in ws c.loop-j.j)) × (dirty_lines (l2_lines_in ws c.loop-j.j) ≤ 4))) =
-    elim c.if-l2_bare.branch
-    [ then-l2_bare w ↦ (let b = c.l2_bare.ensures w.if-l2_bare.true in let z = b.1 in let e = w.n-is in (b.0, (omega arith, omega arith)))
-    | else-l2_bare+then-l2_used w ↦ (let d = w.l2_dirty-n.ensures in let m = d.0 in let l = d.1 in let e = w.n-is in (sym w.l2_used.ensures ∙ w.if-l2_used.true, (omega arith, omega arith)))
+    elim c.if-l2_bare.branch [
+      | then-l2_bare w ↦ (let b = c.l2_bare.ensures w.if-l2_bare.true in let z = b.1 in let e = w.n-is in (b.0, (omega arith, omega arith)))
+      | else-l2_bare+then-l2_used w ↦ (let d = w.l2_dirty-n.ensures in let m = d.0 in let l = d.1 in let e = w.n-is in (sym w.l2_used.ensures ∙ w.if-l2_used.true, (omega arith, omega arith)))
     ] in
     let a = c.args in let ws = a.tags.now in
     let t = c.loop-j-test.true in let k = dirty_lines (l2_lines_in ws c.loop-j.j) in let m = met in

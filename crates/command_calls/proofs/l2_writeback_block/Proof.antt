@@ -1,7 +1,0 @@
--- `command_calls::l2_writeback_block` hands on what it is given: it ensures what `one_command` ensures.
-use borrow.Author.Rules.{rules}
-use Rattle.command_calls.proofs.l2_writeback_block.Statement.{statement}
-use Rattle.command_calls.proofs.l2_writeback_block.Tie as tie
-
-pub l2-writeback-block-spec : {M : Type 1} → statement M
-l2-writeback-block-spec = tie.close (tie.spec (λ c κs. search rules) (λ c. search rules) (λ c. search rules) (λ c. search rules) (λ c. c.before.before.before.before.before.before.one-command.ensures))
