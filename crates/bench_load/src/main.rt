@@ -8,6 +8,8 @@
 ghost use Rattle.std.specs.Prelude.{◌≡◌, ◌≤◌, length};
 
 use program::ChipRecord;
+use std::env::{Env, FillError};
+use std::io;
 
 // No mode is set, and no MAR bit: the chip stays as the fresh start leaves it.
 const FRESH: u8 = 255;
@@ -36,9 +38,8 @@ fn number_in(text: &[u8], most: u64) -> Given
         return NO_NUMBER;
     }
     let mut value: u64 = 0;
-    let mut i: usize = 0;
-    while i < text.len() {
-        let digit = wide(text[i]);
+    for byte in text {
+        let digit = wide(*byte);
         if digit < 48 {
             return NO_NUMBER;
         }
@@ -52,7 +53,6 @@ fn number_in(text: &[u8], most: u64) -> Given
             return NO_NUMBER;
         }
         value = value * 10 + (digit - 48);
-        i += 1;
     }
     Given {
         fine: true,
@@ -60,28 +60,33 @@ fn number_in(text: &[u8], most: u64) -> Given
     }
 }
 
-fn argument(i: usize, most: u64) -> Given
+// The number that an argument is: one of more than 32 bytes is none.
+fn argument(rt: &impl Env, i: usize, most: u64) -> Given
     ensures { result.value ≤ most }
 {
     let mut text = [0u8; 32];
-    let n = os::arg(i, &mut text);
-    number_in(&text[..n], most)
+    match rt.arg(i, &mut text) {
+        Ok(n) => number_in(&text[..n], most),
+        Err(_) => NO_NUMBER,
+    }
 }
 
-fn line_of(name: &[u8], a: u64) {
-    io::write_all(1, name);
-    io::write_all(1, b" ");
-    io::print_decimal(1, a);
-    io::write_all(1, b"\n");
+// Whether there is an argument of this number, be it empty or too long for a buffer.
+fn is_given(rt: &impl Env, i: usize) -> bool {
+    let mut text = [0u8; 32];
+    match rt.arg(i, &mut text) {
+        Ok(_) => true,
+        Err(FillError::TooLong) => true,
+        Err(FillError::NotPresent) => false,
+    }
 }
 
-fn line(name: &[u8], a: u64, b: u64) {
-    io::write_all(1, name);
-    io::write_all(1, b" ");
-    io::print_decimal(1, a);
-    io::write_all(1, b" ");
-    io::print_decimal(1, b);
-    io::write_all(1, b"\n");
+fn line_of(rt: &impl Print, name: &str, a: u64) -> io::Result<()> {
+    println!(rt; "{name} {a}")
+}
+
+fn line(rt: &impl Print, name: &str, a: u64, b: u64) -> io::Result<()> {
+    println!(rt; "{name} {a} {b}")
 }
 
 // 1 where both are what is asked for, else 0.
@@ -100,42 +105,48 @@ fn one_if(number: u8, wanted: u8, server: u8, by: u8) -> u64
 // How many of the answers have this number and this server.
 fn answers_with(answers: &[u8], count: usize, number: u8, server: u8) -> u64 {
     let mut found: u64 = 0;
-    let mut k: usize = 0;
-    while k < count {
+    for k in 0..count {
         if answers.len() / 10 <= k {
             return found;
         }
         let at = k * 10;
         found += one_if(answers[at], number, answers[at + 1], server);
-        k += 1;
     }
     found
 }
 
 // A line for what there are some of.
-fn line_if_some(name: &[u8], which: u8, count: u64) {
+fn line_if_some(rt: &impl Print, name: &str, which: u8, count: u64) -> io::Result<()> {
     if count == 0 {
-        return;
+        return Ok(());
     }
-    line(name, wide(which), count);
+    line(rt, name, wide(which), count)
 }
 
 // Who served the accepted accesses.
-fn show_servers(answers: &[u8], count: usize) {
-    let mut server: u8 = 0;
-    while server < 5 {
-        line_if_some(b"server", server, answers_with(answers, count, 0, server));
-        server += 1;
+fn show_servers(rt: &impl Print, answers: &[u8], count: usize) -> io::Result<()> {
+    for server in 0..5 {
+        line_if_some(
+            rt,
+            "server",
+            server,
+            answers_with(answers, count, 0, server),
+        )?;
     }
+    Ok(())
 }
 
 // A refused access has no server.
-fn show_refusals(answers: &[u8], count: usize) {
-    let mut number: u8 = 1;
-    while number < 13 {
-        line_if_some(b"refused", number, answers_with(answers, count, number, 0));
-        number += 1;
+fn show_refusals(rt: &impl Print, answers: &[u8], count: usize) -> io::Result<()> {
+    for number in 1..13 {
+        line_if_some(
+            rt,
+            "refused",
+            number,
+            answers_with(answers, count, number, 0),
+        )?;
     }
+    Ok(())
 }
 
 // The record after a fresh start, and, unless the mode is FRESH, after both MAR bits and the mode were set.
@@ -167,6 +178,7 @@ fn room_for_answers() -> [u8; 1497970]
 
 // One run over the load, on memories that are lent, with answer bytes for all.
 fn run_on(
+    rt: &impl Print,
     trace: &[u8],
     mode: u8,
     l1d: &mut [u8],
@@ -174,25 +186,26 @@ fn run_on(
     ext: &mut [u8],
     l1p: &mut [u8],
     answers: &mut [u8],
-) {
+) -> io::Result<()> {
     let r = start(mode, l1d, l2, ext, l1p);
     let q = by_value::run(r, trace, l1d, l2, ext, l1p, answers);
-    show_servers(answers, q.count);
-    show_refusals(answers, q.count);
-    line(b"end", wide(q.stop), q.consumed as u64);
+    show_servers(rt, answers, q.count)?;
+    show_refusals(rt, answers, q.count)?;
+    line(rt, "end", wide(q.stop), q.consumed as u64)
 }
 
 // External memory is the first bytes of a longer one, zero again before each run.
-fn run_over(trace: &[u8], mode: u8, extlen: usize) {
+fn run_over(rt: &impl Print, trace: &[u8], mode: u8, extlen: usize) -> io::Result<()> {
     let mut l1d = [0u8; 16384];
-    let mut l2 = io::large_buffer();
+    let mut l2 = [0u8; 65536];
     let mut ext = room();
     let mut l1p = [0u8; 16384];
     let mut answers = room_for_answers();
     if 1048576 < extlen {
-        return;
+        return Ok(());
     }
     run_on(
+        rt,
         trace,
         mode,
         &mut l1d,
@@ -200,58 +213,63 @@ fn run_over(trace: &[u8], mode: u8, extlen: usize) {
         &mut ext[..extlen],
         &mut l1p,
         &mut answers,
-    );
+    )
 }
 
-fn run_in_mode(trace: &[u8], mode: u8, extlen: usize) {
-    line_of(b"mode", wide(mode));
-    run_over(trace, mode, extlen);
+fn run_in_mode(rt: &impl Print, trace: &[u8], mode: u8, extlen: usize) -> io::Result<()> {
+    line_of(rt, "mode", wide(mode))?;
+    run_over(rt, trace, mode, extlen)
 }
 
 // The load is the first n bytes.
-fn run_all(output: &[u8], n: usize, extlen: usize) {
+fn run_all(rt: &impl Print, output: &[u8], n: usize, extlen: usize) -> io::Result<()> {
     if output.len() < n {
-        return;
+        return Ok(());
     }
     let trace = &output[..n];
-    io::write_all(1, b"fresh\n");
-    run_over(trace, FRESH, extlen);
-    run_in_mode(trace, 0, extlen);
-    run_in_mode(trace, 1, extlen);
-    run_in_mode(trace, 2, extlen);
+    println!(rt; "fresh")?;
+    run_over(rt, trace, FRESH, extlen)?;
+    run_in_mode(rt, trace, 0, extlen)?;
+    run_in_mode(rt, trace, 1, extlen)?;
+    run_in_mode(rt, trace, 2, extlen)
 }
 
-fn make_and_run(seed: u32, extlen: u32, count: u64, trace: &mut [u8]) {
+fn make_and_run(
+    rt: &(impl Print + Eprint),
+    seed: u32,
+    extlen: u32,
+    count: u64,
+    trace: &mut [u8],
+) -> io::Result<()> {
     let x = load::load_trace(seed, extlen, count, trace);
-    line(b"load", wide(x.number), x.length as u64);
+    line(rt, "load", wide(x.number), x.length as u64)?;
     if x.number != 0 {
-        return;
+        return Ok(());
     }
     if 1048576 < extlen {
-        io::write_all(
-            2,
-            b"bench-load: 1048576 bytes of external memory at most can be run over\n",
+        return eprintln!(rt;
+            "bench-load: 1048576 bytes of external memory at most can be run over"
         );
-        return;
     }
-    run_all(trace, x.length, extlen as usize);
+    run_all(rt, trace, x.length, extlen as usize)
 }
 
-fn main() {
-    let seed = argument(1, 0xFFFFFFFF);
-    let extlen = argument(2, 0xFFFFFFFF);
-    let count = argument(3, 0xFFFFFFFFFFFFFFFF);
-    let mut fine = os::arg_count() == 4;
+fn main(rt: HostRuntime) -> io::Result<()> {
+    let seed = argument(&rt, 1, 0xFFFFFFFF);
+    let extlen = argument(&rt, 2, 0xFFFFFFFF);
+    let count = argument(&rt, 3, 0xFFFFFFFFFFFFFFFF);
+    // Three numbers, and nothing behind them.
+    let mut fine = !is_given(&rt, 4);
     fine = fine & seed.fine & extlen.fine & count.fine;
     if !fine {
-        io::write_all(2, b"usage: bench_load SEED E N, all decimal\n");
-        return;
+        return eprintln!(rt; "usage: bench_load SEED E N, all decimal");
     }
     let mut trace = room();
     make_and_run(
+        &rt,
         seed.value as u32,
         extlen.value as u32,
         count.value,
         &mut trace,
-    );
+    )
 }

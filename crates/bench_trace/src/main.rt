@@ -3,17 +3,19 @@
 // and the bytes consumed, all decimal.
 #![tactic(auto)]
 
+ghost use Rattle.std.specs.Prelude.{◌≤◌, length};
+
+use by_value::RunResult;
+use std::io;
+use std::io::Read;
+
 // One answer of ten bytes: number, server, value, with a blank between and a line end.
-fn show(answer: &[u8]) -> bool {
+fn show(rt: &impl Print, answer: &[u8]) -> io::Result<()> {
     if answer.len() < 10 {
-        return false;
+        return Ok(());
     }
-    io::print_decimal(1, wide(answer[0]));
-    io::write_all(1, b" ");
-    io::print_decimal(1, wide(answer[1]));
-    io::write_all(1, b" ");
-    io::print_decimal(1, memory::load8(answer, 2));
-    io::write_all(1, b"\n")
+    let value = memory::load8(answer, 2);
+    println!(rt; "{} {} {}", wide(answer[0]), wide(answer[1]), value)
 }
 
 fn wide(x: u8) -> u64 {
@@ -21,36 +23,66 @@ fn wide(x: u8) -> u64 {
 }
 
 // The first `count` answers.
-fn show_all(answers: &[u8], count: usize) {
-    let mut k: usize = 0;
-    while k < count {
+fn show_all(rt: &impl Print, answers: &[u8], count: usize) -> io::Result<()> {
+    for k in 0..count {
         if answers.len() / 10 <= k {
-            return;
+            return Ok(());
         }
         let at = k * 10;
-        show(&answers[at..at + 10]);
-        k += 1;
+        show(rt, &answers[at..at + 10])?;
     }
+    Ok(())
+}
+
+// What a run has answered, and where and why it has stopped.
+fn show_run(rt: &impl Print, answers: &[u8], ran: &RunResult) -> io::Result<()> {
+    show_all(rt, answers, ran.count)?;
+    println!(rt; "end {} {}", wide(ran.stop), ran.consumed)
+}
+
+// How many bytes a read has put at the buffer's start: none where it has failed.
+fn read_some(input: &mut impl Read, buffer: &mut [u8]) -> usize
+    ensures { result ≤ length buffer.new }
+{
+    match input.read(buffer) {
+        Ok(n) => n,
+        Err(_) => 0,
+    }
+}
+
+// Reads until the buffer is full, the input ends or a read fails; how many bytes it has put at the buffer's start.
+fn read_full(input: &mut impl Read, buffer: &mut [u8]) -> usize
+    ensures { result ≤ length buffer.new }
+{
+    let mut done: usize = 0;
+    while done < buffer.len() {
+        let n = read_some(input, &mut buffer[done..]);
+        if n == 0 {
+            break;
+        }
+        done += n;
+    }
+    done
 }
 
 // Whether standard input can be read at all: `read_full` takes an input that fails for an empty one.
-fn readable() -> bool {
+fn readable(input: &mut impl Read) -> bool {
     let mut more = [0u8; 1];
-    0 <= libc::read(0, &mut more)
+    input.read(&mut more).is_ok()
 }
 
-fn main() {
-    let mut input = io::buffer();
-    let n = io::read_full(0, &mut input);
+fn main(rt: HostRuntime) -> io::Result<()> {
+    let mut stdin = rt.stdin();
+    let mut input = [0u8; 4096];
+    let n = read_full(&mut stdin, &mut input);
     if n == 0 {
-        if !readable() {
-            io::write_all(2, b"bench-trace: standard input cannot be read\n");
-            return;
+        if !readable(&mut stdin) {
+            return eprintln!(rt; "bench-trace: standard input cannot be read");
         }
     }
     let mut l1d = [0u8; 16384];
-    let mut l2 = io::large_buffer();
-    let mut ext = io::large_buffer();
+    let mut l2 = [0u8; 65536];
+    let mut ext = [0u8; 65536];
     let mut l1p = [0u8; 16384];
     let mut answers = [0u8; 40960];
     let start = by_value::fresh(&mut l1d, &mut l2, &mut ext, &mut l1p);
@@ -64,12 +96,8 @@ fn main() {
         &l1p,
         &mut answers,
     );
-    show_all(&answers, q.count);
-    io::write_all(1, b"end ");
-    io::print_decimal(1, wide(q.stop));
-    io::write_all(1, b" ");
-    io::print_decimal(1, q.consumed as u64);
-    if !io::write_all(1, b"\n") {
-        io::write_all(2, b"bench-trace: standard output cannot be written\n");
+    if show_run(&rt, &answers, &q).is_err() {
+        return eprintln!(rt; "bench-trace: standard output cannot be written");
     }
+    Ok(())
 }

@@ -12,6 +12,7 @@ ghost use Rattle.std.specs.Prelude.{◌≤◌};
 use by_value::Called;
 use model::Left;
 use program::ChipRecord;
+use std::io;
 
 fn wide(x: u8) -> u64 {
     x as u64
@@ -21,31 +22,24 @@ fn wide32(x: u32) -> u64 {
     x as u64
 }
 
-fn show(a: u64, b: u64, c: u64) {
-    io::print_decimal(1, a);
-    io::write_all(1, b" ");
-    io::print_decimal(1, b);
-    io::write_all(1, b" ");
-    io::print_decimal(1, c);
-    io::write_all(1, b"\n");
+fn show(rt: &impl Print, a: u64, b: u64, c: u64) -> io::Result<()> {
+    println!(rt; "{a} {b} {c}")
 }
 
-fn told(x: Called) -> ChipRecord {
-    show(wide(x.number), wide(x.server), x.value);
-    x.record
+fn told(rt: &impl Print, x: Called) -> io::Result<ChipRecord> {
+    show(rt, wide(x.number), wide(x.server), x.value)?;
+    Ok(x.record)
 }
 
 // The first and the third byte of what is seen.
-fn seen<'a>(r: ChipRecord, l2: &'a [u8], ext: &'a [u8], address: u32) {
+fn seen(rt: &impl Print, r: ChipRecord, l2: &[u8], ext: &[u8], address: u32) -> io::Result<()> {
     let part = by_value::view(r, l2, ext, address);
     let number = by_value::view_number(r, l2, ext, address);
-    io::print_decimal(1, wide(number));
-    io::write_all(1, b" ");
+    print!(rt; "{number} ")?;
     if part.len() < 3 {
-        show(0, 0, 0);
-        return;
+        return show(rt, 0, 0, 0);
     }
-    show(part.len() as u64, wide(part[0]), wide(part[2]));
+    show(rt, part.len() as u64, wide(part[0]), wide(part[2]))
 }
 
 // How many bytes of a buffer are lent: those that are asked for, and at most all.
@@ -61,6 +55,7 @@ fn front(n: u32, all: usize) -> usize
 
 // A transfer of the front of a buffer whose bytes are all v. Of one out the first and the last byte are told.
 fn transferred_in(
+    rt: &impl Print,
     r: ChipRecord,
     n: u32,
     address: u32,
@@ -69,14 +64,18 @@ fn transferred_in(
     l2: &mut [u8; 65536],
     ext: &mut [u8; 65536],
     l1p: &mut [u8; 16384],
-) -> ChipRecord {
+) -> io::Result<ChipRecord> {
     let v8 = (v % 256) as u8;
     let buffer = [v8; 128];
     let k = front(n, 128);
-    told(by_value::transfer_in(r, address, &buffer[..k], l1d, l2, ext, l1p))
+    told(
+        rt,
+        by_value::transfer_in(r, address, &buffer[..k], l1d, l2, ext, l1p),
+    )
 }
 
 fn transferred_out(
+    rt: &impl Print,
     r: ChipRecord,
     n: u32,
     address: u32,
@@ -85,28 +84,27 @@ fn transferred_out(
     l2: &mut [u8; 65536],
     ext: &mut [u8; 65536],
     l1p: &mut [u8; 16384],
-) -> ChipRecord {
+) -> io::Result<ChipRecord> {
     let v8 = (v % 256) as u8;
     let mut buffer = [v8; 128];
     let k = front(n, 128);
     let x = by_value::transfer_out(r, address, &mut buffer[..k], l1d, l2, ext, l1p);
-    show(wide(x.number), wide(buffer[0]), wide(buffer[127]));
-    x.record
+    show(rt, wide(x.number), wide(buffer[0]), wide(buffer[127]))?;
+    Ok(x.record)
 }
 
 // The pixels of a frame, and some more: all of them v, but in row k the one of column k is k.
 fn pixels(v: u8) -> [u8; 3076] {
     let mut buffer = [v; 3076];
-    let mut k: u8 = 0;
-    while k < 48 {
+    for k in 0..48u8 {
         let at = k as usize * 65;
         buffer[at] = k;
-        k += 1;
     }
     buffer
 }
 
 fn framed(
+    rt: &impl Print,
     r: ChipRecord,
     n: u32,
     turn: u32,
@@ -115,13 +113,18 @@ fn framed(
     l2: &mut [u8; 65536],
     ext: &mut [u8; 65536],
     l1p: &mut [u8; 16384],
-) -> ChipRecord {
+) -> io::Result<ChipRecord> {
     let buffer = pixels((v % 256) as u8);
     let k = front(n, 3076);
     let x = by_value::frame(r, (turn % 256) as u8, &buffer[..k], l1d, l2, ext, l1p);
-    show(wide(x.number), wide(x.turn), wide32(x.sums[0]));
-    show(wide32(x.sums[1]), wide32(x.sums[47]), wide32(x.sums[63]));
-    x.record
+    show(rt, wide(x.number), wide(x.turn), wide32(x.sums[0]))?;
+    show(
+        rt,
+        wide32(x.sums[1]),
+        wide32(x.sums[47]),
+        wide32(x.sums[63]),
+    )?;
+    Ok(x.record)
 }
 
 // What left a way: 0 none was chosen, 1 it was empty, 2 a clean line, 3 a dirty one; and the line's address.
@@ -144,28 +147,31 @@ fn address_of(x: Left) -> u64 {
 }
 
 fn fetched(
+    rt: &impl Print,
     r: ChipRecord,
     address: u32,
     l1d: &mut [u8; 16384],
     l2: &mut [u8; 65536],
     ext: &mut [u8; 65536],
     l1p: &mut [u8; 16384],
-) -> ChipRecord {
+) -> io::Result<ChipRecord> {
     let x = by_value::fetch(r, address, l1d, l2, ext, l1p);
-    show(wide(x.number), wide(x.server), wide(x.bytes[0]));
+    show(rt, wide(x.number), wide(x.server), wide(x.bytes[0]))?;
     show(
+        rt,
         wide(x.bytes[31]),
         wide32(x.external_read),
         wide32(x.external_written),
-    );
+    )?;
     let k = x.l2_left;
     let l = x.l1p_left;
-    show(kind_of(k), kind_of(l), address_of(l));
-    x.record
+    show(rt, kind_of(k), kind_of(l), address_of(l))?;
+    Ok(x.record)
 }
 
 // A read or a write: codes 0 and 1, 14 and 15 for non-aligned ones.
 fn access(
+    rt: &impl Print,
     r: ChipRecord,
     code: u32,
     a: u32,
@@ -175,21 +181,28 @@ fn access(
     l2: &mut [u8; 65536],
     ext: &mut [u8; 65536],
     l1p: &mut [u8; 16384],
-) -> ChipRecord {
+) -> io::Result<ChipRecord> {
     if code == 0 {
-        return told(command_calls::read(r, a, b, l1d, l2, ext, l1p));
+        return told(rt, command_calls::read(r, a, b, l1d, l2, ext, l1p));
     }
     if code == 1 {
-        return told(command_calls::write(r, a, b, wide32(v), l1d, l2, ext, l1p));
+        return told(
+            rt,
+            command_calls::write(r, a, b, wide32(v), l1d, l2, ext, l1p),
+        );
     }
     if code == 14 {
-        return told(by_value::read_unaligned(r, a, b, l1d, l2, ext, l1p));
+        return told(rt, by_value::read_unaligned(r, a, b, l1d, l2, ext, l1p));
     }
-    told(by_value::write_unaligned(r, a, b, wide32(v), l1d, l2, ext, l1p))
+    told(
+        rt,
+        by_value::write_unaligned(r, a, b, wide32(v), l1d, l2, ext, l1p),
+    )
 }
 
 // Codes 2 to 6: the commands of L2.
 fn l2_command(
+    rt: &impl Print,
     r: ChipRecord,
     code: u32,
     a: u32,
@@ -198,24 +211,37 @@ fn l2_command(
     l2: &mut [u8; 65536],
     ext: &mut [u8; 65536],
     l1p: &mut [u8; 16384],
-) -> ChipRecord {
+) -> io::Result<ChipRecord> {
     if code == 2 {
-        return told(command_calls::l2_writeback_all(r, l1d, l2, ext, l1p));
+        return told(rt, command_calls::l2_writeback_all(r, l1d, l2, ext, l1p));
     }
     if code == 3 {
-        return told(command_calls::l2_writeback_invalidate_all(r, l1d, l2, ext, l1p));
+        return told(
+            rt,
+            command_calls::l2_writeback_invalidate_all(r, l1d, l2, ext, l1p),
+        );
     }
     if code == 4 {
-        return told(command_calls::l2_writeback_block(r, a, b, l1d, l2, ext, l1p));
+        return told(
+            rt,
+            command_calls::l2_writeback_block(r, a, b, l1d, l2, ext, l1p),
+        );
     }
     if code == 5 {
-        return told(command_calls::l2_writeback_invalidate_block(r, a, b, l1d, l2, ext, l1p));
+        return told(
+            rt,
+            command_calls::l2_writeback_invalidate_block(r, a, b, l1d, l2, ext, l1p),
+        );
     }
-    told(command_calls::l2_invalidate_block(r, a, b, l1d, l2, ext, l1p))
+    told(
+        rt,
+        command_calls::l2_invalidate_block(r, a, b, l1d, l2, ext, l1p),
+    )
 }
 
 // Codes 7 to 12: those of L1D, mode and MAR change, the freeze.
 fn other_command(
+    rt: &impl Print,
     r: ChipRecord,
     code: u32,
     a: u32,
@@ -224,27 +250,34 @@ fn other_command(
     l2: &mut [u8; 65536],
     ext: &mut [u8; 65536],
     l1p: &mut [u8; 16384],
-) -> ChipRecord {
+) -> io::Result<ChipRecord> {
     if code == 7 {
-        return told(command_calls::l1d_writeback_invalidate_block(r, a, b, l1d, l2, ext, l1p));
+        return told(
+            rt,
+            command_calls::l1d_writeback_invalidate_block(r, a, b, l1d, l2, ext, l1p),
+        );
     }
     if code == 8 {
-        return told(command_calls::l1d_invalidate_block(r, a, b, l1d, l2, ext, l1p));
+        return told(
+            rt,
+            command_calls::l1d_invalidate_block(r, a, b, l1d, l2, ext, l1p),
+        );
     }
     if code == 9 {
-        return told(command_calls::l1d_invalidate_all(r, l1d, l2, ext, l1p));
+        return told(rt, command_calls::l1d_invalidate_all(r, l1d, l2, ext, l1p));
     }
     if code == 10 {
-        return told(command_calls::change_mode(r, a, l1d, l2, ext, l1p));
+        return told(rt, command_calls::change_mode(r, a, l1d, l2, ext, l1p));
     }
     if code == 11 {
-        return told(command_calls::change_mar(r, a, b, l1d, l2, ext, l1p));
+        return told(rt, command_calls::change_mar(r, a, b, l1d, l2, ext, l1p));
     }
-    told(command_calls::freeze(r, a, l1d, l2, ext, l1p))
+    told(rt, command_calls::freeze(r, a, l1d, l2, ext, l1p))
 }
 
 // 16 and 17: a transfer in and out, of so many bytes, at an address; 18: a frame of so many bytes, and its turn.
 fn camera(
+    rt: &impl Print,
     r: ChipRecord,
     code: u32,
     a: u32,
@@ -254,18 +287,19 @@ fn camera(
     l2: &mut [u8; 65536],
     ext: &mut [u8; 65536],
     l1p: &mut [u8; 16384],
-) -> ChipRecord {
+) -> io::Result<ChipRecord> {
     if code == 16 {
-        return transferred_in(r, a, b, v, l1d, l2, ext, l1p);
+        return transferred_in(rt, r, a, b, v, l1d, l2, ext, l1p);
     }
     if code == 17 {
-        return transferred_out(r, a, b, v, l1d, l2, ext, l1p);
+        return transferred_out(rt, r, a, b, v, l1d, l2, ext, l1p);
     }
-    framed(r, a, b, v, l1d, l2, ext, l1p)
+    framed(rt, r, a, b, v, l1d, l2, ext, l1p)
 }
 
 // 19: a fetch; 20 and 21: an L1P block invalidate, and one of all lines.
 fn program_call(
+    rt: &impl Print,
     r: ChipRecord,
     code: u32,
     a: u32,
@@ -274,18 +308,22 @@ fn program_call(
     l2: &mut [u8; 65536],
     ext: &mut [u8; 65536],
     l1p: &mut [u8; 16384],
-) -> ChipRecord {
+) -> io::Result<ChipRecord> {
     if code == 19 {
-        return fetched(r, a, l1d, l2, ext, l1p);
+        return fetched(rt, r, a, l1d, l2, ext, l1p);
     }
     if code == 20 {
-        return told(by_value::l1p_invalidate_block(r, a, b, l1d, l2, ext, l1p));
+        return told(
+            rt,
+            by_value::l1p_invalidate_block(r, a, b, l1d, l2, ext, l1p),
+        );
     }
-    told(by_value::l1p_invalidate_all(r, l1d, l2, ext, l1p))
+    told(rt, by_value::l1p_invalidate_all(r, l1d, l2, ext, l1p))
 }
 
 // The call of one row: its code, by which the functions above have it (13: a view), and its numbers.
 fn one(
+    rt: &impl Print,
     r: ChipRecord,
     code: u32,
     a: u32,
@@ -295,57 +333,60 @@ fn one(
     l2: &mut [u8; 65536],
     ext: &mut [u8; 65536],
     l1p: &mut [u8; 16384],
-) -> ChipRecord {
+) -> io::Result<ChipRecord> {
     if code == 13 {
-        seen(r, l2, ext, a);
-        return r;
+        seen(rt, r, l2, ext, a)?;
+        return Ok(r);
     }
     if 19 <= code {
-        return program_call(r, code, a, b, l1d, l2, ext, l1p);
+        return program_call(rt, r, code, a, b, l1d, l2, ext, l1p);
     }
     if 16 <= code {
-        return camera(r, code, a, b, v, l1d, l2, ext, l1p);
+        return camera(rt, r, code, a, b, v, l1d, l2, ext, l1p);
     }
     if (code < 2) | (13 < code) {
-        return access(r, code, a, b, v, l1d, l2, ext, l1p);
+        return access(rt, r, code, a, b, v, l1d, l2, ext, l1p);
     }
     if code < 7 {
-        return l2_command(r, code, a, b, l1d, l2, ext, l1p);
+        return l2_command(rt, r, code, a, b, l1d, l2, ext, l1p);
     }
-    other_command(r, code, a, b, l1d, l2, ext, l1p)
+    other_command(rt, r, code, a, b, l1d, l2, ext, l1p)
 }
 
 // A run, and what it answers.
 fn run_over(
+    rt: &impl Print,
     r: ChipRecord,
     l1d: &mut [u8; 16384],
     l2: &mut [u8; 65536],
     ext: &mut [u8; 65536],
     l1p: &mut [u8; 16384],
-) {
+) -> io::Result<()> {
     let trace = [
         11u8, 129, 1, 1, 0, 1, 128, 129, 128, 128, 8, 1, 1, 128, 129, 128, 128, 8, 4, 10, 2, 0, 1,
         128, 129, 128, 128, 8, 12, 2,
     ];
     let mut answers = [0u8; 60];
     let q = by_value::run(r, &trace, l1d, l2, ext, l1p, &mut answers);
-    show(q.consumed as u64, q.count as u64, wide(q.stop));
+    show(rt, q.consumed as u64, q.count as u64, wide(q.stop))?;
     for k in 0..6 {
         let p = k * 10;
         show(
+            rt,
             wide(answers[p]),
             wide(answers[p + 1]),
             memory::load8(&answers, p + 2),
-        );
+        )?;
     }
+    Ok(())
 }
 
-fn main() {
+fn main(rt: HostRuntime) -> io::Result<()> {
     let mut l1d = [0u8; 16384];
-    let mut l2 = io::large_buffer();
-    let mut ext = io::large_buffer();
+    let mut l2 = [0u8; 65536];
+    let mut ext = [0u8; 65536];
     let mut l1p = [0u8; 16384];
-    let mut r = told(by_value::fresh(&mut l1d, &mut l2, &mut ext, &mut l1p));
+    let mut r = told(&rt, by_value::fresh(&mut l1d, &mut l2, &mut ext, &mut l1p))?;
     let list = [
         11u32, 128, 1, 0, 10, 1, 0, 0, 1, 4, 2147483648, 5, 0, 4, 2147483648, 0, 0, 4, 2147483648,
         0, 1, 4, 2147483648, 7, 13, 2147483648, 0, 0, 7, 2147483648, 1, 0, 13, 2147483648, 0, 0, 4,
@@ -376,6 +417,7 @@ fn main() {
     for k in 0..122 {
         let p = k * 4;
         r = one(
+            &rt,
             r,
             list[p],
             list[p + 1],
@@ -385,7 +427,7 @@ fn main() {
             &mut l2,
             &mut ext,
             &mut l1p,
-        );
+        )?;
     }
-    run_over(r, &mut l1d, &mut l2, &mut ext, &mut l1p);
+    run_over(&rt, r, &mut l1d, &mut l2, &mut ext, &mut l1p)
 }
