@@ -1,12 +1,12 @@
 -- A command on the whole chip, by what its parts say: the number due, the lines of L1P behind it, and both with the
 -- data side as a step (`chip_step`).
-use Rattle.std.specs.Prelude.{ℕ, zero, suc, ◌≤◌, Bool, true, false, not, cond, ◌&&◌, ◌||◌, ◌≡◌, ◌≢◌, List, ◌++◌, length, take, drop, eqb}
+use Rattle.std.specs.Prelude.{ℕ, zero, suc, ◌≤◌, Bool, true, false, not, ◌&&◌, ◌||◌, ◌≡◌, ◌≢◌, List, ◌++◌, length, take, drop, eqb}
 use Rattle.std.proofs.Math.Path.{refl}
-use Rattle.std.proofs.Common.{sym, ap, ◌∙◌, arith}
-use borrow.Author.Tests.{eq-eqb, ne_eqb}
+use Rattle.std.proofs.Common.{sym, ap, ◌∙◌}
+use borrow.Author.Tests.{ne_eqb}
 use Rattle.model.specs.Records.{State, state}
 use Rattle.model.specs.Refusals.{lowest_due, unless}
-use Rattle.model.specs.Calls.{Reply, reply, command_due, command_state, step}
+use Rattle.model.specs.Calls.{reply, command_due, command_state}
 use Rattle.model.specs.Laws.{bool, both_true}
 use Rattle.model.specs.declared.Command.{Command}
 use Rattle.model.specs.declared.Line.{Line}

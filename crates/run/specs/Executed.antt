@@ -11,7 +11,7 @@ use Rattle.std.proofs.Math.Numerals.{add-two}
 use Rattle.std.proofs.Math.Dec.{eqb}
 use borrow.Author.Tests.{lt-ltb, le-ltb, le-leb, leb-true, eq-eqb, ne_eqb}
 use Rattle.model.specs.Records.{State}
-use Rattle.model.specs.Refusals.{lowest_due, unless}
+use Rattle.model.specs.Refusals.{lowest_due}
 use Rattle.model.specs.Trace.{Decoded, decoded, decode, command}
 use Rattle.model.specs.Calls.{Reply, command_due, step, Run, ran, put_answer, command_at, put_reply}
 use Rattle.model.specs.Bytes.{stored, little_bytes}
@@ -21,7 +21,7 @@ use Rattle.model.specs.declared.Command.{Command}
 use Rattle.model.specs.declared.Line.{Line}
 use Rattle.model.specs.declared.Left.TheVariants.{NoWay}
 use Rattle.tags.specs.Words.{record_words, state_in}
-use Rattle.program.specs.Fetches.{Chip, chip, ChipReply, with_l1p, beside_l1p}
+use Rattle.program.specs.Fetches.{Chip, chip, ChipReply, with_l1p}
 use Rattle.program.specs.Chip.{lines_after, chip_command_due, chip_step}
 use Rattle.program.specs.Runs.{ChipRun, chip_ran, put_chip_reply, chip_run_from}
 use Rattle.l1p_tags.specs.Lines.{chip_words, lines_in, chip_in}

@@ -1,6 +1,6 @@
 -- `commands::change` meets its contract: an accepted mode is a byte, an accepted bit 0 or 1, and no code above 12 is
 -- accepted.
-use Prim.Native.Nat.{◌≤◌, ◌-◌}
+use Prim.Native.Nat.{◌≤◌}
 use mathlib.Core.Path.{◌≡◌, refl}
 use native.Mathlib.Omega.{arith}
 use Rattle.model.specs.Records.{state}

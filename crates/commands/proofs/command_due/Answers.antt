@@ -1,5 +1,5 @@
 -- `commands::command_due` meets its contract: each way through the code is the case of `command_due` at its code.
-use Prim.Native.Nat.{◌<◌, ℕ, ◌-◌}
+use Prim.Native.Nat.{◌<◌, ℕ}
 use mathlib.Core.Path.{ap, ◌∙◌}
 use native.Mathlib.Omega.{arith}
 use Rattle.model.specs.Refusals.{mode_due}

@@ -18,8 +18,11 @@ l2_all-requires c =
     let z = state_in a.tags.now a.l1d.now a.l2.now a.ext.now in
     let z₁ = state_in y.new.tags a.l1d.now y.new.l2 y.new.ext in
     let f : ℕ → State → State = λ k. l1d_operation 7 (k / 2) (k % 2) in
-    let lo = c.requires.le_code.0 in let hi = c.requires.le_code.1 in record { code_nonzero = omega arith; lent = lent-next a.sram a.sets a.tags.now y.new.tags z₁ (each f 256 z) c.requires.lent y.auto.tags y.ensures refl
-          (each-fixed f (λ k. act-fixed 7 (k / 2) (k % 2)) 256 z) }
+    let lo = c.requires.le_code.0 in let hi = c.requires.le_code.1 in record {
+      code_nonzero = omega arith;
+      lent = lent-next a.sram a.sets a.tags.now y.new.tags z₁ (each f 256 z) c.requires.lent y.auto.tags y.ensures refl
+          (each-fixed f (λ k. act-fixed 7 (k / 2) (k % 2)) 256 z);
+    }
 
 pub returns : goal.returns
 returns c =

@@ -1,5 +1,4 @@
 -- `commands::sweep` meets its contract: each way through the code is the case of `command_state` at its code.
-use Prim.Native.Nat.{◌-◌}
 use mathlib.Core.Path.{◌≡◌}
 use native.Mathlib.Omega.{arith}
 use Rattle.model.specs.Records.{state}

@@ -1,5 +1,5 @@
 -- `decode::numbers_behind` meets its contract: each arm is a case of `numbers_behind`. Assumes nothing.
-use Rattle.std.proofs.Common.{◌≡◌, ◌≢◌, refl, eqb, arith}
+use Rattle.std.proofs.Common.{◌≢◌, refl, eqb, arith}
 use mathlib.Core.Logic.{⊎_elim}
 use borrow.Author.Tests.{eqb-true, eqb-false}
 use Rattle.model.specs.Laws.{bool}

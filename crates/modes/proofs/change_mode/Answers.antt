@@ -1,6 +1,6 @@
 -- `modes::change_mode` meets its contract: the calls in turn are the parts of `change_mode` (`changed-mode`); S and
 -- the number of sets stay while lines go out.
-use Prim.Native.Nat.{ℕ, ◌-◌, ◌/◌, ◌%◌}
+use Prim.Native.Nat.{ℕ, ◌/◌, ◌%◌}
 use mathlib.Core.Path.{refl, ap, ◌∙◌}
 use native.Mathlib.Omega.{arith}
 use Rattle.model.specs.Records.{State, state}

@@ -1,5 +1,4 @@
 -- `modes::smaller` meets its contract: by the test.
-use Prim.Native.Nat.{◌-◌}
 use mathlib.Core.Path.{refl}
 use borrow.Author.Tests.{le-leb, lt-leb}
 use Rattle.model.specs.Modes.{smaller}

@@ -92,7 +92,7 @@ returns-then-stop-ne0 c =
     let goes : a.times ≡ 1 → 10 ≤ length a.answers.now → ⊥ = λ t h. c.if-stop-ne0.true (given-goes a.times a.given a.trace.now t l.at l.count s.result c.next-d.result l.answers
     c.next-d.ensures.same l.invariant.counted (i.first t) s.ensures (rw l.invariant.answers_long h)) in
     let rest = ended l.words l.l1d l.l2 l.ext l.at l.count s.result l.answers
-              (goes-stopped c.loop-at-test.true l.invariant.counted c.next-d.result c.next-d.ensures.same l.invariant.rest s.result s.ensures c.if-stop-ne0.true) in
+    (goes-stopped c.loop-at-test.true l.invariant.counted c.next-d.result c.next-d.ensures.same l.invariant.rest s.result s.ensures c.if-stop-ne0.true) in
     record {
       one = λ t h. absurd (goes t h);
       whole = λ t h. absurd (goes t h);
@@ -146,11 +146,11 @@ returns-then-times-eq1 c =
     let a = c.args in let l = c.loop-at in let o = c.execute-n in let t = c.if-times-eq1.true in
     let ws = o.new.words in let m' = o.new.l2 in let e' = o.new.ext in let y = state_in ws l.l1d m' e' in let e = c.plain.ensures in
     let rest = given-alone a.times a.given a.trace.now a.words.now (initial) (initial_chip) a.answers.now (ran y 1 1 0 l.answers)
-              (λ p. chip_ran (chip_in ws l.l1d m' e' p) 1 1 0 l.answers) t in
+    (λ p. chip_ran (chip_in ws l.l1d m' e' p) 1 1 0 l.answers) t in
     record {
       one = λ _ _ w. ap (λ (q : Answer). answer_of q y) e ∙ given t (reply o.result 0 0 y) (o.ensures.«data» (l.invariant.words_long ∙ w));
       whole = λ _ _ w p. ap (λ (q : Answer). with_l1p NoWay (lines_in ws) p (answer_of q y)) e
-            ∙ given-whole t p (with_l1p NoWay (lines_in ws) p (reply o.result 0 0 y)) (o.ensures.chip (l.invariant.words_long ∙ w) p);
+          ∙ given-whole t p (with_l1p NoWay (lines_in ws) p (reply o.result 0 0 y)) (o.ensures.chip (l.invariant.words_long ∙ w) p);
       refused = λ _ n. o.ensures.refused (λ z. n (ap (λ (q : Answer). q.number) e ∙ z)) ∙ same-words t;
       all = rest.0;
       up = rest.1;
@@ -308,11 +308,11 @@ returns-then-times-eq1-2 c =
     let a = c.args in let l = c.loop-at in let x = c.access-a in let t = c.if-times-eq1-2.true in let ws = x.new.words in
     let d' = x.new.l1d in let m' = x.new.l2 in let e' = x.new.ext in let y = state_in ws d' m' e' in
     let rest = given-alone a.times a.given a.trace.now a.words.now (initial) (initial_chip) a.answers.now (ran y 1 1 0 l.answers)
-              (λ p. chip_ran (chip_in ws d' m' e' p) 1 1 0 l.answers) t in
+    (λ p. chip_ran (chip_in ws d' m' e' p) 1 1 0 l.answers) t in
     record {
       one = λ _ _ _. given t (answer_of x.result y) x.ensures.ext_after;
       whole = λ _ _ _ p. given-whole t p (with_l1p NoWay (lines_in ws) p (answer_of x.result y))
-            (access-chip (found).command (chip_in l.words l.l1d l.l2 l.ext p) c.if-c-ge2.false (lines_in ws) x.ensures.rest (answer_of x.result y) x.ensures.ext_after);
+          (access-chip (found).command (chip_in l.words l.l1d l.l2 l.ext p) c.if-c-ge2.false (lines_in ws) x.ensures.rest (answer_of x.result y) x.ensures.ext_after);
       refused = λ _ n. x.ensures.refused n ∙ same-words t;
       all = rest.0;
       up = rest.1;

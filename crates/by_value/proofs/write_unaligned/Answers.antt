@@ -1,0 +1,13 @@
+-- `by_value::write_unaligned` meets its contract: the words stand for the record before and after (pack, answered).
+use mathlib.Core.Path.{ap, ◌∙◌}
+use Rattle.model.specs.Calls.{write_unaligned}
+use Rattle.program.specs.Chip.{on_data, chip_called}
+use Rattle.program.specs.Fetches.{Chip}
+use Rattle.by_value.specs.Called.{chip-of}
+use Rattle.by_value.proofs.write_unaligned.Goals as goal
+
+pub returns : goal.returns
+returns c =
+    let a = c.args in let o = c.write_unaligned-x in
+    c.answered.ensures o.new.l1d o.new.l2 o.new.ext a.l1p.now ∙ o.ensures.l1p_after
+    ∙ ap (λ (k : Chip). chip_called (on_data (write_unaligned a.size a.address a.value)) k) (chip-of c.pack.new.words a.r c.pack.ensures a.l1d.now a.l2.now a.ext.now a.l1p.now)
