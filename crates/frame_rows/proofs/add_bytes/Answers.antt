@@ -1,7 +1,7 @@
 -- `frames::add_bytes` meets its contract: before column c those in front of it are done (specs/Sums). No sum wraps:
 -- what is added is a byte.
 use Rattle.frame_rows.specs.Sums.{adding-none, column-added, adding-all}
-use Prim.Native.Nat.{◌+◌, ◌-◌}
+use Prim.Native.Nat.{◌+◌}
 use mathlib.Core.Path.{refl}
 use native.Mathlib.Omega.{arith}
 use lib.ListN.{get_or}

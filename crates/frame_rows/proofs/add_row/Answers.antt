@@ -40,8 +40,11 @@ returns-then-not-is_cacheable c =
     let a = c.args in let p = c.requires in
     row_at a.tags.now a.l1d.now a.l2.now a.ext.now p.ext_value a.address p.row_at in
     let a = c.args in let z = initial in let r = row in let i = c.is_cacheable in
-    let past = sym i.ensures ∙ c.if-not-is_cacheable.true in record { ext_after = sym (past_row z a.address r past 64 (omega arith)); told = past-added z a.address r past (λ k. omega (arith, c.slice_known-4-1.given k)) a.sums.now c.add_bytes.new.sums
-          c.external_place.result c.external_place.ensures.0 c.add_bytes.ensures }
+    let past = sym i.ensures ∙ c.if-not-is_cacheable.true in record {
+      ext_after = sym (past_row z a.address r past 64 (omega arith));
+      told = past-added z a.address r past (λ k. omega (arith, c.slice_known-4-1.given k)) a.sums.now c.add_bytes.new.sums
+          c.external_place.result c.external_place.ensures.0 c.add_bytes.ensures;
+    }
 
 pub bounds-sums-0 : goal.bounds-sums-0
 bounds-sums-0 c = let l = c.requires.tags_len.1 in omega arith
@@ -114,10 +117,13 @@ returns-then-w-lt-WAYS c =
     λ h. ap (λ (w : ℕ). ltb w 2) (sym (found-way)) ∙ lt-ltb c.l1d_find-w.result 2 h in
     let a = c.args in let z = initial in let y = behind in let r = c.read_byte-first in let b = c.set_of-i.ensures.0 in
     let w = found-way in let h = found-there c.if-w-lt-WAYS.true in
-    let d : c.data_at.result ≡ l1d_data (l1d_set_of a.address) (l1d_way y a.address) = c.data_at.ensures.0 ∙ (λ j. l1d_data (b j) (w j)) in record { ext_after = c.use_hit.ensures y.l1d y.l2 y.ext ∙ (λ j. use_hit (b j) (w j) y)
-          ∙ sym (hits-done z (well) a.address (row) y r.ensures.after (cached) h); told = hits-added z (well) a.address (row) y r.ensures.after (cached) h a.sums.now (sums-behind) c.add_bytes-then-w-lt-WAYS.new.sums r.result r.ensures.value
+    let d : c.data_at.result ≡ l1d_data (l1d_set_of a.address) (l1d_way y a.address) = c.data_at.ensures.0 ∙ (λ j. l1d_data (b j) (w j)) in record {
+      ext_after = c.use_hit.ensures y.l1d y.l2 y.ext ∙ (λ j. use_hit (b j) (w j) y)
+          ∙ sym (hits-done z (well) a.address (row) y r.ensures.after (cached) h);
+      told = hits-added z (well) a.address (row) y r.ensures.after (cached) h a.sums.now (sums-behind) c.add_bytes-then-w-lt-WAYS.new.sums r.result r.ensures.value
           c.requires.tags_len.1 refl (λ k. omega (arith, c.slice_known-7-1.given k))
-          (subst (λ (n : ℕ). Added 1 (λ k. get_or y.l1d (n + k) 0) (sums-behind) c.add_bytes-then-w-lt-WAYS.new.sums) d c.add_bytes-then-w-lt-WAYS.ensures) }
+          (subst (λ (n : ℕ). Added 1 (λ k. get_or y.l1d (n + k) 0) (sums-behind) c.add_bytes-then-w-lt-WAYS.new.sums) d c.add_bytes-then-w-lt-WAYS.ensures);
+    }
 
 pub overflow_add-address : goal.overflow_add-address
 overflow_add-address c =
@@ -172,5 +178,8 @@ returns c =
     row_at a.tags.now a.l1d.now a.l2.now a.ext.now p.ext_value a.address p.row_at in
     let well : (Well (initial)) =
     let a = c.args in lent-well a.tags.now a.l1d.now a.l2.now a.ext.now c.requires.ext_value in
-    let a = c.args in let z = initial in let y = behind in let r = c.read_byte-first in let o = c.read_rest in let l = length-replicate {A = ℕ} 630 0 in record { ext_after = rest-done z (well) a.address (row) y r.ensures.after (state_in o.new.tags o.new.l1d o.new.l2 o.new.ext) o.ensures.ext_after; told = rest-added z (well) a.address (row) y r.ensures.after a.sums.now (sums-behind) c.add_answers.new.sums r.result r.ensures.value
-          c.requires.tags_len.1 refl (replicate 630 0) o.new.answers (omega arith) o.ensures.told c.add_answers.ensures }
+    let a = c.args in let z = initial in let y = behind in let r = c.read_byte-first in let o = c.read_rest in let l = length-replicate {A = ℕ} 630 0 in record {
+      ext_after = rest-done z (well) a.address (row) y r.ensures.after (state_in o.new.tags o.new.l1d o.new.l2 o.new.ext) o.ensures.ext_after;
+      told = rest-added z (well) a.address (row) y r.ensures.after a.sums.now (sums-behind) c.add_answers.new.sums r.result r.ensures.value
+          c.requires.tags_len.1 refl (replicate 630 0) o.new.answers (omega arith) o.ensures.told c.add_answers.ensures;
+    }

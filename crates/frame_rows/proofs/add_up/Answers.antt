@@ -12,7 +12,7 @@ use Rattle.model.specs.Refusals.{lent_due}
 use lib.ListN.{length-replicate}
 use native.Mathlib.Omega.{arith}
 use mathlib.Core.Path.{◌≡◌, refl, sym, ap, ◌∙◌}
-use Prim.Native.Nat.{ℕ, ◌+◌, ◌*◌, ◌-◌}
+use Prim.Native.Nat.{ℕ, ◌+◌, ◌*◌}
 use Rattle.frame_rows.proofs.add_up.Goals as goal
 
 pub loop-row-init : goal.loop-row-init

@@ -32,6 +32,9 @@ returns c =
     let a = c.args in state_in a.tags.now a.l1d.now a.l2.now a.ext.now in
     let due-is : (let a = c.args in c.due_for-due.result ≡ transfer_due_in (state_at) (length a.buffer.now) a.address) =
     let a = c.args in c.due_for-due.ensures a.l1d.now a.l2.now a.ext.now in
-    let a = c.args in let h = c.send_home in let q = c.put in record { ext_after = in-done a.address a.buffer.now (state_at) c.due_for-due.result (due-is) c.if-due-ne0.false
+    let a = c.args in let h = c.send_home in let q = c.put in record {
+      ext_after = in-done a.address a.buffer.now (state_at) c.due_for-due.result (due-is) c.if-due-ne0.false
           (state_in h.new.tags a.l1d.now h.new.l2 h.new.ext)
-          (state_in h.new.tags a.l1d.now q.new.l2 q.new.ext) h.ensures (q.ensures (record_in h.new.tags) a.l1d.now); refused = λ n. absurd (n refl) }
+          (state_in h.new.tags a.l1d.now q.new.l2 q.new.ext) h.ensures (q.ensures (record_in h.new.tags) a.l1d.now);
+      refused = λ n. absurd (n refl);
+    }

@@ -32,6 +32,9 @@ returns c =
     let a = c.args in state_in a.tags.now a.l1d.now a.l2.now a.ext.now in
     let due-is : (let a = c.args in c.due_for-due.result ≡ transfer_due_in (state_at) (length a.buffer.now) a.address) =
     let a = c.args in c.due_for-due.ensures a.l1d.now a.l2.now a.ext.now in
-    let a = c.args in let h = c.send_home in let q = c.take in record { ext_after = out-done a.address a.buffer.now (state_at) c.due_for-due.result (due-is) c.if-due-ne0.false c.requires.ext_value
+    let a = c.args in let h = c.send_home in let q = c.take in record {
+      ext_after = out-done a.address a.buffer.now (state_at) c.due_for-due.result (due-is) c.if-due-ne0.false c.requires.ext_value
           (state_in h.new.tags a.l1d.now h.new.l2 h.new.ext) q.new.buffer h.ensures
-          h.auto.l2 h.auto.ext (q.ensures (record_in h.new.tags) a.l1d.now); refused = λ n. absurd (n refl) }
+          h.auto.l2 h.auto.ext (q.ensures (record_in h.new.tags) a.l1d.now);
+      refused = λ n. absurd (n refl);
+    }

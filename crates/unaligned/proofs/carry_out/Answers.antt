@@ -31,9 +31,13 @@ returns-then-due-ne0 c =
     let sram-is : (c.sram-sram.result ≡ sram_of (state_at).rec) =
     c.sram-sram.ensures.0 ∙ (λ i. sram_length (c.l2len_of.ensures i) (c.mode_of.ensures i)) in
     let a = c.args in let z = state_at in let n = c.unaligned_due-due in
-    let e = ap (λ (x : Answer). answer_of x z) c.plain.ensures in record { reads = λ _ ev. e ∙ read-refused z (well) a.size a.address a.value c.sram-sram.result c.extlen_of.result n.result
-          (sram-is) c.extlen_of.ensures n.ensures c.if-due-ne0.true ev; writes = λ _. e ∙ write-refused z (well) a.size a.address a.value c.sram-sram.result c.extlen_of.result n.result
-            (sram-is) c.extlen_of.ensures n.ensures c.if-due-ne0.true; refused = λ _. refl }
+    let e = ap (λ (x : Answer). answer_of x z) c.plain.ensures in record {
+      reads = λ _ ev. e ∙ read-refused z (well) a.size a.address a.value c.sram-sram.result c.extlen_of.result n.result
+          (sram-is) c.extlen_of.ensures n.ensures c.if-due-ne0.true ev;
+      writes = λ _. e ∙ write-refused z (well) a.size a.address a.value c.sram-sram.result c.extlen_of.result n.result
+          (sram-is) c.extlen_of.ensures n.ensures c.if-due-ne0.true;
+      refused = λ _. refl;
+    }
 
 pub up-requires : goal.up-requires
 up-requires c =
@@ -55,6 +59,10 @@ returns c =
     let a = c.args in lent-well a.tags.now a.l1d.now a.l2.now a.ext.now c.requires.ext_value in
     let sram-is : (c.sram-sram.result ≡ sram_of (state_at).rec) =
     c.sram-sram.ensures.0 ∙ (λ i. sram_length (c.l2len_of.ensures i) (c.mode_of.ensures i)) in
-    let a = c.args in let z = state_at in let n = c.unaligned_due-due in let u = c.up in record { reads = λ ec ev. u.ensures ∙ read-up-done z (well) a.size a.address a.value c.sram-sram.result c.extlen_of.result n.result
-          (sram-is) c.extlen_of.ensures n.ensures c.if-due-ne0.false a.code ec ev; writes = λ ec. u.ensures ∙ write-up-done z (well) a.size a.address a.value c.sram-sram.result c.extlen_of.result n.result
-            (sram-is) c.extlen_of.ensures n.ensures c.if-due-ne0.false a.code ec; refused = λ no. absurd (no (ap (λ (r : Reply). r.number) u.ensures ∙ up-number (byte_of a.code a.address a.value) a.size z)) }
+    let a = c.args in let z = state_at in let n = c.unaligned_due-due in let u = c.up in record {
+      reads = λ ec ev. u.ensures ∙ read-up-done z (well) a.size a.address a.value c.sram-sram.result c.extlen_of.result n.result
+          (sram-is) c.extlen_of.ensures n.ensures c.if-due-ne0.false a.code ec ev;
+      writes = λ ec. u.ensures ∙ write-up-done z (well) a.size a.address a.value c.sram-sram.result c.extlen_of.result n.result
+          (sram-is) c.extlen_of.ensures n.ensures c.if-due-ne0.false a.code ec;
+      refused = λ no. absurd (no (ap (λ (r : Reply). r.number) u.ensures ∙ up-number (byte_of a.code a.address a.value) a.size z));
+    }

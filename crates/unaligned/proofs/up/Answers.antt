@@ -9,7 +9,7 @@ use Rattle.model.specs.Calls.{step}
 use lib.ListN.{replicate, length-set, length-replicate}
 use native.Mathlib.Omega.{arith}
 use mathlib.Core.Path.{◌≡◌, refl, sym, ap, ◌∙◌}
-use Prim.Native.Nat.{ℕ, ◌+◌, ◌-◌, ◌%◌, ◌≤◌}
+use Prim.Native.Nat.{ℕ, ◌+◌, ◌%◌, ◌≤◌}
 use Rattle.unaligned.proofs.up.Goals as goal
 
 pub loop-k-init : goal.loop-k-init
