@@ -1,6 +1,6 @@
 -- What the calls by value return, in the terms of program/specs. Laws over plain values: the chip that packed words
 -- stand for, and what a fetch never reports.
-use Rattle.std.specs.Prelude.{ℕ, Bool, true, false, cond, ◌≡◌, refl, List, eqb}
+use Rattle.std.specs.Prelude.{ℕ, cond, ◌≡◌, refl, List, eqb}
 use Rattle.std.proofs.Common.{sym, ap, ◌∙◌}
 use Rattle.model.specs.Records.{State, state}
 use Rattle.model.specs.Access.{cacheable}
@@ -8,13 +8,12 @@ use Rattle.model.specs.Reports.{Report, report, fetch_left, memory_moved, read_f
 use Rattle.model.specs.Fetches.{fetch_length, fetch_report}
 use Rattle.model.specs.Calls.{replied, fetch_due_in, fetch_behind_done}
 use Rattle.model.specs.Laws.{cond-elim}
-use Rattle.model.specs.declared.Left.{Left}
 use Rattle.model.specs.declared.Left.TheVariants.{NoWay}
 use Rattle.tags.specs.Words.{record_in}
 use Rattle.program.specs.declared.ChipRecord.{ChipRecord}
 use Rattle.program.specs.L1p.{in_l1p}
 use Rattle.program.specs.Fetches.{Chip, chip, ChipReply, with_l1p, beside_l1p, fetch_hit, fetch_miss, fetch_done, refused_fetch, fetch_step}
-use Rattle.program.specs.Chip.{ChipCall, fetch, chip_called, fetch_call, chip_lent_due}
+use Rattle.program.specs.Chip.{fetch, chip_called, fetch_call, chip_lent_due}
 use Rattle.program.specs.Runs.{ChipRun, chip_ran, ChipFramed}
 use Rattle.l1p_tags.specs.Lines.{lines_in, chip_in}
 use Rattle.fetches.specs.declared.Fetched.{Fetched}

@@ -1,8 +1,7 @@
 -- What checks 1 and 2 decide on the chip: the call is refused by their number with all as it was, or goes on; and then
 -- the data side has passed its own.
-use Rattle.std.specs.Prelude.{ℕ, zero, suc, Bool, cond, List, ◌≡◌, refl, ◌≢◌, length, eqb}
-use Rattle.std.proofs.Common.{sym, ap, ◌∙◌, arith, eq-eqb, ne_eqb}
-use Rattle.model.specs.Records.{State}
+use Rattle.std.specs.Prelude.{ℕ, zero, suc, cond, List, ◌≡◌, refl, ◌≢◌, length, eqb}
+use Rattle.std.proofs.Common.{sym, ◌∙◌, arith, eq-eqb, ne_eqb}
 use Rattle.model.specs.Refusals.{lowest_due, unless, lent_due}
 use Rattle.model.specs.Calls.{Reply, Call, called}
 use Rattle.model.specs.Laws.{cond-true}

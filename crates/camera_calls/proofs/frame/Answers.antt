@@ -34,8 +34,11 @@ returns-then-due-ne0 c =
     let a = c.args in
     due-front a.words.now a.l1d.now a.l2.now a.ext.now (length a.pixels.now) c.due_for-due.result c.extlen_of.result
     c.extlen_of.ensures c.due_for-due.ensures in
-    let a = c.args in let x = chip_at in let n = c.lent_due-stop in record { l1p_after = frame_refused a.turn a.pixels.now x n.result n.ensures c.if-stop-ne0.false c.due_for-due.result (own-due) _
-          (c.refused-then-due-ne0.ensures x.data_side) c.if-due-ne0.true; refused = λ _. refl }
+    let a = c.args in let x = chip_at in let n = c.lent_due-stop in record {
+      l1p_after = frame_refused a.turn a.pixels.now x n.result n.ensures c.if-stop-ne0.false c.due_for-due.result (own-due) _
+          (c.refused-then-due-ne0.ensures x.data_side) c.if-due-ne0.true;
+      refused = λ _. refl;
+    }
 
 pub slice_bounds-frame-end-2 : goal.slice_bounds-frame-end-2
 slice_bounds-frame-end-2 c =
@@ -47,8 +50,11 @@ frame-requires c =
     let chip_at : (Chip) =
     let a = c.args in chip_in a.words.now a.l1d.now a.l2.now a.ext.now a.l1p.now in
     let a = c.args in
-    let n = c.lent_due-stop in let r = c.drop_under_block in record { tags_len = lent_length r.new.words (r.auto.words ∙ c.requires); ext_value = dropped-front a.words.now r.new.words a.l1d.now a.l2.now a.ext.now r.ensures.rest
-          (data-lent (chip_at) (sym n.ensures ∙ c.if-stop-ne0.false)) }
+    let n = c.lent_due-stop in let r = c.drop_under_block in record {
+      tags_len = lent_length r.new.words (r.auto.words ∙ c.requires);
+      ext_value = dropped-front a.words.now r.new.words a.l1d.now a.l2.now a.ext.now r.ensures.rest
+          (data-lent (chip_at) (sym n.ensures ∙ c.if-stop-ne0.false));
+    }
 
 pub returns : goal.returns
 returns c =
@@ -65,6 +71,9 @@ returns c =
     let l = f.auto.tags ∙ lent_length us (r.auto.words ∙ c.requires) in
     let done = framed-front a.words.now us d m e r.ensures.rest vs d' m' e' l f.result a.turn a.pixels.now f.ensures.ext_after in
     let lines = back-lines us vs l ∙ r.ensures.by_index d m e
-    ∙ ap (λ b. drop_under_block x.data_side b 768 x.lines) c.place_of.ensures in record { l1p_after = frame-accepted a.turn a.pixels.now x n.result n.ensures c.if-stop-ne0.false c.due_for-due.result (own-due)
-          _ (lines_in (vs ++ drop 5253 us)) done lines c.if-due-ne0.false; refused = λ k. absurd (k (accepted-number a.turn a.pixels.now x n.result n.ensures c.if-stop-ne0.false c.due_for-due.result (own-due)
-          _ done c.if-due-ne0.false)) }
+    ∙ ap (λ b. drop_under_block x.data_side b 768 x.lines) c.place_of.ensures in record {
+      l1p_after = frame-accepted a.turn a.pixels.now x n.result n.ensures c.if-stop-ne0.false c.due_for-due.result (own-due)
+          _ (lines_in (vs ++ drop 5253 us)) done lines c.if-due-ne0.false;
+      refused = λ k. absurd (k (accepted-number a.turn a.pixels.now x n.result n.ensures c.if-stop-ne0.false c.due_for-due.result (own-due)
+          _ done c.if-due-ne0.false));
+    }

@@ -17,8 +17,11 @@ pub returns-then-lent-ne0 : goal.returns-then-lent-ne0
 returns-then-lent-ne0 c =
     let chip_at : (Chip) =
     let a = c.args in chip_in a.words.now a.l1d.now a.l2.now a.ext.now a.l1p.now in
-    let a = c.args in let n = c.lent_due-lent in record { l1p_after = ap (λ (x : Answer). chip_answer_of x (chip_at)) c.numbered.ensures
-          ∙ beside-refused (chip_at) n.result n.ensures (transfer_in a.address a.buffer.now) c.if-lent-ne0.true; refused = λ _. refl }
+    let a = c.args in let n = c.lent_due-lent in record {
+      l1p_after = ap (λ (x : Answer). chip_answer_of x (chip_at)) c.numbered.ensures
+          ∙ beside-refused (chip_at) n.result n.ensures (transfer_in a.address a.buffer.now) c.if-lent-ne0.true;
+      refused = λ _. refl;
+    }
 
 pub slice_bounds-transfer_in-end-2 : goal.slice_bounds-transfer_in-end-2
 slice_bounds-transfer_in-end-2 c =
@@ -31,5 +34,8 @@ transfer_in-number-requires c =
 pub returns : goal.returns
 returns c =
     let a = c.args in let n = c.lent_due-lent in let t = c.transfer_in-number in let ws = a.words.now in let vs = t.new.tags in
-    let m' = t.new.l2 in let e' = t.new.ext in let l = t.auto.tags ∙ lent_length ws c.requires in let q = c.numbered-2.ensures in record { l1p_after = ap (λ (x : Answer). chip_answer_of x (chip_in (vs ++ drop 5253 ws) a.l1d.now m' e' a.l1p.now)) q
-          ∙ in-done ws a.l1d.now a.l2.now a.ext.now a.l1p.now n.result n.ensures c.if-lent-ne0.false vs m' e' l a.address a.buffer.now t.result t.ensures.ext_after; refused = λ k. ap (λ (us : List ℕ). us ++ drop 5253 ws) (t.ensures.refused (λ o. k (ap (λ (x : Answer). x.number) q ∙ o))) ∙ take-append-drop 5253 ws }
+    let m' = t.new.l2 in let e' = t.new.ext in let l = t.auto.tags ∙ lent_length ws c.requires in let q = c.numbered-2.ensures in record {
+      l1p_after = ap (λ (x : Answer). chip_answer_of x (chip_in (vs ++ drop 5253 ws) a.l1d.now m' e' a.l1p.now)) q
+          ∙ in-done ws a.l1d.now a.l2.now a.ext.now a.l1p.now n.result n.ensures c.if-lent-ne0.false vs m' e' l a.address a.buffer.now t.result t.ensures.ext_after;
+      refused = λ k. ap (λ (us : List ℕ). us ++ drop 5253 ws) (t.ensures.refused (λ o. k (ap (λ (x : Answer). x.number) q ∙ o))) ∙ take-append-drop 5253 ws;
+    }

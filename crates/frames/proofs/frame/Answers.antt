@@ -56,8 +56,11 @@ returns c =
     let a = c.args in lent-well a.tags.now a.l1d.now a.l2.now a.ext.now c.requires.ext_value in
     let due-is : (c.due_for-due.result ≡ frame_due_in (state_at) (length c.args.pixels.now)) =
     c.due_for-due.ensures ∙ ap (λ (e : ℕ). frame_due e (length c.args.pixels.now)) c.extlen_of.ensures in
-    let a = c.args in let r = c.add_up-sums in let u = c.put in record { ext_after = frame-done a.turn a.pixels.now (state_at) (well) (sym (due-is) ∙ c.if-due-ne0.false)
+    let a = c.args in let r = c.add_up-sums in let u = c.put in record {
+      ext_after = frame-done a.turn a.pixels.now (state_at) (well) (sym (due-is) ∙ c.if-due-ne0.false)
           (λ i. omega (arith, c.shared_slice_known-1.given i)) c.place_of-place.result c.next_turn.result r.result
           (state_in u.new.tags u.new.l1d u.new.l2 u.new.ext)
           (state_in r.new.tags r.new.l1d r.new.l2 r.new.ext)
-          c.place_of-place.ensures c.next_turn.ensures u.ensures r.ensures.ext_after r.ensures.told; refused = λ n. absurd (n refl) }
+          c.place_of-place.ensures c.next_turn.ensures u.ensures r.ensures.ext_after r.ensures.told;
+      refused = λ n. absurd (n refl);
+    }

@@ -1,5 +1,4 @@
 -- `load::has_room` meets its contract: each turn takes the bytes of one access from the room that is left.
-use Rattle.std.proofs.Common.{◌-◌}
 use Rattle.load.specs.Passes.{Turned, turn, measuring-starts, measuring-on, measuring-stops}
 use Rattle.load.specs.Passes.{measuring-ends}
 use Rattle.load.proofs.has_room.Goals as goal

@@ -1,5 +1,5 @@
 -- `load::seeded` meets its contract: each turn puts one word behind the others, up to the 55th.
-use Rattle.std.proofs.Common.{◌≡◌, ◌-◌, replicate, refl, arith}
+use Rattle.std.proofs.Common.{◌≡◌, replicate, refl, arith}
 use Rattle.load.specs.Ring.{ring-starts, seeded-on}
 use Rattle.load.proofs.seeded.Goals as goal
 
@@ -15,12 +15,11 @@ pub bounds-ring-i-in-loop-i : goal.bounds-ring-i-in-loop-i
 bounds-ring-i-in-loop-i c = omega (arith, c.loop-i.invariant.2.full)
 
 pub loop-i-preserved : goal.loop-i-preserved
-loop-i-preserved c =
-    (
-      omega arith,
-      omega arith,
-      seeded-on _ c.loop-i.invariant.2 c.loop-i.invariant.0 c.loop-i-test.true c.sum.ensures,
-    )
+loop-i-preserved c = (
+  omega arith,
+  omega arith,
+  seeded-on _ c.loop-i.invariant.2 c.loop-i.invariant.0 c.loop-i-test.true c.sum.ensures,
+)
 
 pub returns : goal.returns
 returns c =

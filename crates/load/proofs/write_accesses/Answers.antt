@@ -1,6 +1,6 @@
 -- `load::write_accesses` meets its contract: each turn puts one access behind the point, which the writer does first of
 -- the accesses that are left.
-use Rattle.std.proofs.Common.{◌-◌, rules}
+use Rattle.std.proofs.Common.{rules}
 use Rattle.load.specs.Passes.{Turned, turn, putting-starts, putting-room, putting-on, putting-ends}
 use Rattle.load.proofs.write_accesses.Goals as goal
 

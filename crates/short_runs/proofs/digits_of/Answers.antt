@@ -1,5 +1,4 @@
 -- `short_runs::digits_of` meets its contract: each turn puts one digit in its place.
-use Prim.Native.Nat.{◌-◌}
 use native.Mathlib.Omega.{arith}
 use Rattle.short_runs.specs.Digits.{filling-starts, weight-some, digit-small, filling-on, filling-ends}
 use Rattle.short_runs.proofs.digits_of.Goals as goal

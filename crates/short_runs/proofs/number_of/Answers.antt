@@ -1,5 +1,4 @@
 -- `short_runs::number_of` meets its contract: each turn passes one digit.
-use Prim.Native.Nat.{◌-◌}
 use native.Mathlib.Omega.{arith}
 use Rattle.short_runs.specs.Digits.{number-long, counting-starts, counting-fits, counting-refused}
 use Rattle.short_runs.specs.Digits.{counting-on, counting-ends}

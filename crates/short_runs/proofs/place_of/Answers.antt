@@ -1,5 +1,4 @@
 -- `short_runs::place_of` meets its contract: each turn passes the runs of one length.
-use Prim.Native.Nat.{◌-◌}
 use native.Mathlib.Omega.{arith}
 use Rattle.short_runs.specs.Digits.{placing-starts, placing-fits, placing-less, placing-on, placing-ends}
 use Rattle.short_runs.proofs.place_of.Goals as goal

@@ -1,5 +1,4 @@
 -- `trace_writer::add_number` meets its contract: each turn puts one group behind the others.
-use Prim.Native.Nat.{◌-◌}
 use native.Mathlib.Omega.{arith}
 use lib.ListN.{length-set}
 use Rattle.trace_writer.specs.Encoding.{grouping-starts, grouping-inside, grouping-less, grouping-on}

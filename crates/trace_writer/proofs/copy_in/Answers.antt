@@ -1,5 +1,4 @@
 -- `trace_writer::copy_in` meets its contract: byte by byte.
-use Prim.Native.Nat.{◌-◌}
 use mathlib.Core.Path.{◌≡◌, ◌∙◌, ap}
 use native.Mathlib.Omega.{arith}
 use lib.ListN.{length-set}
