@@ -52,9 +52,9 @@ pub fn transfer_out(
         ≡ chip_called (on_data (transfer_out address buffer.old)) (chip_in words.old l1d.old l2.old ext.old l1p.now) }
     ensures refused { result.number ≢ 0 → words.new ≡ words.old }
 {
-    let lent = l1p_check::lent_due(words, l1d, l2, ext, l1p);
-    if lent != 0 {
-        return chip_answers::numbered(lent);
+    let refusal = l1p_check::lent_due(words, l1d, l2, ext, l1p);
+    if refusal != 0 {
+        return chip_answers::numbered(refusal);
     }
     let n = tags::WORDS;
     let number = transfers::transfer_out(&mut words[..n], address, buffer, l1d, l2, ext);

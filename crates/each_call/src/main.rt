@@ -334,7 +334,7 @@ fn one(
     ext: &mut [u8; 65536],
     l1p: &mut [u8; 16384],
 ) -> io::Result<ChipRecord> {
-    if code == 13 {
+    if (code == 13) | (21 < code) {
         seen(rt, r, l2, ext, a)?;
         return Ok(r);
     }

@@ -33,7 +33,7 @@ use Rattle.agreement.proofs.Good.{layout_of, Anything, Well}
 use Rattle.agreement.proofs.Tested.{well-due, well-shape}
 use Rattle.agreement.proofs.Unaligned.{one-due, AllFit, read_up_lem, up-bytes}
 use Rattle.tags.specs.Words.{record_in, state_in}
-use Rattle.unaligned.specs.Meets.{lent-well}
+use Rattle.unaligned.proofs.Meets.{lent-well}
 use Rattle.run.specs.Upwards.{up_answers}
 use Rattle.frame_rows.specs.Reads.{reads_to, byte_given, reads-join, byte-join, answer-byte, reads-called}
 use Rattle.frame_rows.specs.Sums.{Added}

@@ -1,3 +1,2 @@
 pub mod Upwards
 pub mod Single
-pub mod Meets

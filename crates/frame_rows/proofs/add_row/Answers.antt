@@ -2,7 +2,7 @@
 -- line behind the first read the others are hits; else they go through the loop. No sum wraps: what is added is a byte.
 use Rattle.frame_rows.specs.Rows.{Row, row_at, past_row, past-added, hits-done, hits-added, rest-done, rest-added}
 use Rattle.frame_rows.specs.Sums.{Added}
-use Rattle.unaligned.specs.Meets.{lent-well}
+use Rattle.unaligned.proofs.Meets.{lent-well}
 use Rattle.model.specs.Records.{State}
 use Rattle.model.specs.Lines.{l1d_set_of, l1d_data, l1d_line}
 use Rattle.model.specs.Ways.{l1d_find, l1d_way, in_l1d}

@@ -4,7 +4,7 @@
 use Rattle.frame_rows.specs.Reads.{byte_given, no_reads}
 use Rattle.frame_rows.specs.Sums.{no_rows, room-left, row_read, row-added, summed}
 use Rattle.frame_rows.specs.Rows.{PlaceAt, RowAt, reads-lent, reads-ext}
-use Rattle.unaligned.specs.Meets.{lent-well}
+use Rattle.unaligned.proofs.Meets.{lent-well}
 use Rattle.agreement.proofs.Good.{Well}
 use Rattle.tags.specs.Words.{record_in, state_in}
 use Rattle.model.specs.Records.{State}

@@ -1,7 +1,7 @@
 -- `frames::frame` meets its contract: refused by the number due, or placed, then read and added up (specs/Done). The
 -- pixels that are lent are bytes.
 use Rattle.frames.specs.Done.{put-well, frame_refused, frame-done}
-use Rattle.unaligned.specs.Meets.{lent-well}
+use Rattle.unaligned.proofs.Meets.{lent-well}
 use Rattle.agreement.specs.Frames.{frame_due, frame_due_in}
 use Rattle.agreement.proofs.Good.{Well}
 use Rattle.agreement.proofs.Tested.{well-due}

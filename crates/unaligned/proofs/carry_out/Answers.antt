@@ -1,7 +1,7 @@
 -- `unaligned::carry_out` meets its contract: the number due, or the bytes one after another. The words passed checks 1
 -- and 2, so that the state is well formed, and specs/Meets has each way through the code.
 use Rattle.unaligned.specs.Upwards.{byte_of}
-use Rattle.unaligned.specs.Meets.{lent-well, sram-low, goes_on, read-refused, write-refused, read-up-done, write-up-done, up-number}
+use Rattle.unaligned.proofs.Meets.{lent-well, sram-low, goes_on, read-refused, write-refused, read-up-done, write-up-done, up-number}
 use Rattle.agreement.proofs.Good.{Well}
 use Rattle.tags.specs.Words.{record_in}
 use Rattle.model.specs.Memories.{sram_length}
