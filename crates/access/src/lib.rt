@@ -3,7 +3,7 @@
 // through crate memory.
 #![tactic(auto)]
 
-ghost use Rattle.std.specs.Prelude.{true, false, cond, ◌≢◌, ◌≡◌, List, [], ℕ, ◌<◌, eqb, ltb, length};
+ghost use Rattle.std.specs.Prelude.{true, false, cond, ◌≢◌, ◌≡◌, List, [], ℕ, ◌<◌, eqb, ltb, length, OnErr};
 ghost use Rattle.model.specs.Bytes.{little, little_bytes};
 ghost use Rattle.model.specs.Lines.{l1d_set_of};
 ghost use Rattle.model.specs.Memories.{external_base};
@@ -13,23 +13,23 @@ ghost use Rattle.model.specs.Homes.{memory_part, put_memory};
 ghost use Rattle.model.specs.Access.{cacheable, l1d_bytes, use_hit, evict_l1d, put_l1d, read_hit, write_hit};
 ghost use Rattle.model.specs.Reports.{no_report};
 ghost use Rattle.model.specs.Refusals.{size_ok};
-ghost use Rattle.model.specs.Calls.{reply, step};
+ghost use Rattle.model.specs.Calls.{reply, accepted, step};
 ghost use Rattle.model.specs.declared.Record.{Record};
 ghost use Rattle.tags.specs.Words.{record_words, record_in, state_in};
 ghost use Rattle.tags.specs.Sizes.{Lent};
-ghost use Rattle.access.specs.Serving.{answered, answer_of, plain_answer, missed, passed, RoomTold};
+ghost use Rattle.access.specs.Answered.{answered, accepted_of, answer_of, plain_answer, missed, passed, RoomTold};
 
-use geometry::{L1d, L2};
+use geometry::{L1d, Split};
+use kinds::{Refusal, Server};
 use model::{Command, Left};
 
-// What a call answers: the number of its refusal (0: accepted), who served it, and the value that was read. And what an
-// access reports (02, U2): which line left a way of L1D and of L2 for it, and how many bytes of external memory it read
-// and wrote.
+// What an accepted call answers: who served it, if it is an access, and the value that was read. And what an access
+// reports (02, U2): which line left a way of L1D and of L2 for it, and how many bytes of external memory it read and
+// wrote.
 #[derive(Clone, Copy)]
 pub struct Answer {
     pub value: u64,
-    pub number: u8,
-    pub server: u8,
+    pub server: Option<Server>,
     pub l1d_left: Left,
     pub l2_left: Left,
     pub read: u32,
@@ -37,16 +37,14 @@ pub struct Answer {
 }
 
 // An answer that reports nothing.
-pub fn plain(number: u8, server: u8, value: u64) -> Answer
-    ensures { result ≡ plain_answer number server value }
+pub fn plain(server: Option<Server>, value: u64) -> Answer
+    ensures { result ≡ plain_answer server value }
 {
-    let none = Left::NoWay;
     Answer {
         value: value,
-        number: number,
         server: server,
-        l1d_left: none,
-        l2_left: none,
+        l1d_left: Left::NoWay,
+        l2_left: Left::NoWay,
         read: 0,
         written: 0,
     }
@@ -62,6 +60,7 @@ pub fn way_value(i: usize, w: usize, a: u32, n: u32, l1d: &[u8]) -> u64
 }
 
 // Bytes changed, line dirty.
+#[tactic(auto, unfolding(model::specs::Access::put_l1d))]
 pub fn put_way(tags: &mut [u32], i: usize, w: usize, a: u32, n: u32, v: u64, l1d: &mut [u8])
     requires i_bound { ((i < 128) × (w < 2)) × (length tags.old ≡ record_words) }
     requires i_value { (i ≡ l1d_set_of a) × (size_ok n ≡ true) }
@@ -69,11 +68,12 @@ pub fn put_way(tags: &mut [u32], i: usize, w: usize, a: u32, n: u32, v: u64, l1d
         ≡ put_l1d w a (little_bytes v n) (state_in tags.old l1d.old m e) }
 {
     memory::store(l1d, L1d::data_at(i, w) + L1d::offset_of(a), n, v);
-    let y = tags::l1d_line(tags, i, w);
-    tags::l1d_put(tags, i, w, geometry::line_at(y.address, true));
+    let y = tags::line::<L1d>(tags, i, w);
+    tags::put::<L1d>(tags, i, w, geometry::line_at(y.address, true));
 }
 
 // The way that was hit is used, unless L1D is frozen.
+#[tactic(auto, unfolding(model::specs::Access::use_hit, model::specs::Ways::use_l1d))]
 pub fn use_hit(tags: &mut [u32], i: usize, w: usize)
     requires { ((i < 128) × (w < 2)) × (length tags.old ≡ record_words) }
     ensures { (d m e : List ℕ) → state_in tags.new d m e ≡ use_hit i w (state_in tags.old d m e) }
@@ -81,10 +81,11 @@ pub fn use_hit(tags: &mut [u32], i: usize, w: usize)
     if tags::frozen_of(tags) {
         return;
     }
-    tags::l1d_use(tags, i, w);
+    tags::touch::<L1d>(tags, i, w);
 }
 
 // A hit in way w of L1D set i.
+#[tactic(auto, unfolding(model::specs::Access::read_hit, model::specs::Access::write_hit))]
 pub fn hit(tags: &mut [u32], i: usize, w: usize, c: Command, l1d: &mut [u8]) -> u64
     requires i_bound { ((i < 128) × (w < 2)) × (length tags.old ≡ record_words) }
     requires i_value { (i ≡ l1d_set_of c.second) × (size_ok c.first ≡ true) }
@@ -103,7 +104,7 @@ pub fn hit(tags: &mut [u32], i: usize, w: usize, c: Command, l1d: &mut [u8]) -> 
 }
 
 // ---- a miss
-// A way of L1D that was emptied, or none: which line left it, and how many bytes of it went to external memory.
+// A way of L1D that was emptied: which line left it, and how many bytes of it went to external memory.
 #[derive(Clone, Copy)]
 pub struct Room {
     pub way: usize,
@@ -115,43 +116,38 @@ pub struct Room {
 // miss chooses none, and neither does a read miss where L1D is frozen.
 pub fn free_way(
     tags: &mut [u32],
-    sram: usize,
-    sets: usize,
+    split: Split,
     i: usize,
     none: bool,
     l1d: &[u8],
     l2: &mut [u8],
     ext: &mut [u8],
-) -> Room
+) -> Option<Room>
     requires i_bound { i < 128 }
-    requires lent { Lent sram sets tags.old }
+    requires lent { Lent split.sram split.sets tags.old }
     ensures room_told { RoomTold result none i (state_in tags.old l1d.now l2.old ext.old) }
     ensures ext_after { state_in tags.new l1d.now l2.new ext.new
         ≡ cond none (state_in tags.old l1d.now l2.old ext.old)
         (evict_l1d i (l1d_victim (l1d_set_at (record_in tags.old) i)) (state_in tags.old l1d.now l2.old ext.old)) }
+    ensures lent { Lent split.sram split.sets tags.new }
 {
     if none {
-        return Room {
-            way: 0,
-            left: Left::NoWay,
-            written: 0,
-        };
+        return None;
     }
-    let w = tags::l1d_victim(tags, i);
-    let g = l1d_writeback::evict_l1d(tags, sram, sets, i, w, l1d, l2, ext);
-    let k = g.left;
-    Room {
+    let w = tags::victim::<L1d>(tags, i);
+    let g = l1d_writeback::evict_l1d(tags, split, i, w, l1d, l2, ext);
+    Some(Room {
         way: w,
-        left: k,
+        left: g.left,
         written: g.written,
-    }
+    })
 }
 
 // Neither way of L1D set i holds the line.
+#[tactic(auto, using(memory::specs::Values::size_small))]
 pub fn miss(
     tags: &mut [u32],
-    sram: usize,
-    sets: usize,
+    split: Split,
     i: usize,
     c: Command,
     l1d: &mut [u8],
@@ -159,59 +155,55 @@ pub fn miss(
     ext: &mut [u8],
 ) -> Answer
     requires i_bound { (i < 128) × ((i ≡ l1d_set_of c.second) × (size_ok c.first ≡ true)) }
-    requires lent { Lent sram sets tags.old }
-    ensures { answer_of result (state_in tags.new l1d.new l2.new ext.new)
+    requires lent { Lent split.sram split.sets tags.old }
+    ensures { accepted_of result (state_in tags.new l1d.new l2.new ext.new)
         ≡ missed c (state_in tags.old l1d.old l2.old ext.old) }
 {
     let write = c.code == 1;
     let frozen = tags::frozen_of(tags);
-    let room = free_way(tags, sram, sets, i, write | frozen, l1d, l2, ext);
-    let h = l2_fetch::fetch_l2(tags, sram, sets, c.second, l1d, l2, ext);
-    let l = h.left;
+    let room = free_way(tags, split, i, write | frozen, l1d, l2, ext);
+    let h = l2_fetch::fetch_l2(tags, split, c.second, l1d, l2, ext);
     if write {
-        let n = l2_fetch::write_home(tags, sram, sets, h, c.second, c.first, c.value, l2, ext);
+        let n = l2_fetch::write_home(tags, split, h, c.second, c.first, c.value, l2, ext);
         return Answer {
             value: 0,
-            number: 0,
-            server: h.server,
+            server: Some(h.server),
             l1d_left: Left::NoWay,
-            l2_left: l,
+            l2_left: h.left,
             read: h.read,
             written: h.written + n,
         };
     }
-    if frozen {
-        let n = l2_fetch::home_moved(h, c.second, c.first, ext);
-        let v = l2_fetch::read_home(tags, sram, sets, h, c.second, c.first, l2, ext);
+    if let Some(room) = room {
+        let n = l2_fetch::fill_l1d(tags, split, h, i, room.way, c.second, l1d, l2, ext);
+        tags::touch::<L1d>(tags, i, room.way);
+        let v = way_value(i, room.way, c.second, c.first, l1d);
         return Answer {
             value: v,
-            number: 0,
-            server: h.server,
-            l1d_left: Left::NoWay,
-            l2_left: l,
+            server: Some(h.server),
+            l1d_left: room.left,
+            l2_left: h.left,
             read: h.read + n,
-            written: h.written,
+            written: room.written + h.written,
         };
     }
-    let way = room.way;
-    let k = room.left;
-    let n = l2_fetch::fill_l1d(tags, sram, sets, h, i, way, c.second, l1d, l2, ext);
-    tags::l1d_use(tags, i, way);
-    let v = way_value(i, way, c.second, c.first, l1d);
+    // frozen: just the bytes of the read
+    let n = l2_fetch::home_moved(h, c.second, c.first, ext);
+    let v = l2_fetch::read_home(tags, split, h, c.second, c.first, l2, ext);
     Answer {
         value: v,
-        number: 0,
-        server: h.server,
-        l1d_left: k,
-        l2_left: l,
+        server: Some(h.server),
+        l1d_left: Left::NoWay,
+        l2_left: h.left,
         read: h.read + n,
-        written: room.written + h.written,
+        written: h.written,
     }
 }
 
 // ---- the whole
 // Both bits are read first: the tests then choose between values and not between loads, which the whole loop is
 // faster for.
+#[tactic(auto, using(crate::specs::Serving::mar_bits), unfolding(model::specs::Access::cacheable))]
 pub fn is_cacheable(tags: &[u32], a: u32) -> bool
     requires { length tags.now ≡ record_words }
     ensures { result ≡ cacheable (record_in tags.now) a }
@@ -230,7 +222,7 @@ pub fn is_cacheable(tags: &[u32], a: u32) -> bool
 // External memory with MAR bit 0 is reached directly, touching no line.
 pub fn uncached(c: Command, ext: &mut [u8]) -> Answer
     requires { (size_ok c.first ≡ true) × (ltb c.second external_base ≡ false) }
-    ensures { (z : State) → z.ext ≡ ext.old → answer_of result (state z.rec z.l1d z.l2 ext.new) ≡ passed c z }
+    ensures { (z : State) → z.ext ≡ ext.old → accepted_of result (state z.rec z.l1d z.l2 ext.new) ≡ passed c z }
 {
     let at = geometry::external_place(c.second);
     let n = memory::held(ext, at, c.first);
@@ -238,19 +230,16 @@ pub fn uncached(c: Command, ext: &mut [u8]) -> Answer
         memory::store(ext, at, c.first, c.value);
         return Answer {
             value: 0,
-            number: 0,
-            server: 4,
+            server: Some(Server::External),
             l1d_left: Left::NoWay,
             l2_left: Left::NoWay,
             read: 0,
             written: n,
         };
     }
-    let v = memory::load(ext, at, c.first);
     Answer {
-        value: v,
-        number: 0,
-        server: 4,
+        value: memory::load(ext, at, c.first),
+        server: Some(Server::External),
         l1d_left: Left::NoWay,
         l2_left: Left::NoWay,
         read: n,
@@ -268,40 +257,53 @@ pub fn checked_value(c: Command) -> u64
     0
 }
 
-// A read or a write: number, server and value of the answer, the record and every lent byte are those of `step`.
-pub fn access(
+// A read or a write that nothing refuses: past the caches, a hit, or a miss.
+#[tactic(auto, unfolding(model::specs::Access::cacheable))]
+fn accepted(
     tags: &mut [u32],
-    sram: usize,
-    sets: usize,
+    split: Split,
     c: Command,
     l1d: &mut [u8],
     l2: &mut [u8],
     ext: &mut [u8],
 ) -> Answer
-    requires code_bound { c.code < 2 }
-    requires lent { Lent sram sets tags.old }
-    ensures ext_after { answer_of result (state_in tags.new l1d.new l2.new ext.new)
-        ≡ step c (state_in tags.old l1d.old l2.old ext.old) }
-    ensures refused { result.number ≢ 0 → tags.new ≡ tags.old }
+    requires c_bound { (c.code < 2) × (size_ok c.first ≡ true) }
+    requires lent { Lent split.sram split.sets tags.old }
+    ensures { accepted_of result (state_in tags.new l1d.new l2.new ext.new)
+        ≡ accepted c (state_in tags.old l1d.old l2.old ext.old) }
 {
-    let due = refusals::access_due(
-        sram as u32,
-        tags::extlen_of(tags),
-        c.first,
-        c.second,
-        checked_value(c),
-    );
-    if due != 0 {
-        return plain(due, 0, 0);
-    }
     if !is_cacheable(tags, c.second) {
         return uncached(c, ext);
     }
     let i = L1d::set_of(c.second);
-    let w = tags::l1d_find(tags, i, L1d::line_of(c.second));
-    if w < L1d::WAYS {
+    if let Some(w) = tags::find::<L1d>(tags, i, L1d::line_of(c.second)) {
         let v = hit(tags, i, w, c, l1d);
-        return plain(0, 1, v);
+        return plain(Some(Server::L1d), v);
     }
-    miss(tags, sram, sets, i, c, l1d, l2, ext)
+    miss(tags, split, i, c, l1d, l2, ext)
+}
+
+// A read or a write: number, server and value of the answer, the record and every lent byte are those of `step`.
+pub fn access(
+    tags: &mut [u32],
+    split: Split,
+    c: Command,
+    l1d: &mut [u8],
+    l2: &mut [u8],
+    ext: &mut [u8],
+) -> Result<Answer, Refusal>
+    requires code_bound { c.code < 2 }
+    requires lent { Lent split.sram split.sets tags.old }
+    ensures ext_after { answer_of result (state_in tags.new l1d.new l2.new ext.new)
+        ≡ step c (state_in tags.old l1d.old l2.old ext.old) }
+    ensures refused { OnErr result (tags.new ≡ tags.old) }
+{
+    refusals::access_due(
+        split.sram as u32,
+        tags::extlen_of(tags),
+        c.first,
+        c.second,
+        checked_value(c),
+    )?;
+    Ok(accepted(tags, split, c, l1d, l2, ext))
 }

@@ -5,69 +5,48 @@
 // Trace and external memory have room for 1,048,576 bytes.
 #![tactic(auto)]
 
-ghost use Rattle.std.specs.Prelude.{◌≡◌, ◌≤◌, length};
+ghost use Rattle.std.specs.Prelude.{◌≡◌, ◌≤◌, length, IfSome};
 
 use program::ChipRecord;
 use std::env::{Env, FillError};
 use std::io;
 
-// No mode is set, and no MAR bit: the chip stays as the fresh start leaves it.
-const FRESH: u8 = 255;
-
-// A number of the command line.
+// What the command line asks for: the seed, E and N.
 #[derive(Clone, Copy)]
-struct Given {
-    fine: bool,
-    value: u64,
-}
-
-const NO_NUMBER: Given = Given {
-    fine: false,
-    value: 0,
-};
-
-fn wide(x: u8) -> u64 {
-    x as u64
+struct Asked {
+    seed: u32,
+    extlen: u32,
+    count: u64,
 }
 
 // A decimal number that is `most` at most.
-fn number_in(text: &[u8], most: u64) -> Given
-    ensures { result.value ≤ most }
+fn number_in(text: &[u8], most: u64) -> Option<u64>
+    ensures { IfSome result (λ n. n ≤ most) }
 {
-    if text.len() == 0 {
-        return NO_NUMBER;
+    if text.is_empty() {
+        return None;
     }
     let mut value: u64 = 0;
     for byte in text {
-        let digit = wide(*byte);
-        if digit < 48 {
-            return NO_NUMBER;
+        if !byte.is_ascii_digit() {
+            return None;
         }
-        if 57 < digit {
-            return NO_NUMBER;
+        value = value.checked_mul(10)?.checked_add(u64::from(*byte - b'0'))?;
+        if most < value {
+            return None;
         }
-        if most < digit - 48 {
-            return NO_NUMBER;
-        }
-        if (most - (digit - 48)) / 10 < value {
-            return NO_NUMBER;
-        }
-        value = value * 10 + (digit - 48);
     }
-    Given {
-        fine: true,
-        value: value,
-    }
+    Some(value)
 }
 
 // The number that an argument is: one of more than 32 bytes is none.
-fn argument(rt: &impl Env, i: usize, most: u64) -> Given
-    ensures { result.value ≤ most }
+fn argument(rt: &impl Env, i: usize, most: u64) -> Option<u64>
+    ensures { IfSome result (λ n. n ≤ most) }
 {
     let mut text = [0u8; 32];
     match rt.arg(i, &mut text) {
         Ok(n) => number_in(&text[..n], most),
-        Err(_) => NO_NUMBER,
+        Err(_) => None,
     }
 }
 
@@ -75,10 +54,24 @@ fn argument(rt: &impl Env, i: usize, most: u64) -> Given
 fn is_given(rt: &impl Env, i: usize) -> bool {
     let mut text = [0u8; 32];
     match rt.arg(i, &mut text) {
-        Ok(_) => true,
-        Err(FillError::TooLong) => true,
+        Ok(_) | Err(FillError::TooLong) => true,
         Err(FillError::NotPresent) => false,
     }
+}
+
+// Three numbers, and nothing behind them.
+fn arguments(rt: &impl Env) -> Option<Asked> {
+    let seed = argument(rt, 1, 0xFFFFFFFF)?;
+    let extlen = argument(rt, 2, 0xFFFFFFFF)?;
+    let count = argument(rt, 3, 0xFFFFFFFFFFFFFFFF)?;
+    if is_given(rt, 4) {
+        return None;
+    }
+    Some(Asked {
+        seed: seed as u32,
+        extlen: extlen as u32,
+        count: count,
+    })
 }
 
 fn line_of(rt: &impl Print, name: &str, a: u64) -> io::Result<()> {
@@ -89,30 +82,13 @@ fn line(rt: &impl Print, name: &str, a: u64, b: u64) -> io::Result<()> {
     println!(rt; "{name} {a} {b}")
 }
 
-// 1 where both are what is asked for, else 0.
-fn one_if(number: u8, wanted: u8, server: u8, by: u8) -> u64
-    ensures { result ≤ 1 }
-{
-    if number != wanted {
-        return 0;
-    }
-    if server != by {
-        return 0;
-    }
-    1
-}
-
-// How many of the answers have this number and this server.
+// How many of the answers, each of ten bytes, have this number and this server.
 fn answers_with(answers: &[u8], count: usize, number: u8, server: u8) -> u64 {
-    let mut found: u64 = 0;
-    for k in 0..count {
-        if answers.len() / 10 <= k {
-            return found;
-        }
-        let at = k * 10;
-        found += one_if(answers[at], number, answers[at + 1], server);
-    }
-    found
+    let (each, _) = answers.as_chunks::<10>();
+    each.iter()
+        .take(count)
+        .filter(|x| x[0] == number && x[1] == server)
+        .count() as u64
 }
 
 // A line for what there are some of.
@@ -120,7 +96,7 @@ fn line_if_some(rt: &impl Print, name: &str, which: u8, count: u64) -> io::Resul
     if count == 0 {
         return Ok(());
     }
-    line(rt, name, wide(which), count)
+    line(rt, name, u64::from(which), count)
 }
 
 // Who served the accepted accesses.
@@ -149,17 +125,24 @@ fn show_refusals(rt: &impl Print, answers: &[u8], count: usize) -> io::Result<()
     Ok(())
 }
 
-// The record after a fresh start, and, unless the mode is FRESH, after both MAR bits and the mode were set.
-fn start(mode: u8, l1d: &mut [u8], l2: &mut [u8], ext: &mut [u8], l1p: &mut [u8]) -> ChipRecord {
-    let x = by_value::fresh(l1d, l2, ext, l1p);
-    let r = x.record;
-    if mode == FRESH {
-        return r;
+// The record after a fresh start, and, where a mode is asked for, after both MAR bits and that mode were set.
+fn start(
+    mode: Option<u8>,
+    l1d: &mut [u8],
+    l2: &mut [u8],
+    ext: &mut [u8],
+    l1p: &mut [u8],
+) -> ChipRecord {
+    let fresh = by_value::fresh(l1d, l2, ext, l1p);
+    match mode {
+        None => fresh.record,
+        Some(it) => {
+            let setting = [11, 0x80, 1, 1, 11, 0x81, 1, 1, 10, it];
+            let mut answers = [0u8; 30];
+            let q = by_value::run(fresh.record, &setting, l1d, l2, ext, l1p, &mut answers);
+            q.record
+        }
     }
-    let setting = [11, 0x80, 1, 1, 11, 0x81, 1, 1, 10, mode];
-    let mut answers = [0u8; 30];
-    let q = by_value::run(r, &setting, l1d, l2, ext, l1p, &mut answers);
-    q.record
 }
 
 // Room for a trace, or for external memory.
@@ -180,7 +163,7 @@ fn room_for_answers() -> [u8; 1497970]
 fn run_on(
     rt: &impl Print,
     trace: &[u8],
-    mode: u8,
+    mode: Option<u8>,
     l1d: &mut [u8],
     l2: &mut [u8],
     ext: &mut [u8],
@@ -191,11 +174,11 @@ fn run_on(
     let q = by_value::run(r, trace, l1d, l2, ext, l1p, answers);
     show_servers(rt, answers, q.count)?;
     show_refusals(rt, answers, q.count)?;
-    line(rt, "end", wide(q.stop), q.consumed as u64)
+    line(rt, "end", u64::from(q.stop), q.consumed as u64)
 }
 
 // External memory is the first bytes of a longer one, zero again before each run.
-fn run_over(rt: &impl Print, trace: &[u8], mode: u8, extlen: usize) -> io::Result<()> {
+fn run_over(rt: &impl Print, trace: &[u8], mode: Option<u8>, extlen: usize) -> io::Result<()> {
     let mut l1d = [0u8; 16384];
     let mut l2 = [0u8; 65536];
     let mut ext = room();
@@ -216,11 +199,6 @@ fn run_over(rt: &impl Print, trace: &[u8], mode: u8, extlen: usize) -> io::Resul
     )
 }
 
-fn run_in_mode(rt: &impl Print, trace: &[u8], mode: u8, extlen: usize) -> io::Result<()> {
-    line_of(rt, "mode", wide(mode))?;
-    run_over(rt, trace, mode, extlen)
-}
-
 // The load is the first n bytes.
 fn run_all(rt: &impl Print, output: &[u8], n: usize, extlen: usize) -> io::Result<()> {
     if output.len() < n {
@@ -228,10 +206,12 @@ fn run_all(rt: &impl Print, output: &[u8], n: usize, extlen: usize) -> io::Resul
     }
     let trace = &output[..n];
     println!(rt; "fresh")?;
-    run_over(rt, trace, FRESH, extlen)?;
-    run_in_mode(rt, trace, 0, extlen)?;
-    run_in_mode(rt, trace, 1, extlen)?;
-    run_in_mode(rt, trace, 2, extlen)
+    run_over(rt, trace, None, extlen)?;
+    for mode in 0..3 {
+        line_of(rt, "mode", u64::from(mode))?;
+        run_over(rt, trace, Some(mode), extlen)?;
+    }
+    Ok(())
 }
 
 fn make_and_run(
@@ -242,7 +222,7 @@ fn make_and_run(
     trace: &mut [u8],
 ) -> io::Result<()> {
     let x = load::load_trace(seed, extlen, count, trace);
-    line(rt, "load", wide(x.number), x.length as u64)?;
+    line(rt, "load", u64::from(x.number), x.length as u64)?;
     if x.number != 0 {
         return Ok(());
     }
@@ -255,21 +235,9 @@ fn make_and_run(
 }
 
 fn main(rt: HostRuntime) -> io::Result<()> {
-    let seed = argument(&rt, 1, 0xFFFFFFFF);
-    let extlen = argument(&rt, 2, 0xFFFFFFFF);
-    let count = argument(&rt, 3, 0xFFFFFFFFFFFFFFFF);
-    // Three numbers, and nothing behind them.
-    let mut fine = !is_given(&rt, 4);
-    fine = fine & seed.fine & extlen.fine & count.fine;
-    if !fine {
+    let Some(x) = arguments(&rt) else {
         return eprintln!(rt; "usage: bench_load SEED E N, all decimal");
-    }
+    };
     let mut trace = room();
-    make_and_run(
-        &rt,
-        seed.value as u32,
-        extlen.value as u32,
-        count.value,
-        &mut trace,
-    )
+    make_and_run(&rt, x.seed, x.extlen, x.count, &mut trace)
 }

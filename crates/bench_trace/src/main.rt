@@ -9,27 +9,12 @@ use by_value::RunResult;
 use std::io;
 use std::io::Read;
 
-// One answer of ten bytes: number, server, value, with a blank between and a line end.
-fn show(rt: &impl Print, answer: &[u8]) -> io::Result<()> {
-    if answer.len() < 10 {
-        return Ok(());
-    }
-    let value = memory::load8(answer, 2);
-    println!(rt; "{} {} {}", wide(answer[0]), wide(answer[1]), value)
-}
-
-fn wide(x: u8) -> u64 {
-    x as u64
-}
-
-// The first `count` answers.
+// The first `count` answers, each of ten bytes: number, server and value, with blanks between and a line end.
 fn show_all(rt: &impl Print, answers: &[u8], count: usize) -> io::Result<()> {
-    for k in 0..count {
-        if answers.len() / 10 <= k {
-            return Ok(());
-        }
-        let at = k * 10;
-        show(rt, &answers[at..at + 10])?;
+    let (each, _) = answers.as_chunks::<10>();
+    for answer in each.iter().take(count) {
+        let value = memory::load_bytes::<8>(answer, 2);
+        println!(rt; "{} {} {}", answer[0], answer[1], value)?;
     }
     Ok(())
 }
@@ -37,17 +22,14 @@ fn show_all(rt: &impl Print, answers: &[u8], count: usize) -> io::Result<()> {
 // What a run has answered, and where and why it has stopped.
 fn show_run(rt: &impl Print, answers: &[u8], ran: &RunResult) -> io::Result<()> {
     show_all(rt, answers, ran.count)?;
-    println!(rt; "end {} {}", wide(ran.stop), ran.consumed)
+    println!(rt; "end {} {}", ran.stop, ran.consumed)
 }
 
 // How many bytes a read has put at the buffer's start: none where it has failed.
 fn read_some(input: &mut impl Read, buffer: &mut [u8]) -> usize
     ensures { result ≤ length buffer.new }
 {
-    match input.read(buffer) {
-        Ok(n) => n,
-        Err(_) => 0,
-    }
+    input.read(buffer).unwrap_or(0)
 }
 
 // Reads until the buffer is full, the input ends or a read fails; how many bytes it has put at the buffer's start.
@@ -75,10 +57,8 @@ fn main(rt: HostRuntime) -> io::Result<()> {
     let mut stdin = rt.stdin();
     let mut input = [0u8; 4096];
     let n = read_full(&mut stdin, &mut input);
-    if n == 0 {
-        if !readable(&mut stdin) {
-            return eprintln!(rt; "bench-trace: standard input cannot be read");
-        }
+    if n == 0 && !readable(&mut stdin) {
+        return eprintln!(rt; "bench-trace: standard input cannot be read");
     }
     let mut l1d = [0u8; 16384];
     let mut l2 = [0u8; 65536];
@@ -86,9 +66,8 @@ fn main(rt: HostRuntime) -> io::Result<()> {
     let mut l1p = [0u8; 16384];
     let mut answers = [0u8; 40960];
     let start = by_value::fresh(&mut l1d, &mut l2, &mut ext, &mut l1p);
-    let r = start.record;
     let q = by_value::run(
-        r,
+        start.record,
         &input[..n],
         &mut l1d,
         &mut l2,

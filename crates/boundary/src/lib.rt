@@ -414,6 +414,7 @@ pub extern "C" fn c64x_run(
     calls::run_trace(words, trace, l1d, l2, ext, l1p, answers)
 }
 
+// The number that paper 01 has a view return, 0 when it is accepted: C is given it as it stands.
 #[unsafe(no_mangle)]
 pub extern "C" fn c64x_view(
     words: &[u32; WORDS],
@@ -425,14 +426,14 @@ pub extern "C" fn c64x_view(
     ensures { seen_as result seen.new
         ≡ view_into address (chip_in words.now [] l2.now ext.now []) seen.old }
 {
-    view::view_into(words, address, l2, ext, seen)
+    kinds::number_due(view::view_into(words, address, l2, ext, seen))
 }
 
 #[unsafe(no_mangle)]
 pub extern "C" fn c64x_view_number(words: &[u32; WORDS], address: u32, l2: &[u8], ext: &[u8]) -> u8
     ensures { result ≡ chip_view_due address (chip_in words.now [] l2.now ext.now []) }
 {
-    view::view_due(words, l2, ext, address)
+    kinds::number_due(view::view_due(words, l2, ext, address))
 }
 
 // ---- beside the chip: the short runs by number (02, U12)

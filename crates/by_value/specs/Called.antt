@@ -1,7 +1,5 @@
--- What the calls by value return, in the terms of program/specs. Laws over plain values: the chip that packed words
--- stand for, and what a fetch never reports.
+-- What the calls by value return, in the terms of program/specs; and what a fetch never reports.
 use Rattle.std.specs.Prelude.{ℕ, cond, ◌≡◌, refl, List, eqb}
-use Rattle.std.proofs.Common.{sym, ap, ◌∙◌}
 use Rattle.model.specs.Records.{State, state}
 use Rattle.model.specs.Access.{cacheable}
 use Rattle.model.specs.Reports.{Report, report, fetch_left, memory_moved, read_frozen_moved}
@@ -9,15 +7,11 @@ use Rattle.model.specs.Fetches.{fetch_length, fetch_report}
 use Rattle.model.specs.Calls.{replied, fetch_due_in, fetch_behind_done}
 use Rattle.model.specs.Laws.{cond-elim}
 use Rattle.model.specs.declared.Left.TheVariants.{NoWay}
-use Rattle.tags.specs.Words.{record_in}
 use Rattle.program.specs.declared.ChipRecord.{ChipRecord}
 use Rattle.program.specs.L1p.{in_l1p}
 use Rattle.program.specs.Fetches.{Chip, chip, ChipReply, with_l1p, beside_l1p, fetch_hit, fetch_miss, fetch_done, refused_fetch, fetch_step}
-use Rattle.program.specs.Chip.{fetch, chip_called, fetch_call, chip_lent_due}
+use Rattle.program.specs.Chip.{fetch_call, chip_lent_due}
 use Rattle.program.specs.Runs.{ChipRun, chip_ran, ChipFramed}
-use Rattle.l1p_tags.specs.Lines.{lines_in, chip_in}
-use Rattle.fetches.specs.declared.Fetched.{Fetched}
-use Rattle.fetches.specs.Told.{fetched_as}
 use Rattle.by_value.specs.declared.Called.{Called}
 use Rattle.by_value.specs.declared.FetchResult.{FetchResult}
 use Rattle.by_value.specs.declared.FrameResult.{FrameResult}
@@ -27,7 +21,7 @@ use Rattle.by_value.specs.declared.RunResult.{RunResult}
 abbrev pub chip_of : ChipRecord → List ℕ → List ℕ → List ℕ → List ℕ → Chip
 chip_of r d m e p = chip (state r.data_side d m e) r.l1p p
 
-abbrev pub called_as : Called → List ℕ → List ℕ → List ℕ → List ℕ → ChipReply
+unfoldable pub called_as : Called → List ℕ → List ℕ → List ℕ → List ℕ → ChipReply
 called_as x d m e p =
     with_l1p NoWay x.«record».l1p p
     (replied x.number x.server x.value
@@ -53,64 +47,26 @@ framed_as x d m e p = record { number = x.number; turn = x.turn; sums = x.sums; 
 abbrev pub ran_as : RunResult → List ℕ → List ℕ → List ℕ → List ℕ → List ℕ → ChipRun
 ran_as x d m e p o = chip_ran (chip_of x.«record» d m e p) x.consumed x.count x.stop o
 
--- ---- words and the record that they stand for
-pub chip-of : (ws : List ℕ) (r : ChipRecord) → (record_in ws ≡ r.data_side) × (lines_in ws ≡ r.l1p) → (d m e p : List ℕ) → chip_in ws d m e p ≡ chip_of r d m e p
-chip-of ws r h d m e p = λ i. chip (state (h.0 i) d m e) (h.1 i) p
-
-pub of-chip : (ws : List ℕ) (r : ChipRecord) → (r.data_side ≡ record_in ws) × (r.l1p ≡ lines_in ws) → (d m e p : List ℕ) → chip_of r d m e p ≡ chip_in ws d m e p
-of-chip ws r h d m e p = λ i. chip (state (h.0 i) d m e) (h.1 i) p
-
 -- ---- a fetch has no value, and reports no way of L1D
 abbrev pub Plain : ChipReply → Type 0
 Plain r = (r.value ≡ 0) × (r.report.l1d_left ≡ NoWay)
 
-behind-plain : (a : ℕ) (z : State) → (fetch_report a z).l1d_left ≡ NoWay
+behind_plain : (a : ℕ) (z : State) → (fetch_report a z).l1d_left ≡ NoWay
 unfolding fetch_report
-behind-plain a z =
+behind_plain a z =
     cond-elim (λ (q : Report). q.l1d_left ≡ NoWay) (cacheable z.rec a) (report NoWay (fetch_left a z) (read_frozen_moved fetch_length a z))
     (report NoWay NoWay (memory_moved a fetch_length z)) (λ _. refl) (λ _. refl)
 
 done_plain : (a : ℕ) (k : Chip) → Plain (fetch_done a k)
 unfolding fetch_done fetch_hit fetch_miss fetch_behind_done
 done_plain a k =
-    let b = behind-plain a k.data_side in
+    let b = behind_plain a k.data_side in
     cond-elim Plain (cacheable k.data_side.rec a) (cond (in_l1p k.lines a) (fetch_hit a k) (fetch_miss a k)) (beside_l1p (fetch_behind_done a k.data_side) k)
     (λ _. cond-elim Plain (in_l1p k.lines a) (fetch_hit a k) (fetch_miss a k) (λ _. (refl, refl)) (λ _. (refl, b))) (λ _. (refl, b))
 
-pub fetch-plain : (a : ℕ) (k : Chip) → Plain (chip_called (fetch a) k)
+pub fetch_plain : (a : ℕ) (k : Chip) → Plain (fetch_call a k)
 unfolding fetch_call fetch_step
-fetch-plain a k =
+fetch_plain a k =
     cond-elim Plain (eqb (chip_lent_due k) 0) (fetch_step a k) (refused_fetch (chip_lent_due k) k)
     (λ _. cond-elim Plain (eqb (fetch_due_in k.data_side a) 0) (fetch_done a k) (refused_fetch (fetch_due_in k.data_side a) k) (λ _. done_plain a k) (λ _. (refl, refl)))
     (λ _. (refl, refl))
-
--- so its answer on words, without these two, tells all
-abbrev fetched_less : Fetched → ChipRecord → FetchResult
-fetched_less y r =
-    record {
-      number = y.answer.number;
-      server = y.answer.server;
-      l2_left = y.answer.l2_left;
-      l1p_left = y.l1p_left;
-      external_read = y.answer.read;
-      external_written = y.answer.written;
-      bytes = y.bytes;
-      «record» = r;
-    }
-
-pub told-fetch : (a : ℕ) (y : Fetched) (r : ChipRecord) (k : Chip) (d m e p : List ℕ) → fetched_as y (chip_of r d m e p) ≡ chip_called (fetch a) k →
-    fetched_by (fetched_less y r) d m e p ≡ chip_called (fetch a) k
-told-fetch a y r k d m e p h =
-    let q = fetch-plain a k in
-    let v : y.answer.value ≡ 0 = ap (λ (x : ChipReply). x.value) h ∙ q.0 in
-    let l : y.answer.l1d_left ≡ NoWay = ap (λ (x : ChipReply). x.report.l1d_left) h ∙ q.1 in
-    (λ i. record {
-      number = y.answer.number;
-      server = y.answer.server;
-      value = sym v i;
-      bytes = y.bytes;
-      report = record { l1d_left = sym l i; l2_left = y.answer.l2_left; read = y.answer.read; written = y.answer.written };
-      l1p_left = y.l1p_left;
-      next = chip_of r d m e p;
-    })
-    ∙ h

@@ -5,7 +5,7 @@
 // (program/specs/Chip, Runs).
 #![tactic(auto)]
 
-ghost use Rattle.std.specs.Prelude.{List, [], ◌≡◌, ℕ, length};
+ghost use Rattle.std.specs.Prelude.{List, [], ◌≡◌, ℕ, Ok, Err, length};
 ghost use Rattle.model.specs.Trace.{command};
 ghost use Rattle.model.specs.Calls.{one_command, fresh_start, read_unaligned, write_unaligned, transfer_in, transfer_out};
 ghost use Rattle.program.specs.declared.ChipRecord.{ChipRecord};
@@ -18,12 +18,13 @@ ghost use Rattle.by_value.specs.Called.{chip_of, called_as, fetched_by, framed_a
 use access::Answer;
 use frames::COLUMNS;
 use geometry::L1p;
+use kinds::Refusal;
 use l1p_tags::WORDS;
 use model::Left;
 use program::ChipRecord;
 
-// What a call returns: the number of its refusal (0: accepted), the server and the value of an access, what an access
-// reports (02, U2), and the record after it.
+// What a call returns: the number that paper 01 has it return (0: accepted), the server's and the value of an access,
+// what an access reports (02, U2), and the record after it.
 #[derive(Clone, Copy)]
 pub struct Called {
     pub number: u8,
@@ -36,8 +37,8 @@ pub struct Called {
     pub record: ChipRecord,
 }
 
-// What a fetch returns (02, U4): number and server, what it reports, the bytes of its line (zero where it is refused),
-// and the record after it.
+// What a fetch returns (02, U4): number and server as the papers number them, what it reports, the bytes of its line
+// (zero where it is refused), and the record after it.
 #[derive(Clone, Copy)]
 pub struct FetchResult {
     pub number: u8,
@@ -50,8 +51,8 @@ pub struct FetchResult {
     pub record: ChipRecord,
 }
 
-// What a frame returns: the number of its refusal (0: accepted), whose turn is next, the sums of the columns, and the
-// record after it.
+// What a frame returns: the number that 02 has it return (0: accepted), whose turn is next, the sums of the columns, and
+// the record after it.
 #[derive(Clone, Copy)]
 pub struct FrameResult {
     pub number: u8,
@@ -60,8 +61,8 @@ pub struct FrameResult {
     pub record: ChipRecord,
 }
 
-// What a run returns: the record, the bytes of the trace that were consumed, the count of answers, and why it stopped
-// (0: at the end).
+// What a run returns: the record, the bytes of the trace that were consumed, the count of answers, and the number of why
+// it stopped (0: at the end).
 #[derive(Clone, Copy)]
 pub struct RunResult {
     pub record: ChipRecord,
@@ -70,23 +71,47 @@ pub struct RunResult {
     pub stop: u8,
 }
 
-// The answer of a call on words, with the record that the words stand for then.
-fn answered(x: Answer, words: &[u32]) -> Called
+// An answer, or a refusal, which has but its number, with the record that the words stand for then.
+#[tactic(auto, unfolding(crate::specs::Called::called_as))]
+fn accepted(x: Answer, after: ChipRecord) -> Called
+    ensures { (d m e p : List ℕ) → called_as result d m e p ≡ chip_answer_of (Ok x) (chip_of after d m e p) }
+{
+    Called {
+        number: 0,
+        server: kinds::server_told(x.server),
+        value: x.value,
+        l1d_left: x.l1d_left,
+        l2_left: x.l2_left,
+        external_read: x.read,
+        external_written: x.written,
+        record: after,
+    }
+}
+
+#[tactic(auto, unfolding(crate::specs::Called::called_as))]
+fn refused(refusal: Refusal, after: ChipRecord) -> Called
+    ensures { (d m e p : List ℕ) → called_as result d m e p ≡ chip_answer_of (Err refusal) (chip_of after d m e p) }
+{
+    Called {
+        number: refusal.number(),
+        server: 0,
+        value: 0,
+        l1d_left: Left::NoWay,
+        l2_left: Left::NoWay,
+        external_read: 0,
+        external_written: 0,
+        record: after,
+    }
+}
+
+fn answered(x: Result<Answer, Refusal>, words: &[u32]) -> Called
     requires { length words.now ≡ chip_words }
     ensures { (d m e p : List ℕ) → called_as result d m e p ≡ chip_answer_of x (chip_in words.now d m e p) }
 {
     let after = chip_packing::unpack(words);
-    let k = x.l1d_left;
-    let l = x.l2_left;
-    Called {
-        number: x.number,
-        server: x.server,
-        value: x.value,
-        l1d_left: k,
-        l2_left: l,
-        external_read: x.read,
-        external_written: x.written,
-        record: after,
+    match x {
+        Ok(answer) => accepted(answer, after),
+        Err(refusal) => refused(refusal, after),
     }
 }
 
@@ -202,17 +227,17 @@ pub fn frame(
     let mut words = [0u32; WORDS];
     chip_packing::pack(r, &mut words);
     let x = camera_calls::frame(&mut words, turn, pixels, l1d, l2, ext, l1p);
-    let after = chip_packing::unpack(&words);
     let sums = x.sums;
     FrameResult {
         number: x.number,
         turn: x.turn,
         sums: sums,
-        record: after,
+        record: chip_packing::unpack(&words),
     }
 }
 
 // A program fetch (02, U4): the 32 bytes of a line.
+#[tactic(auto, using(crate::specs::Called::fetch_plain))]
 pub fn fetch(
     r: ChipRecord,
     address: u32,
@@ -228,19 +253,30 @@ pub fn fetch(
     chip_packing::pack(r, &mut words);
     let x = access_calls::fetch(&mut words, address, l1d, l2, ext, l1p);
     let after = chip_packing::unpack(&words);
-    let y = x.answer;
-    let k = y.l2_left;
-    let l = x.l1p_left;
-    let bytes = x.bytes;
-    FetchResult {
-        number: y.number,
-        server: y.server,
-        l2_left: k,
-        l1p_left: l,
-        external_read: y.read,
-        external_written: y.written,
-        bytes: bytes,
-        record: after,
+    match x {
+        Ok(fetched) => {
+            let bytes = fetched.bytes;
+            FetchResult {
+                number: 0,
+                server: kinds::server_told(fetched.answer.server),
+                l2_left: fetched.answer.l2_left,
+                l1p_left: fetched.l1p_left,
+                external_read: fetched.answer.read,
+                external_written: fetched.answer.written,
+                bytes: bytes,
+                record: after,
+            }
+        }
+        Err(refusal) => FetchResult {
+            number: refusal.number(),
+            server: 0,
+            l2_left: Left::NoWay,
+            l1p_left: Left::NoWay,
+            external_read: 0,
+            external_written: 0,
+            bytes: [0u8; L1p::LINE],
+            record: after,
+        },
     }
 }
 
@@ -274,6 +310,7 @@ pub fn l1p_invalidate_all(r: ChipRecord, l1d: &[u8], l2: &[u8], ext: &[u8], l1p:
 }
 
 // A fresh start: L and E are the lengths that are lent. There is no record before it, so any stands for one.
+#[tactic(auto, unfolding(program::specs::Chip::chip_fresh))]
 pub fn fresh(l1d: &mut [u8], l2: &mut [u8], ext: &mut [u8], l1p: &mut [u8]) -> Called
     ensures { (r : ChipRecord) → called_as result l1d.new l2.new ext.new l1p.new
         ≡ chip_called (on_data fresh_start) (chip_of r l1d.old l2.old ext.old l1p.old) }
@@ -324,5 +361,5 @@ pub fn view_number(r: ChipRecord, l2: &[u8], ext: &[u8], address: u32) -> u8
 {
     let mut words = [0u32; WORDS];
     chip_packing::pack(r, &mut words);
-    view::view_due(&words, l2, ext, address)
+    kinds::number_due(view::view_due(&words, l2, ext, address))
 }

@@ -5,7 +5,7 @@
 // them.
 #![tactic(auto)]
 
-ghost use Rattle.std.specs.Prelude.{◌≢◌, ◌≡◌, length};
+ghost use Rattle.std.specs.Prelude.{◌≢◌, ◌≡◌, length, OnErr};
 ghost use Rattle.model.specs.Trace.{command};
 ghost use Rattle.model.specs.Calls.{one_command, fresh_start};
 ghost use Rattle.program.specs.Chip.{chip_lent_due, on_data, chip_called};
@@ -16,6 +16,7 @@ ghost use Rattle.calls.specs.Fresh.{chip_fresh_ok};
 
 use access::Answer;
 use geometry::{L1d, L1p, L2};
+use kinds::Refusal;
 use model::Command;
 
 // The smallest legal L and E: the record that comes with a refused fresh start has them.
@@ -37,6 +38,7 @@ fn command_of(code: u8, first: u32, second: u32, value: u64) -> Command
 
 // Any command, from its numbers as they come: the checks of lengths and record, then a run of this one
 // command.
+#[tactic(auto, using(chip_answers::specs::Passed::checks))]
 pub fn carry_out(
     words: &mut [u32],
     code: u8,
@@ -47,16 +49,13 @@ pub fn carry_out(
     l2: &mut [u8],
     ext: &mut [u8],
     l1p: &[u8],
-) -> Answer
+) -> Result<Answer, Refusal>
     requires { length words.old ≡ chip_words }
     ensures l1p_after { chip_answer_of result (chip_in words.new l1d.new l2.new ext.new l1p.now)
         ≡ chip_called (on_data (one_command (command code first second value))) (chip_in words.old l1d.old l2.old ext.old l1p.now) }
-    ensures refused { result.number ≢ 0 → words.new ≡ words.old }
+    ensures refused { OnErr result (words.new ≡ words.old) }
 {
-    let due = l1p_check::lent_due(words, l1d, l2, ext, l1p);
-    if due != 0 {
-        return chip_answers::numbered(due);
-    }
+    l1p_check::lent_due(words, l1d, l2, ext, l1p)?;
     let c = command_of(code, first, second, value);
     let none = [0u8; 1];
     let mut answer = [0u8; 10];
@@ -64,6 +63,7 @@ pub fn carry_out(
     q.last
 }
 
+#[tactic(auto, using(std::proofs::lemmas::Bool::Decides::nat_tests), unfolding(model::specs::Calls::fresh_ok))]
 fn fresh_ok(l1d: &[u8], l2: &[u8], ext: &[u8], l1p: &[u8]) -> bool
     ensures { result ≡ chip_fresh_ok l1d.now l2.now ext.now l1p.now }
 {
@@ -80,20 +80,21 @@ fn fresh_ok(l1d: &[u8], l2: &[u8], ext: &[u8], l1p: &[u8]) -> bool
 }
 
 // A fresh start: L and E are the lengths that are lent. What the words held before is not looked at.
+#[tactic(auto, using(crate::specs::Fresh::fresh_steps))]
 pub fn fresh(
     words: &mut [u32],
     l1d: &mut [u8],
     l2: &mut [u8],
     ext: &mut [u8],
     l1p: &mut [u8],
-) -> Answer
+) -> Result<Answer, Refusal>
     requires { length words.old ≡ chip_words }
     ensures { chip_answer_of result (chip_in words.new l1d.new l2.new ext.new l1p.new)
         ≡ chip_called (on_data fresh_start) (chip_in words.old l1d.old l2.old ext.old l1p.old) }
 {
     if !fresh_ok(l1d, l2, ext, l1p) {
         chip_packing::write_fresh(words, SMALLEST_L2, SMALLEST_EXTERNAL);
-        return chip_answers::numbered(1);
+        return Err(Refusal::LentLength);
     }
     let l = l2.len() as u32;
     let e = ext.len() as u32;
@@ -101,7 +102,7 @@ pub fn fresh(
     memory::clear_from(l2, 0);
     memory::clear_from(l1p, 0);
     chip_packing::write_fresh(words, l, e);
-    chip_answers::numbered(0)
+    Ok(chip_answers::done())
 }
 
 // What a run returns: the bytes of the trace that were consumed, the count of answers, and why it stopped (0: at the
@@ -115,6 +116,7 @@ pub struct Ran {
 }
 
 // A run over a trace; one answer of ten bytes for each command. Stopped by 1 or 2 it leaves every word as it was.
+#[tactic(auto, using(chip_answers::specs::Passed::checks), unfolding(program::specs::Runs::chip_run_call))]
 pub fn run_trace(
     words: &mut [u32],
     trace: &[u8],
@@ -130,12 +132,11 @@ pub fn run_trace(
     ensures refused { chip_lent_due (chip_in words.old l1d.old l2.old ext.old l1p.now) ≢ 0 → words.new
         ≡ words.old }
 {
-    let due = l1p_check::lent_due(words, l1d, l2, ext, l1p);
-    if due != 0 {
+    if let Err(refusal) = l1p_check::lent_due(words, l1d, l2, ext, l1p) {
         return Ran {
             consumed: 0,
             count: 0,
-            stop: due,
+            stop: refusal.number(),
         };
     }
     // the commands come from the trace, and the loop does not look at this one
@@ -144,6 +145,6 @@ pub fn run_trace(
     Ran {
         consumed: q.consumed,
         count: q.count,
-        stop: q.stop,
+        stop: kinds::number_due(q.stop),
     }
 }

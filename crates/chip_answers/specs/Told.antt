@@ -1,11 +1,13 @@
--- An answer, told as the reply of a call that chose no way of L1P; and with the bytes that the call handed back in a
--- buffer that was lent to it.
+-- An answer, or a refusal, told as the reply of a call that chose no way of L1P; and with the bytes that the call handed
+-- back in a buffer that was lent to it.
 use Rattle.std.specs.Prelude.{ℕ, List}
-use Rattle.access.specs.Serving.{answer_of}
+use Rattle.std.proofs.Common.{Result}
+use Rattle.kinds.specs.declared.Refusal.{Refusal}
+use Rattle.access.specs.Answered.{answer_of}
 use Rattle.access.specs.declared.Answer.{Answer}
 use Rattle.program.specs.Fetches.{Chip, ChipReply, beside_l1p}
 
-abbrev pub chip_answer_of : Answer → Chip → ChipReply
+abbrev pub chip_answer_of : Result Answer Refusal → Chip → ChipReply
 chip_answer_of x k = beside_l1p (answer_of x k.data_side) k
 
 abbrev pub with_chip_bytes : ChipReply → List ℕ → ChipReply

@@ -13,6 +13,7 @@ use model::Line;
 use program::ChipRecord;
 
 // ---- out of the words
+#[tactic(auto, using(crate::specs::Copied::taken))]
 fn lines_of(words: &[u32]) -> [Line; 512]
     requires { length words.now ≡ chip_words }
     ensures { result ≡ lines_in words.now }
@@ -20,26 +21,24 @@ fn lines_of(words: &[u32]) -> [Line; 512]
     let empty = geometry::empty_line();
     let mut xs = [empty; 512];
     for i in 0..L1p::SETS {
-        let x = l1p_tags::line(words, i);
-        xs[i] = x;
+        xs[i] = l1p_tags::line(words, i);
     }
     xs
 }
 
+#[tactic(auto, using(l1p_tags::specs::Lines::lent))]
 pub fn unpack(words: &[u32]) -> ChipRecord
     requires { length words.now ≡ chip_words }
     ensures { (result.data_side ≡ record_in words.now) × (result.l1p ≡ lines_in words.now) }
 {
-    let n = tags::WORDS;
-    let data_side = packing::unpack(&words[..n]);
-    let l1p = lines_of(words);
     ChipRecord {
-        data_side: data_side,
-        l1p: l1p,
+        data_side: packing::unpack(&words[..tags::WORDS]),
+        l1p: lines_of(words),
     }
 }
 
 // ---- into the words
+#[tactic(auto, using(crate::specs::Copied::put))]
 fn put_lines(words: &mut [u32], xs: [Line; 512])
     requires { length words.old ≡ chip_words }
     ensures words_after { lines_in words.new ≡ xs }
@@ -51,23 +50,21 @@ fn put_lines(words: &mut [u32], xs: [Line; 512])
     }
 }
 
+#[tactic(auto, using(l1p_tags::specs::Lines::lent))]
 pub fn pack(r: ChipRecord, words: &mut [u32])
     requires { length words.old ≡ chip_words }
     ensures { (record_in words.new ≡ r.data_side) × (lines_in words.new ≡ r.l1p) }
 {
-    let data_side = r.data_side;
-    let l1p = r.l1p;
-    let n = tags::WORDS;
-    packing::pack(data_side, &mut words[..n]);
-    put_lines(words, l1p);
+    packing::pack(r.data_side, &mut words[..tags::WORDS]);
+    put_lines(words, r.l1p);
 }
 
 // ---- a fresh start, with L = l2len and E = extlen
+#[tactic(auto, using(l1p_tags::specs::Lines::lent))]
 pub fn write_fresh(words: &mut [u32], l2len: u32, extlen: u32)
     requires { length words.old ≡ chip_words }
     ensures { (record_in words.new ≡ fresh_record l2len extlen) × (lines_in words.new ≡ fresh_l1p) }
 {
-    let n = tags::WORDS;
-    packing::write_fresh(&mut words[..n], l2len, extlen);
+    packing::write_fresh(&mut words[..tags::WORDS], l2len, extlen);
     l1p_commands::invalidate_all(words);
 }

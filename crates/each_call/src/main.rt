@@ -14,20 +14,12 @@ use model::Left;
 use program::ChipRecord;
 use std::io;
 
-fn wide(x: u8) -> u64 {
-    x as u64
-}
-
-fn wide32(x: u32) -> u64 {
-    x as u64
-}
-
 fn show(rt: &impl Print, a: u64, b: u64, c: u64) -> io::Result<()> {
     println!(rt; "{a} {b} {c}")
 }
 
 fn told(rt: &impl Print, x: Called) -> io::Result<ChipRecord> {
-    show(rt, wide(x.number), wide(x.server), x.value)?;
+    show(rt, u64::from(x.number), u64::from(x.server), x.value)?;
     Ok(x.record)
 }
 
@@ -39,18 +31,19 @@ fn seen(rt: &impl Print, r: ChipRecord, l2: &[u8], ext: &[u8], address: u32) -> 
     if part.len() < 3 {
         return show(rt, 0, 0, 0);
     }
-    show(rt, part.len() as u64, wide(part[0]), wide(part[2]))
+    show(
+        rt,
+        part.len() as u64,
+        u64::from(part[0]),
+        u64::from(part[2]),
+    )
 }
 
 // How many bytes of a buffer are lent: those that are asked for, and at most all.
 fn front(n: u32, all: usize) -> usize
     ensures { result ≤ all }
 {
-    let k = n as usize;
-    if k < all {
-        return k;
-    }
-    all
+    all.min(n as usize)
 }
 
 // A transfer of the front of a buffer whose bytes are all v. Of one out the first and the last byte are told.
@@ -89,7 +82,12 @@ fn transferred_out(
     let mut buffer = [v8; 128];
     let k = front(n, 128);
     let x = by_value::transfer_out(r, address, &mut buffer[..k], l1d, l2, ext, l1p);
-    show(rt, wide(x.number), wide(buffer[0]), wide(buffer[127]))?;
+    show(
+        rt,
+        u64::from(x.number),
+        u64::from(buffer[0]),
+        u64::from(buffer[127]),
+    )?;
     Ok(x.record)
 }
 
@@ -117,12 +115,17 @@ fn framed(
     let buffer = pixels((v % 256) as u8);
     let k = front(n, 3076);
     let x = by_value::frame(r, (turn % 256) as u8, &buffer[..k], l1d, l2, ext, l1p);
-    show(rt, wide(x.number), wide(x.turn), wide32(x.sums[0]))?;
     show(
         rt,
-        wide32(x.sums[1]),
-        wide32(x.sums[47]),
-        wide32(x.sums[63]),
+        u64::from(x.number),
+        u64::from(x.turn),
+        u64::from(x.sums[0]),
+    )?;
+    show(
+        rt,
+        u64::from(x.sums[1]),
+        u64::from(x.sums[47]),
+        u64::from(x.sums[63]),
     )?;
     Ok(x.record)
 }
@@ -139,10 +142,8 @@ fn kind_of(x: Left) -> u64 {
 
 fn address_of(x: Left) -> u64 {
     match x {
-        Left::NoWay => 0,
-        Left::Empty => 0,
-        Left::Clean(a) => wide32(a),
-        Left::Dirty(a) => wide32(a),
+        Left::NoWay | Left::Empty => 0,
+        Left::Clean(a) | Left::Dirty(a) => u64::from(a),
     }
 }
 
@@ -156,12 +157,17 @@ fn fetched(
     l1p: &mut [u8; 16384],
 ) -> io::Result<ChipRecord> {
     let x = by_value::fetch(r, address, l1d, l2, ext, l1p);
-    show(rt, wide(x.number), wide(x.server), wide(x.bytes[0]))?;
     show(
         rt,
-        wide(x.bytes[31]),
-        wide32(x.external_read),
-        wide32(x.external_written),
+        u64::from(x.number),
+        u64::from(x.server),
+        u64::from(x.bytes[0]),
+    )?;
+    show(
+        rt,
+        u64::from(x.bytes[31]),
+        u64::from(x.external_read),
+        u64::from(x.external_written),
     )?;
     let k = x.l2_left;
     let l = x.l1p_left;
@@ -182,22 +188,18 @@ fn access(
     ext: &mut [u8; 65536],
     l1p: &mut [u8; 16384],
 ) -> io::Result<ChipRecord> {
-    if code == 0 {
-        return told(rt, command_calls::read(r, a, b, l1d, l2, ext, l1p));
-    }
-    if code == 1 {
-        return told(
+    match code {
+        0 => told(rt, command_calls::read(r, a, b, l1d, l2, ext, l1p)),
+        1 => told(
             rt,
-            command_calls::write(r, a, b, wide32(v), l1d, l2, ext, l1p),
-        );
+            command_calls::write(r, a, b, u64::from(v), l1d, l2, ext, l1p),
+        ),
+        14 => told(rt, by_value::read_unaligned(r, a, b, l1d, l2, ext, l1p)),
+        _ => told(
+            rt,
+            by_value::write_unaligned(r, a, b, u64::from(v), l1d, l2, ext, l1p),
+        ),
     }
-    if code == 14 {
-        return told(rt, by_value::read_unaligned(r, a, b, l1d, l2, ext, l1p));
-    }
-    told(
-        rt,
-        by_value::write_unaligned(r, a, b, wide32(v), l1d, l2, ext, l1p),
-    )
 }
 
 // Codes 2 to 6: the commands of L2.
@@ -212,31 +214,25 @@ fn l2_command(
     ext: &mut [u8; 65536],
     l1p: &mut [u8; 16384],
 ) -> io::Result<ChipRecord> {
-    if code == 2 {
-        return told(rt, command_calls::l2_writeback_all(r, l1d, l2, ext, l1p));
-    }
-    if code == 3 {
-        return told(
+    match code {
+        2 => told(rt, command_calls::l2_writeback_all(r, l1d, l2, ext, l1p)),
+        3 => told(
             rt,
             command_calls::l2_writeback_invalidate_all(r, l1d, l2, ext, l1p),
-        );
-    }
-    if code == 4 {
-        return told(
+        ),
+        4 => told(
             rt,
             command_calls::l2_writeback_block(r, a, b, l1d, l2, ext, l1p),
-        );
-    }
-    if code == 5 {
-        return told(
+        ),
+        5 => told(
             rt,
             command_calls::l2_writeback_invalidate_block(r, a, b, l1d, l2, ext, l1p),
-        );
+        ),
+        _ => told(
+            rt,
+            command_calls::l2_invalidate_block(r, a, b, l1d, l2, ext, l1p),
+        ),
     }
-    told(
-        rt,
-        command_calls::l2_invalidate_block(r, a, b, l1d, l2, ext, l1p),
-    )
 }
 
 // Codes 7 to 12: those of L1D, mode and MAR change, the freeze.
@@ -251,28 +247,20 @@ fn other_command(
     ext: &mut [u8; 65536],
     l1p: &mut [u8; 16384],
 ) -> io::Result<ChipRecord> {
-    if code == 7 {
-        return told(
+    match code {
+        7 => told(
             rt,
             command_calls::l1d_writeback_invalidate_block(r, a, b, l1d, l2, ext, l1p),
-        );
-    }
-    if code == 8 {
-        return told(
+        ),
+        8 => told(
             rt,
             command_calls::l1d_invalidate_block(r, a, b, l1d, l2, ext, l1p),
-        );
+        ),
+        9 => told(rt, command_calls::l1d_invalidate_all(r, l1d, l2, ext, l1p)),
+        10 => told(rt, command_calls::change_mode(r, a, l1d, l2, ext, l1p)),
+        11 => told(rt, command_calls::change_mar(r, a, b, l1d, l2, ext, l1p)),
+        _ => told(rt, command_calls::freeze(r, a, l1d, l2, ext, l1p)),
     }
-    if code == 9 {
-        return told(rt, command_calls::l1d_invalidate_all(r, l1d, l2, ext, l1p));
-    }
-    if code == 10 {
-        return told(rt, command_calls::change_mode(r, a, l1d, l2, ext, l1p));
-    }
-    if code == 11 {
-        return told(rt, command_calls::change_mar(r, a, b, l1d, l2, ext, l1p));
-    }
-    told(rt, command_calls::freeze(r, a, l1d, l2, ext, l1p))
 }
 
 // 16 and 17: a transfer in and out, of so many bytes, at an address; 18: a frame of so many bytes, and its turn.
@@ -288,13 +276,11 @@ fn camera(
     ext: &mut [u8; 65536],
     l1p: &mut [u8; 16384],
 ) -> io::Result<ChipRecord> {
-    if code == 16 {
-        return transferred_in(rt, r, a, b, v, l1d, l2, ext, l1p);
+    match code {
+        16 => transferred_in(rt, r, a, b, v, l1d, l2, ext, l1p),
+        17 => transferred_out(rt, r, a, b, v, l1d, l2, ext, l1p),
+        _ => framed(rt, r, a, b, v, l1d, l2, ext, l1p),
     }
-    if code == 17 {
-        return transferred_out(rt, r, a, b, v, l1d, l2, ext, l1p);
-    }
-    framed(rt, r, a, b, v, l1d, l2, ext, l1p)
 }
 
 // 19: a fetch; 20 and 21: an L1P block invalidate, and one of all lines.
@@ -309,16 +295,14 @@ fn program_call(
     ext: &mut [u8; 65536],
     l1p: &mut [u8; 16384],
 ) -> io::Result<ChipRecord> {
-    if code == 19 {
-        return fetched(rt, r, a, l1d, l2, ext, l1p);
-    }
-    if code == 20 {
-        return told(
+    match code {
+        19 => fetched(rt, r, a, l1d, l2, ext, l1p),
+        20 => told(
             rt,
             by_value::l1p_invalidate_block(r, a, b, l1d, l2, ext, l1p),
-        );
+        ),
+        _ => told(rt, by_value::l1p_invalidate_all(r, l1d, l2, ext, l1p)),
     }
-    told(rt, by_value::l1p_invalidate_all(r, l1d, l2, ext, l1p))
 }
 
 // The call of one row: its code, by which the functions above have it (13: a view), and its numbers.
@@ -334,23 +318,17 @@ fn one(
     ext: &mut [u8; 65536],
     l1p: &mut [u8; 16384],
 ) -> io::Result<ChipRecord> {
-    if (code == 13) | (21 < code) {
-        seen(rt, r, l2, ext, a)?;
-        return Ok(r);
+    match code {
+        0 | 1 | 14 | 15 => access(rt, r, code, a, b, v, l1d, l2, ext, l1p),
+        2..=6 => l2_command(rt, r, code, a, b, l1d, l2, ext, l1p),
+        7..=12 => other_command(rt, r, code, a, b, l1d, l2, ext, l1p),
+        16..=18 => camera(rt, r, code, a, b, v, l1d, l2, ext, l1p),
+        19..=21 => program_call(rt, r, code, a, b, l1d, l2, ext, l1p),
+        _ => {
+            seen(rt, r, l2, ext, a)?;
+            Ok(r)
+        }
     }
-    if 19 <= code {
-        return program_call(rt, r, code, a, b, l1d, l2, ext, l1p);
-    }
-    if 16 <= code {
-        return camera(rt, r, code, a, b, v, l1d, l2, ext, l1p);
-    }
-    if (code < 2) | (13 < code) {
-        return access(rt, r, code, a, b, v, l1d, l2, ext, l1p);
-    }
-    if code < 7 {
-        return l2_command(rt, r, code, a, b, l1d, l2, ext, l1p);
-    }
-    other_command(rt, r, code, a, b, l1d, l2, ext, l1p)
 }
 
 // A run, and what it answers.
@@ -368,14 +346,14 @@ fn run_over(
     ];
     let mut answers = [0u8; 60];
     let q = by_value::run(r, &trace, l1d, l2, ext, l1p, &mut answers);
-    show(rt, q.consumed as u64, q.count as u64, wide(q.stop))?;
-    for k in 0..6 {
-        let p = k * 10;
+    show(rt, q.consumed as u64, q.count as u64, u64::from(q.stop))?;
+    let (each, _) = answers.as_chunks::<10>();
+    for answer in each {
         show(
             rt,
-            wide(answers[p]),
-            wide(answers[p + 1]),
-            memory::load8(&answers, p + 2),
+            u64::from(answer[0]),
+            u64::from(answer[1]),
+            memory::load_bytes::<8>(answer, 2),
         )?;
     }
     Ok(())
@@ -414,19 +392,10 @@ fn main(rt: HostRuntime) -> io::Result<()> {
         0, 0, 20, 2147500032, 32, 0, 11, 128, 0, 0, 19, 2147500096, 0, 0, 19, 2147500096, 0, 0, 11,
         128, 1, 0, 10, 1, 0, 0,
     ];
-    for k in 0..122 {
-        let p = k * 4;
+    let (rows, _) = list.as_chunks::<4>();
+    for row in rows {
         r = one(
-            &rt,
-            r,
-            list[p],
-            list[p + 1],
-            list[p + 2],
-            list[p + 3],
-            &mut l1d,
-            &mut l2,
-            &mut ext,
-            &mut l1p,
+            &rt, r, row[0], row[1], row[2], row[3], &mut l1d, &mut l2, &mut ext, &mut l1p,
         )?;
     }
     run_over(&rt, r, &mut l1d, &mut l2, &mut ext, &mut l1p)

@@ -2,45 +2,37 @@
 // caches. The data side's functions are lent the words in front, so that no line of L1P changes there.
 #![tactic(auto)]
 
-ghost use Rattle.std.specs.Prelude.{true, false, List, ◌≢◌, ◌≡◌, ℕ, ◌<◌, ◌≤◌, length, set};
+ghost use Rattle.std.specs.Prelude.{true, false, List, ◌≡◌, ℕ, ◌<◌, length, set, IfSome, IfOk, OnErr};
 ghost use Rattle.model.specs.Bytes.{part, stored};
 ghost use Rattle.model.specs.Lines.{line_of};
 ghost use Rattle.model.specs.Records.{State, sram_of, l2_sets_of};
 ghost use Rattle.model.specs.Access.{cacheable, home_part};
 ghost use Rattle.model.specs.Reports.{left_by};
+ghost use Rattle.model.specs.Fetches.{fetch_due};
 ghost use Rattle.model.specs.Calls.{fetch_behind_done};
 ghost use Rattle.model.specs.declared.Left.TheVariants.{NoWay};
 ghost use Rattle.model.specs.declared.Line.{Line};
 ghost use Rattle.program.specs.L1p.{l1p_set_of, l1p_data, l1p_at, l1p_length};
-ghost use Rattle.program.specs.Fetches.{Chip, chip, with_l1p, beside_l1p, fetch_hit, fetch_miss, refused_fetch, fetch_step};
+ghost use Rattle.program.specs.Fetches.{Chip, chip, with_l1p, beside_l1p, fetch_hit, fetch_miss, fetch_done, fetch_step};
 ghost use Rattle.program.specs.Chip.{chip_lent_due};
 ghost use Rattle.tags.specs.Words.{record_words, record_in, state_in};
 ghost use Rattle.tags.specs.Sizes.{Lent};
 ghost use Rattle.l1p_tags.specs.Lines.{chip_words, lines_in, chip_in};
-ghost use Rattle.l2_fetch.specs.Fetching.{Found};
-ghost use Rattle.fetches.specs.Told.{fetched_as, in_line, WholeLine, AskedOf};
+ghost use Rattle.kinds.specs.Numbers.{number_due};
+ghost use Rattle.l2_fetch.specs.Fetched.{way_in, Found};
+ghost use Rattle.fetches.specs.Fetched.{fetched_one, fetched_as, in_line, WholeLine, AskedOf};
 
 use access::Answer;
-use geometry::{L1p, L2};
+use geometry::{L1p, L2, Split};
+use kinds::{Refusal, Server};
 use model::Left;
 
-// What a fetch answers: number, server and report as an access has them, what left its L1P way, and the line's bytes.
+// What an accepted fetch answers: server and report as an access has them, what left its L1P way, and the line's bytes.
 #[derive(Clone, Copy)]
 pub struct Fetched {
     pub answer: Answer,
     pub l1p_left: Left,
     pub bytes: [u8; L1p::LINE],
-}
-
-pub fn refused(number: u8) -> Fetched
-    ensures { (k : Chip) → fetched_as result k ≡ refused_fetch number k }
-{
-    let plain = access::plain(number, 0, 0);
-    Fetched {
-        answer: plain,
-        l1p_left: Left::NoWay,
-        bytes: [0u8; L1p::LINE],
-    }
 }
 
 // ---- the bytes of a line
@@ -54,21 +46,14 @@ fn bytes_at(m: &[u8], at: usize) -> [u8; L1p::LINE]
 }
 
 // Out of the home, which is never L1D.
-fn home_bytes(
-    sram: usize,
-    sets: usize,
-    h: l2_fetch::Fetched,
-    a: u32,
-    l2: &[u8],
-    ext: &[u8],
-) -> [u8; L1p::LINE]
-    requires { ((sram < 4294967296) × (sets ≤ 512)) × ((h.set < 512) × (h.way < 4)) }
-    ensures { (z : State) → z.l2 ≡ l2.now → z.ext ≡ ext.now → sram ≡ sram_of z.rec → sets ≡ l2_sets_of z.rec →
-        Found h a z.rec → result ≡ in_line (home_part h.way a a 32 z) }
+#[tactic(auto, unfolding(model::specs::Access::home_part, model::specs::Homes::memory_part))]
+fn home_bytes(split: Split, h: l2_fetch::Fetched, a: u32, l2: &[u8], ext: &[u8]) -> [u8; L1p::LINE]
+    requires { IfSome h.home (λ at. (at.set < 512) × (at.way < 4)) }
+    ensures { (z : State) → z.l2 ≡ l2.now → z.ext ≡ ext.now → split.sram ≡ sram_of z.rec →
+        split.sets ≡ l2_sets_of z.rec → Found h a z.rec → result ≡ in_line (home_part (way_in h) a a 32 z) }
 {
-    if h.homed {
-        let at = L2::data_at(sram, sets, h.set, h.way);
-        return bytes_at(l2, at + L2::offset_of(a));
+    if let Some(at) = h.home {
+        return bytes_at(l2, L2::data_at(split, at.set, at.way) + L2::offset_of(a));
     }
     if geometry::is_external(a) {
         return bytes_at(ext, geometry::external_place(a));
@@ -80,72 +65,64 @@ fn home_bytes(
 // L1P has the line in set s.
 fn hit(s: usize, l1p: &[u8]) -> Fetched
     requires { (s < 512) × (length l1p.now ≡ l1p_length) }
-    ensures { (a : ℕ) (k : Chip) → s ≡ l1p_set_of a → k.bytes ≡ l1p.now → fetched_as result k ≡ fetch_hit a k }
+    ensures { (a : ℕ) (k : Chip) → s ≡ l1p_set_of a → k.bytes ≡ l1p.now → fetched_one result k ≡ fetch_hit a k }
 {
-    let plain = access::plain(0, 5, 0);
-    let bytes = bytes_at(l1p, L1p::data_at(s));
     Fetched {
-        answer: plain,
+        answer: access::plain(Some(Server::L1p), 0),
         l1p_left: Left::NoWay,
-        bytes: bytes,
+        bytes: bytes_at(l1p, L1p::data_at(s)),
     }
 }
 
 // External memory with MAR bit 0 is reached directly, past L1P too.
 fn past(a: u32, ext: &[u8]) -> Fetched
     ensures { (k : Chip) → k.data_side.ext ≡ ext.now → cacheable k.data_side.rec a ≡ false → WholeLine a k.data_side →
-        fetched_as result k ≡ beside_l1p (fetch_behind_done a k.data_side) k }
+        fetched_one result k ≡ beside_l1p (fetch_behind_done a k.data_side) k }
 {
     let at = geometry::external_place(a);
     let n = memory::held(ext, at, L1p::LINE as u32);
-    let bytes = bytes_at(ext, at);
-    let answer = Answer {
-        value: 0,
-        number: 0,
-        server: 4,
-        l1d_left: Left::NoWay,
-        l2_left: Left::NoWay,
-        read: n,
-        written: 0,
-    };
     Fetched {
-        answer: answer,
+        answer: Answer {
+            value: 0,
+            server: Some(Server::External),
+            l1d_left: Left::NoWay,
+            l2_left: Left::NoWay,
+            read: n,
+            written: 0,
+        },
         l1p_left: Left::NoWay,
-        bytes: bytes,
+        bytes: bytes_at(ext, at),
     }
 }
 
 // What lies behind L1P gives the line: L2 finds or fetches it as for a data read, and L1D is not looked at.
 fn behind(
     tags: &mut [u32],
-    sram: usize,
-    sets: usize,
+    split: Split,
     a: u32,
     l1d: &[u8],
     l2: &mut [u8],
     ext: &mut [u8],
 ) -> Fetched
-    requires lent { Lent sram sets tags.old }
-    requires a_value { (cacheable (record_in tags.old) a ≡ true) × WholeLine a (state_in tags.old l1d.now l2.old ext.old) }
+    requires lent { Lent split.sram split.sets tags.old }
+    requires a_value { (cacheable (record_in tags.old) a ≡ true)
+        × WholeLine a (state_in tags.old l1d.now l2.old ext.old) }
     ensures { (ls : List Line) (bs : List ℕ) →
-        fetched_as result (chip (state_in tags.new l1d.now l2.new ext.new) ls bs)
+        fetched_one result (chip (state_in tags.new l1d.now l2.new ext.new) ls bs)
         ≡ with_l1p NoWay ls bs (fetch_behind_done a (state_in tags.old l1d.now l2.old ext.old)) }
 {
-    let h = l2_fetch::fetch_l2(tags, sram, sets, a, l1d, l2, ext);
+    let h = l2_fetch::fetch_l2(tags, split, a, l1d, l2, ext);
     let n = l2_fetch::home_moved(h, a, L1p::LINE as u32, ext);
-    let bytes = home_bytes(sram, sets, h, a, l2, ext);
-    let left = h.left;
-    let answer = Answer {
-        value: 0,
-        number: 0,
-        server: h.server,
-        l1d_left: Left::NoWay,
-        l2_left: left,
-        read: h.read + n,
-        written: h.written,
-    };
+    let bytes = home_bytes(split, h, a, l2, ext);
     Fetched {
-        answer: answer,
+        answer: Answer {
+            value: 0,
+            server: Some(h.server),
+            l1d_left: Left::NoWay,
+            l2_left: h.left,
+            read: h.read + n,
+            written: h.written,
+        },
         l1p_left: Left::NoWay,
         bytes: bytes,
     }
@@ -167,10 +144,10 @@ fn fill(words: &mut [u32], s: usize, a: u32, bytes: [u8; L1p::LINE], l1p: &mut [
 }
 
 // L1P has another line in set s, or none.
+#[tactic(auto, using(crate::specs::Told::lent_words))]
 fn miss(
     words: &mut [u32],
-    sram: usize,
-    sets: usize,
+    split: Split,
     s: usize,
     a: u32,
     l1d: &[u8],
@@ -179,53 +156,49 @@ fn miss(
     l1p: &mut [u8],
 ) -> Fetched
     requires s_bound { ((s < 512) × (s ≡ l1p_set_of a)) × (length words.old ≡ chip_words) }
-    requires sram_bound { ((sram < 4294967296) × (sets ≤ 512)) × ((sram ≡ sram_of (record_in words.old)) × (sets ≡ l2_sets_of (record_in words.old))) }
-    requires a_value { (cacheable (record_in words.old) a ≡ true) × WholeLine a (state_in words.old l1d.now l2.old ext.old) }
-    ensures { fetched_as result (chip_in words.new l1d.now l2.new ext.new l1p.new)
+    requires split_value { (split.sram ≡ sram_of (record_in words.old))
+        × (split.sets ≡ l2_sets_of (record_in words.old)) }
+    requires a_value { (cacheable (record_in words.old) a ≡ true)
+        × WholeLine a (state_in words.old l1d.now l2.old ext.old) }
+    ensures { fetched_one result (chip_in words.new l1d.now l2.new ext.new l1p.new)
         ≡ fetch_miss a (chip_in words.old l1d.now l2.old ext.old l1p.old) }
 {
     let n = tags::WORDS;
-    let x = behind(&mut words[..n], sram, sets, a, l1d, l2, ext);
-    let answer = x.answer;
+    let x = behind(&mut words[..n], split, a, l1d, l2, ext);
     let bytes = x.bytes;
-    let left = fill(words, s, a, bytes, l1p);
     Fetched {
-        answer: answer,
-        l1p_left: left,
+        answer: x.answer,
+        l1p_left: fill(words, s, a, bytes, l1p),
         bytes: bytes,
     }
 }
 
 // ---- the whole
-// What the data side's record says of an address, and its sizes.
+// What the data side's record says of an address that may be fetched, and its sizes.
 #[derive(Clone, Copy)]
 struct Asked {
-    due: u8,
     cacheable: bool,
-    sram: usize,
-    sets: usize,
+    split: Split,
 }
 
-fn ask(tags: &[u32], a: u32) -> Asked
+fn ask(tags: &[u32], a: u32) -> Result<Asked, Refusal>
     requires { length tags.now ≡ record_words }
-    ensures { AskedOf result a (record_in tags.now) }
+    ensures due { number_due result ≡ fetch_due (sram_of (record_in tags.now)) (record_in tags.now).extlen a }
+    ensures asked { IfOk result (λ q. AskedOf q a (record_in tags.now)) }
 {
-    let mode = tags::mode_of(tags);
-    let sram = L2::sram(tags::l2len_of(tags), mode);
-    let due = refusals::fetch_due(sram as u32, tags::extlen_of(tags), a);
-    let cacheable = access::is_cacheable(tags, a);
-    let sets = L2::sets(mode);
-    Asked {
-        due: due,
-        cacheable: cacheable,
-        sram: sram,
-        sets: sets,
-    }
+    let split = tags::split_of(tags);
+    refusals::fetch_due(split.sram as u32, tags::extlen_of(tags), a)?;
+    Ok(Asked {
+        cacheable: access::is_cacheable(tags, a),
+        split: split,
+    })
 }
 
-// A fetch on a chip that passed checks 1 and 2.
-pub fn fetch(
+// A fetch that nothing refuses: past the caches, a hit in L1P, or a miss.
+#[tactic(auto, unfolding(program::specs::Fetches::fetch_done, program::specs::L1p::in_l1p))]
+fn accepted(
     words: &mut [u32],
+    q: Asked,
     a: u32,
     l1d: &[u8],
     l2: &mut [u8],
@@ -233,16 +206,12 @@ pub fn fetch(
     l1p: &mut [u8],
 ) -> Fetched
     requires words_len { length words.old ≡ chip_words }
-    requires l1p_value { chip_lent_due (chip_in words.old l1d.now l2.old ext.old l1p.old) ≡ 0 }
-    ensures l1p_after { fetched_as result (chip_in words.new l1d.now l2.new ext.new l1p.new)
-        ≡ fetch_step a (chip_in words.old l1d.now l2.old ext.old l1p.old) }
-    ensures refused { result.answer.number ≢ 0 → words.new ≡ words.old }
+    requires l1p_len { length l1p.old ≡ l1p_length }
+    requires asked { AskedOf q a (record_in words.old) }
+    requires whole { WholeLine a (state_in words.old l1d.now l2.old ext.old) }
+    ensures { fetched_one result (chip_in words.new l1d.now l2.new ext.new l1p.new)
+        ≡ fetch_done a (chip_in words.old l1d.now l2.old ext.old l1p.old) }
 {
-    let n = tags::WORDS;
-    let q = ask(&words[..n], a);
-    if q.due != 0 {
-        return refused(q.due);
-    }
     if !q.cacheable {
         return past(a, ext);
     }
@@ -251,5 +220,26 @@ pub fn fetch(
     if l1p_tags::holds_at(line, L1p::line_of(a as usize)) {
         return hit(s, l1p);
     }
-    miss(words, q.sram, q.sets, s, a, l1d, l2, ext, l1p)
+    miss(words, q.split, s, a, l1d, l2, ext, l1p)
+}
+
+// A fetch on a chip that passed checks 1 and 2.
+#[tactic(auto, using(crate::specs::Told::lent_words))]
+pub fn fetch(
+    words: &mut [u32],
+    a: u32,
+    l1d: &[u8],
+    l2: &mut [u8],
+    ext: &mut [u8],
+    l1p: &mut [u8],
+) -> Result<Fetched, Refusal>
+    requires words_len { length words.old ≡ chip_words }
+    requires l1p_value { chip_lent_due (chip_in words.old l1d.now l2.old ext.old l1p.old) ≡ 0 }
+    ensures l1p_after { fetched_as result (chip_in words.new l1d.now l2.new ext.new l1p.new)
+        ≡ fetch_step a (chip_in words.old l1d.now l2.old ext.old l1p.old) }
+    ensures refused { OnErr result (words.new ≡ words.old) }
+{
+    let n = tags::WORDS;
+    let q = ask(&words[..n], a)?;
+    Ok(accepted(words, q, a, l1d, l2, ext, l1p))
 }

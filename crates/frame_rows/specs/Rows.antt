@@ -6,13 +6,13 @@ use Prim.Native.Nat.{ℕ, zero, suc, ◌+◌, ◌*◌, ◌-◌, ◌/◌, ◌%◌
 use Rattle.std.specs.Prelude.{Bool, false, ◌≡◌, length, get_or}
 use Rattle.std.proofs.Math.Bool.{true, cond}
 use Rattle.std.proofs.Math.Path.{refl, ap}
-use Rattle.std.proofs.Common.{sym, ◌∙◌, get_or-set_other, set-set}
+use Rattle.std.proofs.Common.{sym, ◌∙◌, get_or-set_other, set-set, Fits, w8}
 use mathlib.Core.List.{List, [], ◌∷◌}
 use native.Mathlib.Omega.{arith}
 use Rattle.std.proofs.Math.ListN.{set, length-set}
 use Rattle.std.proofs.Math.Dec.{ltb}
 use Rattle.std.proofs.Math.Seq.{get_or-set_same}
-use borrow.Author.Tests.{ltb-true, le-ltb, eq-eqb}
+use borrow.Author.Tests.{ltb-true, lt-ltb, le-ltb, eq-eqb}
 use Rattle.model.specs.Basics.{each}
 use Rattle.model.specs.Bytes.{part, little}
 use Rattle.model.specs.Memories.{external_base}
@@ -35,8 +35,8 @@ use Rattle.agreement.proofs.Unaligned.{one-due, AllFit, read_up_lem, up-bytes}
 use Rattle.tags.specs.Words.{record_in, state_in}
 use Rattle.unaligned.proofs.Meets.{lent-well}
 use Rattle.run.specs.Upwards.{up_answers}
-use Rattle.frame_rows.specs.Reads.{reads_to, byte_given, reads-join, byte-join, answer-byte, reads-called}
-use Rattle.frame_rows.specs.Sums.{Added}
+use Rattle.frame_rows.specs.Reads.{reads_to, byte_given, no_reads, reads-join, byte-join, answer-byte, reads-called}
+use Rattle.frame_rows.specs.Sums.{Added, room-left, no_rows, row_read, row-added, summed}
 
 -- ---- one byte
 little-one : (bs : List ℕ) → length bs ≡ 1 → little bs ≡ get_or bs 0 0
@@ -244,9 +244,6 @@ row_of : (z : State) → Well z → (a : ℕ) → a % 64 ≡ 0 → external_base
 row_of z q a l u w =
     record { line = l; above = u; within = w; ext = q.tidy.sizes.ext_length; l1d = q.tidy.sizes.l1d_length; sets = (well-shape z q).l1d_sets }
 
-pub row_at : (ws d m e : List ℕ) → lent_due (state_in ws d m e) ≡ 0 → (a : ℕ) → RowAt ws a → Row (state_in ws d m e) a
-row_at ws d m e h a r = row_of (state_in ws d m e) (lent-well ws d m e h) a r.line r.above r.within
-
 -- ---- reads keep the record well formed, and E, MAR bits
 module _ (z : State) (q : Well z) (p n : ℕ) (above : external_base ≤ p) (within : p + n ≤ external_base + z.rec.extlen) where
   all_there : AllFit (layout_of z.rec) p n
@@ -276,54 +273,112 @@ all-added z a ss ss₁ ss' b eb l e₁ f g x = record { added = λ c _ h. at c h
         x.added (suc c) (omega arith) h
         ∙ (λ i. (ap (λ (ts : List ℕ). get_or ts (suc c) 0) e₁ ∙ get_or-set_other ss 0 (suc c) (get_or ss 0 0 + b) 0 (λ e. omega arith)) i + g c (omega arith) i)
 
--- ---- behind the first read of a row, in state y
-module _ (z : State) (q : Well z) (a : ℕ) (r : Row z a) (y : State) (first : y ≡ (step (command 0 1 a 0) z).next) where
-  one-read : y ≡ reads_to a 1 z
-  unfolding each
-  one-read = let e : a ≡ a + 0 = omega arith in first ∙ ap (λ (k : ℕ). (step (command 0 1 k 0) z).next) e
+-- ---- a row, on words that passed checks 1 and 2
+module _ (ws ds ms es : List ℕ) (lent : lent_due (state_in ws ds ms es) ≡ 0) (a : ℕ) (at : RowAt ws a) where
+  abbrev z : State
+  z = state_in ws ds ms es
 
-  after_first : Well y × (layout_of y.rec ≡ layout_of z.rec)
-  after_first = let e = one-read in let w = r.within in rw e (read-well z q a 1 r.above (omega arith))
+  well : Well z
+  well = lent-well ws ds ms es lent
 
-  pub first-row : Row y a
-  first-row =
-      let x = ap (λ (g : Layout). g.ext) after_first.1 in let w = r.within in
-      row_of y after_first.0 a r.line r.above (omega arith)
+  row : Row z a
+  row = row_of z well a at.line at.above at.within
 
-  same_bit : cacheable y.rec a ≡ cacheable z.rec a
-  unfolding cacheable
-  same_bit = ap (λ (b : Bool). cond (ltb a external_base) true b) (ap (λ (g : Layout). g.mar a) after_first.1)
+  pub row_ends : a + 64 ≤ 4294967296
+  row_ends = let m = well.tidy.sizes.ext_most in let w = at.within in omega arith
 
-  -- L1D has the line: the way is used, and the bytes stand there
-  module _ (cached : cacheable z.rec a ≡ true) (held : in_l1d y a ≡ true) where
-    pub hits-done : reads_to a 64 z ≡ use_hit (l1d_set_of a) (l1d_way y a) y
-    hits-done = held-row z a y one-read first-row (same_bit ∙ cached) held
+  pub ext_holds : a - external_base + 64 ≤ length es
+  ext_holds = let w = at.within in let u = at.above in let n = row.ext in omega arith
 
-    pub hits-added : (ss ss₁ ss' : List ℕ) (b : ℕ) → b ≡ (step (command 0 1 a 0) z).value % 256 → length ss ≡ 64 → ss₁ ≡ set ss 0 (get_or ss 0 0 + b) →
-        ((i : ℕ) → get_or y.l1d i 0 < 256) → Added 1 (λ c. get_or y.l1d (l1d_data (l1d_set_of a) (l1d_way y a) + c) 0) ss₁ ss' → Added 0 (byte_given a z) ss ss'
-    hits-added ss ss₁ ss' b eb l e₁ small x =
-        all-added z a ss ss₁ ss' b eb l e₁ (λ c. get_or y.l1d (l1d_data (l1d_set_of a) (l1d_way y a) + c) 0) (λ i h.
-        let s = small (l1d_data (l1d_set_of a) (l1d_way y a) + suc i) in let e = held-byte z a y one-read first-row (same_bit ∙ cached) held i h in omega arith) x
+  pub l1d_long : length ds ≡ 16384
+  l1d_long = row.l1d
 
-  -- else the others are read too
-  pub rest-done : (y' : State) → y' ≡ reads_to (a + 1) 63 y → y' ≡ reads_to a 64 z
-  rest-done y' e = e ∙ ap (reads_to (a + 1) 63) one-read ∙ reads-join a 1 z 63
+  -- past the caches
+  module _ (past : cacheable (record_in ws) a ≡ false) where
+    pub past_done : z ≡ reads_to a 64 z
+    past_done = sym (past_row z a row past 64 (omega arith))
 
-  pub rest-added : (ss ss₁ ss' : List ℕ) (b : ℕ) → b ≡ (step (command 0 1 a 0) z).value % 256 → length ss ≡ 64 → ss₁ ≡ set ss 0 (get_or ss 0 0 + b) →
-      (o o' : List ℕ) → 630 ≤ length o → o' ≡ up_answers (command 0 1 (a + 1) 0) 63 y o → Added 1 (λ c. get_or o' ((c - 1) * 10 + 2) 0) ss₁ ss' →
-      Added 0 (byte_given a z) ss ss'
-  rest-added ss ss₁ ss' b eb l e₁ o o' room eo x =
-      all-added z a ss ss₁ ss' b eb l e₁ (λ c. get_or o' ((c - 1) * 10 + 2) 0) (λ i h.
-      let k : suc i - 1 ≡ i = omega arith in let j : 1 + i ≡ suc i = omega arith in
-      rw k (ap (λ (os : List ℕ). get_or os (i * 10 + 2) 0) eo ∙ answer-byte (command 0 1 (a + 1) 0) 63 y o room i h
-      ∙ ap (λ (u : State). byte_given (a + 1) u i) one-read ∙ byte-join a 1 z i ∙ rw j refl)) x
+    pub past_told : ((i : ℕ) → Fits w8 (get_or es i 0)) → (p : ℕ) → p ≡ a - external_base → (ss ss' : List ℕ) → Added 0 (λ c. get_or es (p + c) 0) ss ss' →
+        Added 0 (byte_given a z) ss ss'
+    past_told bytes p e ss ss' x =
+        record {
+          added = λ c g h. let b = past-byte z a row past c h in let s = bytes (a - external_base + c) in
+              x.added c g h ∙ ap (λ (n : ℕ). get_or ss c 0 + n) (let v : get_or es (a - external_base + c) 0 ≡ byte_given a z c = omega arith in rw e v);
+          front = λ c g. absurd (omega arith);
+        }
 
--- ---- past the caches
-pub past-added : (z : State) (a : ℕ) (r : Row z a) → cacheable z.rec a ≡ false → ((i : ℕ) → get_or z.ext i 0 < 256) → (ss ss' : List ℕ) (at : ℕ) → at ≡ a - external_base →
-    Added 0 (λ c. get_or z.ext (at + c) 0) ss ss' → Added 0 (byte_given a z) ss ss'
-past-added z a r past small ss ss' at e x =
-    record {
-      added = λ c g h. let b = past-byte z a r past c h in let s = small (a - external_base + c) in
-          x.added c g h ∙ ap (λ (n : ℕ). get_or ss c 0 + n) (ap (λ (k : ℕ). get_or z.ext (k + c) 0) e ∙ let v : get_or z.ext (a - external_base + c) 0 ≡ byte_given a z c = omega arith in v);
-      front = λ c g. absurd (omega arith);
-    }
+  -- behind the first read, in state y
+  module _ (y : State) (first : y ≡ (step (command 0 1 a 0) z).next) where
+    one_read : y ≡ reads_to a 1 z
+    unfolding each
+    one_read = let e : a ≡ a + 0 = omega arith in first ∙ ap (λ (k : ℕ). (step (command 0 1 k 0) z).next) e
+
+    after_first : Well y × (layout_of y.rec ≡ layout_of z.rec)
+    after_first = let e = one_read in let w = at.within in rw e (read-well z well a 1 at.above (omega arith))
+
+    first_row : Row y a
+    first_row =
+        let x = ap (λ (g : Layout). g.ext) after_first.1 in let w = at.within in
+        row_of y after_first.0 a at.line at.above (omega arith)
+
+    -- L1D has the line in way w: the way is used, and the bytes stand there
+    module _ (cached : cacheable (record_in ws) a ≡ true) (s w : ℕ) (own : s ≡ l1d_set_of a) (inside : w < 2) (found : w ≡ l1d_find (l1d_set_at y.rec s) a) where
+      cached_still : cacheable y.rec a ≡ true
+      unfolding cacheable
+      cached_still = ap (λ (b : Bool). cond (ltb a external_base) true b) (ap (λ (g : Layout). g.mar a) after_first.1) ∙ cached
+
+      in_way : l1d_way y a ≡ w
+      unfolding l1d_way
+      in_way = let l = at.line in let e : l1d_line a ≡ a = omega arith in rw (e, ← own) (sym found)
+
+      held : in_l1d y a ≡ true
+      unfolding in_l1d
+      held = rw in_way (lt-ltb w 2 inside)
+
+      pub held_done : use_hit s w y ≡ reads_to a 64 z
+      held_done = let e = in_way in rw (own, ← e) (sym (held-row z a y one_read first_row cached_still held))
+
+      pub held_told : ((i : ℕ) → Fits w8 (get_or y.l1d i 0)) → (ss ss₁ ss' : List ℕ) (b p : ℕ) → b ≡ (step (command 0 1 a 0) z).value % 256 → length ss ≡ 64 →
+          ss₁ ≡ set ss 0 (get_or ss 0 0 + b) → p ≡ l1d_data s w → Added 1 (λ c. get_or y.l1d (p + c) 0) ss₁ ss' → Added 0 (byte_given a z) ss ss'
+      held_told bytes ss ss₁ ss' b p eb l e₁ ep x =
+          all-added z a ss ss₁ ss' b eb l e₁ (λ c. get_or y.l1d (p + c) 0) (λ i h.
+          let e = held-byte z a y one_read first_row cached_still held i h in let k = bytes (p + suc i) in
+          let q : p ≡ l1d_data (l1d_set_of a) (l1d_way y a) = ep ∙ (λ j. l1d_data (own j) (sym in_way j)) in
+          let f : get_or y.l1d (p + suc i) 0 ≡ get_or y.l1d (l1d_data (l1d_set_of a) (l1d_way y a) + suc i) 0 = ap (λ (n : ℕ). get_or y.l1d (n + suc i) 0) q in omega arith) x
+
+    -- else the others are read too
+    pub rest_done : (x : State) → x ≡ reads_to (a + 1) 63 y → x ≡ reads_to a 64 z
+    rest_done x e = e ∙ ap (reads_to (a + 1) 63) one_read ∙ reads-join a 1 z 63
+
+    pub rest_told : (ss ss₁ ss' : List ℕ) (b : ℕ) → b ≡ (step (command 0 1 a 0) z).value % 256 → length ss ≡ 64 → ss₁ ≡ set ss 0 (get_or ss 0 0 + b) →
+        (o o' : List ℕ) → 630 ≤ length o → o' ≡ up_answers (command 0 1 (a + 1) 0) 63 y o → Added 1 (λ c. get_or o' ((c - 1) * 10 + 2) 0) ss₁ ss' →
+        Added 0 (byte_given a z) ss ss'
+    rest_told ss ss₁ ss' b eb l e₁ o o' room eo x =
+        all-added z a ss ss₁ ss' b eb l e₁ (λ c. get_or o' ((c - 1) * 10 + 2) 0) (λ i h.
+        let k : suc i - 1 ≡ i = omega arith in let j : 1 + i ≡ suc i = omega arith in
+        rw k (ap (λ (os : List ℕ). get_or os (i * 10 + 2) 0) eo ∙ answer-byte (command 0 1 (a + 1) 0) 63 y o room i h
+        ∙ ap (λ (u : State). byte_given (a + 1) u i) one_read ∙ byte-join a 1 z i ∙ rw j refl)) x
+
+-- ---- the rows of a frame at place p, on words that passed checks 1 and 2; r rows are read
+module _ (ws ds ms es : List ℕ) (lent : lent_due (state_in ws ds ms es) ≡ 0) (p : ℕ) (at : PlaceAt ws p) where
+  pub place_ends : p + 3072 ≤ 4294967296
+  place_ends = let m = (lent-well ws ds ms es lent).tidy.sizes.ext_most in let w = at.within in omega arith
+
+  module _ (vs d m e : List ℕ) (r : ℕ) (more : r < 48) (so : state_in vs d m e ≡ reads_to p (r * 64) (state_in ws ds ms es)) where
+    pub next_lent : lent_due (state_in vs d m e) ≡ 0
+    next_lent = let w = at.within in rw so (reads-lent (state_in ws ds ms es) (lent-well ws ds ms es lent) p (r * 64) at.above (omega arith))
+
+    pub next_row : RowAt vs (p + r * 64)
+    next_row =
+        let l = at.line in let u = at.above in let w = at.within in
+        let x : (record_in vs).extlen ≡ (record_in ws).extlen
+        = ap (λ (y : State). y.rec.extlen) so ∙ reads-ext (state_in ws ds ms es) (lent-well ws ds ms es lent) p (r * 64) u (omega arith) in
+        record { line = omega arith; above = omega arith; within = omega arith }
+
+-- a line of L1D lies in its data
+pub way_inside : (s w : ℕ) → s < 128 → w < 2 → l1d_data s w + 64 ≤ 16384
+way_inside s w hs hw = omega arith
+
+pub ruleset row_laws = (row_ends, ext_holds, l1d_long, way_inside, past_done, past_told, held_done, held_told, rest_done, rest_told)
+
+pub ruleset frame_laws = (no_reads, place_ends, next_lent, next_row, room-left, no_rows, row_read, row-added, summed)

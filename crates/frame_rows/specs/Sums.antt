@@ -1,13 +1,13 @@
 -- Columns added up row by row: one row more in each column is the column sum of one row more (`row-added`), and after
 -- the last row the 64 sums are those of 02, U14 (`summed`). A sum of bytes has room for one more (`room-left`).
 use Prim.Native.Nat.{ℕ, zero, suc, ◌+◌, ◌*◌, ◌≤◌, ◌<◌}
-use Rattle.std.specs.Prelude.{◌≡◌, List, [], ◌∷◌, length, get_or, set, replicate, ltb, eqb}
+use Rattle.std.specs.Prelude.{◌≡◌, List, [], ◌∷◌, length, get_or, replicate, ltb}
 use Rattle.std.proofs.Math.Path.{refl, ap}
-use Rattle.std.proofs.Common.{sym, ◌∙◌, mod-lt, length-set, get_or-set_same, get_or-set_other, ext_get_or}
+use Rattle.std.proofs.Common.{sym, ◌∙◌, mod-lt, ext_get_or}
 use native.Mathlib.Omega.{arith}
 use Rattle.std.proofs.Math.Numerals.{add-one}
 use Rattle.std.proofs.lemmas.List.{get_or-replicate}
-use borrow.Author.Tests.{ltb-true, ltb-false, eqb-true, eqb-false}
+use borrow.Author.Tests.{ltb-true, ltb-false}
 use Rattle.model.specs.Records.{State}
 use Rattle.model.specs.Calls.{step}
 use Rattle.model.specs.Bytewise.{byte_read}
@@ -29,7 +29,7 @@ unfolding column_sum
 sum-small f h c zero = omega arith
 sum-small f h c (suc r) = let a = sum-small f h c r in let b = h (r * 64 + c) in omega arith
 
-pub room-left : (p : ℕ) (z : State) (r : ℕ) (ss : List ℕ) → r ≤ 48 → Columns (byte_given p z) r ss →
+pub room-left : (p : ℕ) (z : State) (r : ℕ) (ss : List ℕ) → r < 48 → Columns (byte_given p z) r ss →
     (c : ℕ) → c < 64 → get_or ss c 0 + 255 < 4294967296
 room-left p z r ss h s c l =
     let e = s c l in
@@ -39,37 +39,6 @@ room-left p z r ss h s c l =
 pub record Added (i : ℕ) (f : ℕ → ℕ) (ss ss' : List ℕ) : Type 0 where
   pub added : (c : ℕ) → i ≤ c → c < 64 → get_or ss' c 0 ≡ get_or ss c 0 + f c
   pub front : (c : ℕ) → c < i → get_or ss' c 0 ≡ get_or ss c 0
-
--- column by column: before column c those in front of it are done, the others as they were
-pub record Adding (i : ℕ) (f : ℕ → ℕ) (ss₀ ss : List ℕ) (c : ℕ) : Type 0 where
-  pub from : i ≤ c
-  pub most : c ≤ 64
-  pub long : length ss ≡ 64
-  pub done : (k : ℕ) → i ≤ k → k < c → get_or ss k 0 ≡ get_or ss₀ k 0 + f k
-  pub front : (k : ℕ) → k < i → get_or ss k 0 ≡ get_or ss₀ k 0
-  pub rest : (k : ℕ) → c ≤ k → get_or ss k 0 ≡ get_or ss₀ k 0
-
-pub adding-none : (i : ℕ) (f : ℕ → ℕ) (ss : List ℕ) → i ≤ 64 → length ss ≡ 64 → Adding i f ss ss i
-adding-none i f ss h l =
-    record { from = omega arith; most = h; long = l; done = λ k a b. absurd (omega arith); front = λ _ _. refl; rest = λ _ _. refl }
-
-pub column-added : (i : ℕ) (f : ℕ → ℕ) (ss₀ ss : List ℕ) (c b : ℕ) → Adding i f ss₀ ss c → c < 64 → b ≡ f c →
-    Adding i f ss₀ (set ss c (get_or ss c 0 + b)) (c + 1)
-column-added i f ss₀ ss c b a h e =
-    let l = a.long in let fr = a.from in
-    record {
-      from = omega arith;
-      most = omega arith;
-      long = simp length-set l;
-      done = λ k g k<. bool (eqb k c)
-          (λ t. let j = eqb-true k c t in rw j (get_or-set_same ss c (get_or ss c 0 + b) 0 (omega arith) ∙ (λ d. a.rest c (omega arith) d + e d)))
-          (λ t. let n = eqb-false k c t in get_or-set_other ss c k (get_or ss c 0 + b) 0 n ∙ a.done k g (omega arith));
-      front = λ k g. get_or-set_other ss c k (get_or ss c 0 + b) 0 (λ e. omega arith) ∙ a.front k g;
-      rest = λ k le. get_or-set_other ss c k (get_or ss c 0 + b) 0 (λ e. omega arith) ∙ a.rest k (omega arith);
-    }
-
-pub adding-all : (i : ℕ) (f : ℕ → ℕ) (ss₀ ss : List ℕ) (c : ℕ) → Adding i f ss₀ ss c → 64 ≤ c → Added i f ss₀ ss
-adding-all i f ss₀ ss c a h = let m = a.most in record { added = λ k g l. a.done k g (omega arith); front = a.front }
 
 -- ---- one row more, in the state behind r rows
 module _ (p : ℕ) (z : State) (r : ℕ) (y : State) (ey : y ≡ reads_to p (r * 64) z) where

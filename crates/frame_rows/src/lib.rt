@@ -34,10 +34,8 @@ fn add_bytes(sums: &mut [u32], from: usize, bytes: &[u8], at: usize)
     requires by_index { (c : ℕ) → from ≤ c → c < 64 → get_or sums.old c 0 + 255 < 4294967296 }
     ensures { Added from (λ c. get_or bytes.now (at + c) 0) sums.old sums.new }
 {
-    let mut c = from;
-    while c < COLUMNS {
+    for c in from..COLUMNS {
         sums[c] += bytes[at + c] as u32;
-        c += 1;
     }
 }
 
@@ -47,10 +45,8 @@ fn add_answers(sums: &mut [u32], answers: &[u8])
     requires by_index { (c : ℕ) → 1 ≤ c → c < 64 → get_or sums.old c 0 + 255 < 4294967296 }
     ensures { Added 1 (λ c. get_or answers.now ((c - 1) * 10 + 2) 0) sums.old sums.new }
 {
-    let mut c: usize = 1;
-    while c < COLUMNS {
+    for c in 1..COLUMNS {
         sums[c] += answers[(c - 1) * ANSWER + VALUE] as u32;
-        c += 1;
     }
 }
 
@@ -70,7 +66,10 @@ fn read_byte(tags: &mut [u32], address: u32, l1d: &mut [u8], l2: &mut [u8], ext:
     let none = [0u8; 1];
     let mut answer = [0u8; ANSWER];
     let q = run::run(tags, 1, c, &none, l1d, l2, ext, &mut answer);
-    (q.last.value % 256) as u8
+    match q.last {
+        Ok(answer) => (answer.value % 256) as u8,
+        Err(_) => 0,
+    }
 }
 
 // The CPU reads all bytes of a row but the first, one behind another.
@@ -101,6 +100,7 @@ fn read_rest(
 // A row is a line of L1D. Past the caches its reads touch no line. Else the first one brings the line, and where L1D
 // has it then the others are hits: they use the way, once and for all, and the bytes stand there. A frozen L1D need not
 // have it, and then the others go through the loop too.
+#[tactic(auto, using(crate::specs::Rows::row_laws))]
 fn add_row(
     tags: &mut [u32],
     address: u32,
@@ -125,8 +125,7 @@ fn add_row(
     let first = read_byte(tags, address, l1d, l2, ext);
     sums[0] += first as u32;
     let i = L1d::set_of(address);
-    let w = tags::l1d_find(tags, i, address);
-    if w < L1d::WAYS {
+    if let Some(w) = tags::find::<L1d>(tags, i, address) {
         access::use_hit(tags, i, w);
         add_bytes(sums, 1, l1d, L1d::data_at(i, w));
         return;
@@ -137,6 +136,7 @@ fn add_row(
 }
 
 // The columns of a frame that came to its place, row by row.
+#[tactic(auto, using(crate::specs::Rows::frame_laws))]
 pub fn add_up(
     tags: &mut [u32],
     place: u32,
@@ -153,10 +153,8 @@ pub fn add_up(
         ≡ sums_of (byte_given place (state_in tags.old l1d.old l2.old ext.old)) }
 {
     let mut sums = [0u32; COLUMNS];
-    let mut row: u32 = 0;
-    while row < ROWS as u32 {
+    for row in 0..ROWS as u32 {
         add_row(tags, place + row * COLUMNS as u32, l1d, l2, ext, &mut sums);
-        row += 1;
     }
     sums
 }

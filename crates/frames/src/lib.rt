@@ -10,10 +10,12 @@ ghost use Rattle.model.specs.Trace.{command};
 ghost use Rattle.model.specs.Calls.{step};
 ghost use Rattle.agreement.specs.Frames.{frame_length, frame_place, next_turn, refused_frame, frame_due, frame_step};
 ghost use Rattle.tags.specs.Words.{record_words, state_in};
+ghost use Rattle.kinds.specs.Numbers.{refusal_number, number_due};
 ghost use Rattle.frames.specs.Told.{told_framed};
 ghost use Rattle.frames.specs.Done.{put_at};
 
 use geometry::EXTERNAL_BASE;
+use kinds::Refusal;
 use model::Command;
 
 pub const COLUMNS: usize = frame_rows::COLUMNS;
@@ -39,17 +41,18 @@ pub struct Framed {
     pub sums: [u32; COLUMNS],
 }
 
-// 19 for external memory that is too short, then 20 for a frame of another length, 0 to go on.
-pub fn due_for(ext: u32, length: usize) -> u8
-    ensures { result ≡ frame_due ext length }
+// 19 for external memory that is too short, then 20 for a frame of another length.
+#[tactic(auto, unfolding(agreement::specs::Frames::frame_due))]
+pub fn due_for(ext: u32, length: usize) -> Result<(), Refusal>
+    ensures { number_due result ≡ frame_due ext length }
 {
     if ext < BOTH_PLACES {
-        return 19;
+        return Err(Refusal::FrameMemory);
     }
     if length != FRAME {
-        return 20;
+        return Err(Refusal::FrameLength);
     }
-    0
+    Ok(())
 }
 
 // Frames go by turns to two places, one behind the other.
@@ -66,11 +69,11 @@ fn next_turn(turn: u8) -> u8
 }
 
 // A refused frame keeps its turn, and has no sums.
-pub fn refused(number: u8, turn: u8) -> Framed
-    ensures { (z : State) → told_framed result z ≡ refused_frame number turn z }
+pub fn refused(refusal: Refusal, turn: u8) -> Framed
+    ensures { (z : State) → told_framed result z ≡ refused_frame (refusal_number refusal) turn z }
 {
     Framed {
-        number: number,
+        number: refusal.number(),
         turn: turn % 2,
         sums: [0u32; COLUMNS],
     }
@@ -94,6 +97,7 @@ fn send_home(tags: &mut [u32], code: u8, place: u32, l1d: &mut [u8], l2: &mut [u
 }
 
 // A frame comes to its place: no cache holds a byte of it any more when the transfer is made.
+#[tactic(auto, unfolding(crate::specs::Done::put_at))]
 fn put(tags: &mut [u32], place: u32, pixels: &[u8], l1d: &mut [u8], l2: &mut [u8], ext: &mut [u8])
     requires { length tags.old ≡ record_words }
     ensures { state_in tags.new l1d.new l2.new ext.new
@@ -101,10 +105,12 @@ fn put(tags: &mut [u32], place: u32, pixels: &[u8], l1d: &mut [u8], l2: &mut [u8
 {
     send_home(tags, 5, place, l1d, l2, ext);
     send_home(tags, 7, place, l1d, l2, ext);
-    transfers::transfer_in(tags, place, pixels, l1d, l2, ext);
+    // refused, it changes nothing, as the definition has it
+    let _ = transfers::transfer_in(tags, place, pixels, l1d, l2, ext);
 }
 
 // A frame, on words that passed checks 1 and 2: refused by its number with nothing changed, or placed and added up.
+#[tactic(auto, using(crate::specs::Done::put_lent))]
 pub fn frame(
     tags: &mut [u32],
     turn: u8,
@@ -119,9 +125,8 @@ pub fn frame(
         ≡ frame_step turn pixels.now (state_in tags.old l1d.old l2.old ext.old) }
     ensures refused { result.number ≢ 0 → tags.new ≡ tags.old }
 {
-    let due = due_for(tags::extlen_of(tags), pixels.len());
-    if due != 0 {
-        return refused(due, turn);
+    if let Err(refusal) = due_for(tags::extlen_of(tags), pixels.len()) {
+        return refused(refusal, turn);
     }
     let place = place_of(turn);
     put(tags, place, pixels, l1d, l2, ext);

@@ -68,11 +68,8 @@ impl L2 {
 
     pub const WAYS: usize = 4;
 
-    // The bytes of one set.
-    pub const SET_BYTES: u32 = (L2::WAYS * L2::LINE) as u32;
-
-    // The number of sets is a constant of each mode: the cache size by the bytes of a set. The record has room for as
-    // many as mode 7 uses.
+    // The number of sets is a constant of each mode: the cache size by the bytes of a set, 512. The record has room for
+    // as many as mode 7 uses.
     pub const SETS_1: usize = 64;
 
     pub const SETS_2: usize = 128;
@@ -114,34 +111,33 @@ impl L2 {
 
     // By the constants of the modes, since a remainder by a constant needs no division. Where there are no sets (mode
     // 0) no set is looked at, and 0 stands for it.
-    pub fn set_of(sets: usize, a: u32) -> usize
-        requires { sets ≤ 512 }
-        ensures { (sets ≢ 0 → result ≡ l2_set_in sets a) × (result < 512) }
+    pub fn set_of(split: Split, a: u32) -> usize
+        ensures { (split.sets ≢ 0 → result ≡ l2_set_in split.sets a) × (result < 512) }
     {
-        let x = a as usize;
-        if sets == L2::SETS_1 {
-            return x / L2::LINE % L2::SETS_1;
+        let line = a as usize / L2::LINE;
+        if split.sets == L2::SETS_1 {
+            return line % L2::SETS_1;
         }
-        if sets == L2::SETS_2 {
-            return x / L2::LINE % L2::SETS_2;
+        if split.sets == L2::SETS_2 {
+            return line % L2::SETS_2;
         }
-        if sets == L2::SETS_3 {
-            return x / L2::LINE % L2::SETS_3;
+        if split.sets == L2::SETS_3 {
+            return line % L2::SETS_3;
         }
-        if sets == L2::SETS_7 {
-            return x / L2::LINE % L2::SETS_7;
+        if split.sets == L2::SETS_7 {
+            return line % L2::SETS_7;
         }
-        if sets == 0 {
+        if split.sets == 0 {
             return 0;
         }
-        x / L2::LINE % sets
+        line % split.sets
     }
 
-    pub fn data_at(sram: usize, sets: usize, t: usize, v: usize) -> usize
-        requires { (sram < 4294967296) × ((sets ≤ 512) × ((t < 512) × (v < 4))) }
-        ensures { (result ≡ l2_data_in sram sets t v) × (result < 8589934592) }
+    pub fn data_at(split: Split, t: usize, v: usize) -> usize
+        requires { (t < 512) × (v < 4) }
+        ensures { (result ≡ l2_data_in split.sram split.sets t v) × (result < 8589934592) }
     {
-        sram + (v * sets + t) * L2::LINE
+        split.sram + (v * split.sets + t) * L2::LINE
     }
 
     pub fn offset_of(a: u32) -> usize
@@ -162,6 +158,26 @@ impl L2 {
         ensures { result ≡ upper_half b }
     {
         b / L2::LINE as u32 * L2::LINE as u32 + L1d::LINE as u32
+    }
+}
+
+// How a mode splits L2: S, the bytes that are SRAM, and how many sets of cache there are.
+#[derive(Clone, Copy)]
+pub struct Split {
+    pub sram: usize,
+    pub sets: usize,
+    ghost sram_fits: { sram < 4294967296 },
+    ghost sets_fit: { sets ≤ 512 },
+}
+
+impl Split {
+    pub fn of(l2len: u32, mode: u8) -> Split
+        ensures { (result.sram ≡ sram_length l2len mode) × (result.sets ≡ l2_sets mode) }
+    {
+        Split {
+            sram: L2::sram(l2len, mode),
+            sets: L2::sets(mode),
+        }
     }
 }
 

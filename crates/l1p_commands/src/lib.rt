@@ -9,9 +9,10 @@ ghost use Rattle.tags.specs.Words.{record_in, state_in};
 ghost use Rattle.program.specs.L1p.{fresh_l1p, drop_l1p, drop_inside, drop_under_way, drop_under_all, drop_under_line, drop_under_block, invalidate_l1p_block};
 ghost use Rattle.l1p_tags.specs.Lines.{chip_words, lines_in};
 
-use geometry::{L1p, L2};
+use geometry::{L1p, L2, Split};
 
 // The line of address a, if it is held.
+#[tactic(auto, unfolding(program::specs::L1p::in_l1p, program::specs::L1p::drop_l1p))]
 pub fn drop_line(words: &mut [u32], a: usize)
     requires { length words.old ≡ chip_words }
     ensures words_after { lines_in words.new ≡ drop_l1p a (lines_in words.old) }
@@ -19,10 +20,9 @@ pub fn drop_line(words: &mut [u32], a: usize)
 {
     let s = L1p::set_of(a);
     let x = l1p_tags::line(words, s);
-    if !l1p_tags::holds_at(x, L1p::line_of(a)) {
-        return;
+    if l1p_tags::holds_at(x, L1p::line_of(a)) {
+        l1p_tags::put(words, s, geometry::empty_line());
     }
-    l1p_tags::put(words, s, geometry::empty_line());
 }
 
 // The four lines inside the L2 line at b.
@@ -31,69 +31,64 @@ pub fn drop_inside(words: &mut [u32], b: u32)
     ensures words_after { lines_in words.new ≡ drop_inside b (lines_in words.old) }
     ensures rest { record_in words.new ≡ record_in words.old }
 {
-    let first = b as usize;
-    let mut k: usize = 0;
-    while k < L2::LINE / L1p::LINE {
-        drop_line(words, first + k * L1p::LINE);
-        k += 1;
+    for k in 0..L2::LINE / L1p::LINE {
+        drop_line(words, b as usize + k * L1p::LINE);
     }
 }
 
 // Those of the line in a way of L2, if it is valid.
 pub fn drop_under_way(words: &mut [u32], t: usize, v: usize)
     requires { ((t < 512) × (v < 4)) × (length words.old ≡ chip_words) }
-    ensures by_index { (d m e : List ℕ) → lines_in words.new ≡ drop_under_way (state_in words.old d m e) t v (lines_in words.old) }
+    ensures by_index { (d m e : List ℕ) → lines_in words.new
+        ≡ drop_under_way (state_in words.old d m e) t v (lines_in words.old) }
     ensures rest { record_in words.new ≡ record_in words.old }
 {
     let n = tags::WORDS;
-    let x = tags::l2_line(&words[..n], t, v);
+    let x = tags::line::<L2>(&words[..n], t, v);
     if x.valid {
         drop_inside(words, x.address);
     }
 }
 
 // Those of every valid line of L2.
-pub fn drop_under_all(words: &mut [u32], sets: usize)
-    requires { ((sets ≡ l2_sets_of (record_in words.old)) × (sets ≤ 512)) × (length words.old ≡ chip_words) }
-    ensures by_index { (d m e : List ℕ) → lines_in words.new ≡ drop_under_all (state_in words.old d m e) (lines_in words.old) }
+pub fn drop_under_all(words: &mut [u32], split: Split)
+    requires { (split.sets ≡ l2_sets_of (record_in words.old)) × (length words.old ≡ chip_words) }
+    ensures by_index { (d m e : List ℕ) → lines_in words.new
+        ≡ drop_under_all (state_in words.old d m e) (lines_in words.old) }
     ensures rest { record_in words.new ≡ record_in words.old }
 {
-    let n = sets * L2::WAYS;
-    let mut k: usize = 0;
-    while k < n {
+    for k in 0..split.sets * L2::WAYS {
         drop_under_way(words, k / L2::WAYS, k % L2::WAYS);
-        k += 1;
     }
 }
 
 // Those of the L2 line at a, if L2 has it.
-pub fn drop_under_line(words: &mut [u32], sets: usize, a: u32)
-    requires sets_nonzero { sets ≢ 0 }
-    requires sets_value { ((sets ≡ l2_sets_of (record_in words.old)) × (sets ≤ 512)) × (length words.old ≡ chip_words) }
-    ensures by_index { (d m e : List ℕ) → lines_in words.new ≡ drop_under_line (state_in words.old d m e) a (lines_in words.old) }
+pub fn drop_under_line(words: &mut [u32], split: Split, a: u32)
+    requires sets_nonzero { split.sets ≢ 0 }
+    requires sets_value { (split.sets ≡ l2_sets_of (record_in words.old)) × (length words.old ≡ chip_words) }
+    ensures by_index { (d m e : List ℕ) → lines_in words.new
+        ≡ drop_under_line (state_in words.old d m e) a (lines_in words.old) }
     ensures rest { record_in words.new ≡ record_in words.old }
 {
     let n = tags::WORDS;
-    let v = tags::l2_find(&words[..n], L2::set_of(sets, a), L2::line_of(a));
-    if v < L2::WAYS {
+    let held = tags::find::<L2>(&words[..n], L2::set_of(split, a), L2::line_of(a));
+    if held.is_some() {
         drop_inside(words, a);
     }
 }
 
 // Those of the L2 lines that a block touches; none in mode 0.
-pub fn drop_under_block(words: &mut [u32], sets: usize, base: u32, count: u32)
-    requires { ((sets ≡ l2_sets_of (record_in words.old)) × (sets ≤ 512)) × (length words.old ≡ chip_words) }
-    ensures by_index { (d m e : List ℕ) → lines_in words.new ≡ drop_under_block (state_in words.old d m e) base count (lines_in words.old) }
+pub fn drop_under_block(words: &mut [u32], split: Split, base: u32, count: u32)
+    requires { (split.sets ≡ l2_sets_of (record_in words.old)) × (length words.old ≡ chip_words) }
+    ensures by_index { (d m e : List ℕ) → lines_in words.new
+        ≡ drop_under_block (state_in words.old d m e) base count (lines_in words.old) }
     ensures rest { record_in words.new ≡ record_in words.old }
 {
-    if sets == 0 {
+    if split.sets == 0 {
         return;
     }
-    let n = geometry::lines_touched(L2::LINE, base, count);
-    let mut k: usize = 0;
-    while k < n {
-        drop_under_line(words, sets, geometry::line_after(L2::LINE, base, count, k));
-        k += 1;
+    for k in 0..geometry::lines_touched(L2::LINE, base, count) {
+        drop_under_line(words, split, geometry::line_after(L2::LINE, base, count, k));
     }
 }
 
@@ -103,14 +98,11 @@ pub fn invalidate_block(words: &mut [u32], base: u32, count: u32)
     ensures words_after { lines_in words.new ≡ invalidate_l1p_block base count (lines_in words.old) }
     ensures rest { record_in words.new ≡ record_in words.old }
 {
-    let n = geometry::lines_touched(L1p::LINE, base, count);
-    let mut k: usize = 0;
-    while k < n {
+    for k in 0..geometry::lines_touched(L1p::LINE, base, count) {
         drop_line(
             words,
             geometry::line_after(L1p::LINE, base, count, k) as usize,
         );
-        k += 1;
     }
 }
 
@@ -119,9 +111,7 @@ pub fn invalidate_all(words: &mut [u32])
     ensures words_after { lines_in words.new ≡ fresh_l1p }
     ensures rest { record_in words.new ≡ record_in words.old }
 {
-    let mut s: usize = 0;
-    while s < L1p::SETS {
+    for s in 0..L1p::SETS {
         l1p_tags::put(words, s, geometry::empty_line());
-        s += 1;
     }
 }

@@ -1,12 +1,13 @@
 -- The chip that lent words stand for (02, U4): "the record carries its lines": behind the words of the data side two
 -- words for each set of L1P, mark and address of its line. Every law about these words ends here.
-use Rattle.std.specs.Prelude.{ℕ, ◌+◌, ◌*◌, ◌-◌, ◌/◌, ◌%◌, ◌≤◌, ◌<◌, ◌≡◌, ◌≢◌, List, ◌++◌, length, set, take, drop, eqb}
-use Rattle.std.proofs.Common.{ap, ◌∙◌, arith, length-set, get_or-set_same, get_or-set_other, get_or-take, get_or-drop, get_or-append-add, length-take-le}
+use Rattle.std.specs.Prelude.{ℕ, ◌+◌, ◌*◌, ◌-◌, ◌≤◌, ◌<◌, ◌≡◌, List, ◌++◌, length, set, take, drop}
+use Rattle.std.proofs.Common.{ap, ◌∙◌, arith, get_or-take, get_or-drop, get_or-append-add, length-take-le}
 use Rattle.std.proofs.Math.ListN.{get_or-append}
+use Rattle.std.proofs.lemmas.Grind.{common_steps}
 use Rattle.lists.specs.Listed.{listed, listed-get, listed_same, listed-few, listed-set, length-listed}
 use Rattle.model.specs.Lines.{empty_line}
 use Rattle.model.specs.declared.Line.{Line}
-use Rattle.tags.specs.Words.{record_words, word, line_in, l1d_in, l2_in, mode_in, record_in, state_in, same-l1d, same-l2}
+use Rattle.tags.specs.Words.{record_words, word, line_in, l1d_in, l2_in, record_in, state_in, same-l1d, same-l2}
 use Rattle.program.specs.L1p.{l1p_at}
 use Rattle.program.specs.Fetches.{Chip, chip}
 
@@ -41,51 +42,27 @@ length-lines ws = length-listed (l1p_in ws) 0 512
 pub same-record : (ws vs : List ℕ) → ((n : ℕ) → n < 5253 → word vs n ≡ word ws n) → record_in vs ≡ record_in ws
 unfolding record_in
 same-record ws vs o =
-    let a = o 0 (omega arith) in let b = o 1 (omega arith) in let c = o 2 (omega arith) in let m = o 3 (omega arith) in let n = o 4 (omega arith) in
     let d = listed-few (l1d_in vs) (l1d_in ws) 0 128 (λ j h. same-l1d ws vs j (λ k p q. o k (omega arith))) in
     let e = listed-few (l2_in vs) (l2_in ws) 0 512 (λ j h. same-l2 ws vs j (λ k p q. o k (omega arith))) in
-    λ t. record {
-      l2len = a t;
-      extlen = b t;
-      mode = mode_in (c t);
-      mar128 = eqb (c t / 256 % 2) 1;
-      mar129 = eqb (c t / 65536 % 2) 1;
-      frozen = eqb (c t / 16777216 % 2) 1;
-      dirty_l1d = m t;
-      dirty_l2 = n t;
-      l1d = d t;
-      l2 = e t;
-    }
+    grind (arith, o, d, e)
 
 pub same_lines : (ws vs : List ℕ) → ((n : ℕ) → 5253 ≤ n → word vs n ≡ word ws n) → lines_in vs ≡ lines_in ws
 unfolding lines_in l1p_in
-same_lines ws vs o =
-    listed_same (l1p_in vs) (l1p_in ws) 0 512
-    (λ s _. let a = o (l1p_place_of s) (omega arith) in let b = o (l1p_place_of s + 1) (omega arith) in λ t. line_in (a t) (b t))
+same_lines ws vs o = listed_same (l1p_in vs) (l1p_in ws) 0 512 (λ s _. grind (arith, o))
 
 -- ---- a line is put
 abbrev stored-line : List ℕ → ℕ → ℕ → ℕ → List ℕ
 stored-line ws s f a = set (set ws (l1p_place_of s) f) (l1p_place_of s + 1) a
 
-other_word : (ws : List ℕ) (s f a n : ℕ) → n ≢ l1p_place_of s → n ≢ l1p_place_of s + 1 → word (stored-line ws s f a) n ≡ word ws n
-other_word ws s f a n x y = get_or-set_other (set ws (l1p_place_of s) f) (l1p_place_of s + 1) n a 0 y ∙ get_or-set_other ws (l1p_place_of s) n f 0 x
-
 pub put_record : (ws : List ℕ) (s f a : ℕ) → record_in (stored-line ws s f a) ≡ record_in ws
-put_record ws s f a = same-record ws (stored-line ws s f a) (λ n h. other_word ws s f a n (omega arith) (omega arith))
+put_record ws s f a = same-record ws (stored-line ws s f a) (λ n h. grind (arith, common_steps))
 
-pub put-line : (ws : List ℕ) (s f a : ℕ) → length ws ≡ chip_words → s < 512 → lines_in (stored-line ws s f a) ≡ set (lines_in ws) s (line_in f a)
+pub put_line : (ws : List ℕ) (s f a : ℕ) → length ws ≡ chip_words → s < 512 →
+    lines_in (stored-line ws s f a) ≡ set (lines_in ws) s (line_in f a)
 unfolding lines_in l1p_in
-put-line ws s f a l h =
-    let vs = stored-line ws s f a in let p = l1p_place_of s in
-    let apart : p ≢ p + 1 = omega arith in
-    let mark : word vs p ≡ f = get_or-set_other (set ws p f) (p + 1) p a 0 apart ∙ get_or-set_same ws p f 0 (omega arith) in
-    let address : word vs (p + 1) ≡ a = get_or-set_same (set ws p f) (p + 1) a 0 (rw (length-set ws p f) (omega arith)) in
-    let z : 0 + s ≡ s = omega arith in
-    let here : l1p_in vs (0 + s) ≡ line_in f a = ap (l1p_in vs) z ∙ (λ t. line_in (mark t) (address t)) in
-    listed-set (l1p_in ws) (l1p_in vs) 0 512 s h
-    (λ j n. let k : j ≢ s = λ e. n (e ∙ omega arith) in
-    let b = other_word ws s f a (l1p_place_of j) (omega arith) (omega arith) in let c = other_word ws s f a (l1p_place_of j + 1) (omega arith) (omega arith) in
-    λ t. line_in (b t) (c t))
+put_line ws s f a l h =
+    let here : l1p_in (stored-line ws s f a) (0 + s) ≡ line_in f a = grind (arith, common_steps) in
+    listed-set (l1p_in ws) (l1p_in (stored-line ws s f a)) 0 512 s h (λ j n. grind (arith, common_steps))
     ∙ ap (set (listed (l1p_in ws) 0 512) s) here
 
 -- ---- the data side's words, lent to one of its functions
@@ -109,3 +86,6 @@ module _ (ws vs : List ℕ) (l : length vs ≡ record_words) where
   -- as the chip: what the data side's function did, beside the lines of L1P as they were
   pub back-chip : (d m e p : List ℕ) → chip_in (vs ++ drop 5253 ws) d m e p ≡ chip (state_in vs d m e) (lines_in ws) p
   back-chip d m e p = λ t. chip (record { rec = back-record t; l1d = d; l2 = m; ext = e }) (back-lines t) p
+
+-- what a search needs where the data side's words are lent and given back
+pub ruleset lent = (lent_length, lent-record, back-record, back-lines, length-lines)

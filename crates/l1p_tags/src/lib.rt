@@ -14,6 +14,7 @@ use model::Line;
 // Two words for a line, the mark and the address.
 pub const WORDS: usize = tags::WORDS + L1p::LINES * 2;
 
+#[tactic(auto, using(crate::specs::Lines::line_at), unfolding(crate::specs::Lines::l1p_in))]
 pub fn line(words: &[u32], s: usize) -> Line
     requires { (s < 512) × (length words.now ≡ chip_words) }
     ensures { result ≡ l1p_at (lines_in words.now) s }
@@ -22,6 +23,7 @@ pub fn line(words: &[u32], s: usize) -> Line
     tags::line_of(words[p], words[p + 1])
 }
 
+#[tactic(auto, using(crate::specs::Lines::put_line, crate::specs::Lines::put_record))]
 pub fn put(words: &mut [u32], s: usize, x: Line)
     requires { (s < 512) × (length words.old ≡ chip_words) }
     ensures words_after { lines_in words.new ≡ set (lines_in words.old) s x }
@@ -33,12 +35,9 @@ pub fn put(words: &mut [u32], s: usize, x: Line)
 }
 
 // Whether a line is valid and at this address, which may be past the last one.
+#[tactic(auto, unfolding(model::specs::Lines::holds))]
 pub fn holds_at(x: Line, b: usize) -> bool
     ensures { result ≡ holds x b }
 {
-    if x.valid {
-        x.address as usize == b
-    } else {
-        false
-    }
+    x.valid && x.address as usize == b
 }

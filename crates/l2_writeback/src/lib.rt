@@ -12,15 +12,14 @@ ghost use Rattle.tags.specs.Words.{record_in, state_in};
 ghost use Rattle.tags.specs.Sizes.{Lent};
 ghost use Rattle.l2_writeback.specs.Halves.{L2Gone};
 
-use geometry::{L1d, L2};
+use geometry::{L1d, L2, Split};
 use model::{Gone, Left};
 
 // The half at b of the L2 line in set t, way v, which L1D holds in set i, way w: L2 takes it in if it is dirty, and it
 // becomes invalid in L1D.
 fn take_found(
     tags: &mut [u32],
-    sram: usize,
-    sets: usize,
+    split: Split,
     t: usize,
     v: usize,
     b: u32,
@@ -30,32 +29,32 @@ fn take_found(
     l2: &mut [u8],
 )
     requires t_bound { ((t < 512) × (v < 4)) × ((i < 128) × (w < 2)) }
-    requires lent { Lent sram sets tags.old }
+    requires lent { Lent split.sram split.sets tags.old }
     requires i_value { (i ≡ l1d_set_of b) × (w ≡ l1d_find (l1d_set_at (record_in tags.old) i) (l1d_line b)) }
     ensures { (e : List ℕ) → state_in tags.new l1d.now l2.new e
         ≡ take_half t v b (state_in tags.old l1d.now l2.old e) }
 {
-    let x = tags::l1d_line(tags, i, w);
+    let x = tags::line::<L1d>(tags, i, w);
     if x.dirty {
-        memory::move64(
+        memory::move_line::<64>(
             l2,
-            L2::data_at(sram, sets, t, v) + L2::offset_of(b),
+            L2::data_at(split, t, v) + L2::offset_of(b),
             l1d,
             L1d::data_at(i, w),
         );
-        let y = tags::l2_line(tags, t, v);
-        tags::l2_put(tags, t, v, geometry::line_at(y.address, true));
-        tags::l1d_put(tags, i, w, geometry::empty_line());
+        let y = tags::line::<L2>(tags, t, v);
+        tags::put::<L2>(tags, t, v, geometry::line_at(y.address, true));
+        tags::put::<L1d>(tags, i, w, geometry::empty_line());
         return;
     }
-    tags::l1d_put(tags, i, w, geometry::empty_line());
+    tags::put::<L1d>(tags, i, w, geometry::empty_line());
 }
 
 // The half at b, if L1D holds it.
+#[tactic(auto, unfolding(model::specs::Homes::take_half, model::specs::Ways::in_l1d, model::specs::Ways::l1d_way))]
 pub fn take_half(
     tags: &mut [u32],
-    sram: usize,
-    sets: usize,
+    split: Split,
     t: usize,
     v: usize,
     b: u32,
@@ -63,76 +62,65 @@ pub fn take_half(
     l2: &mut [u8],
 )
     requires t_bound { (t < 512) × (v < 4) }
-    requires lent { Lent sram sets tags.old }
+    requires lent { Lent split.sram split.sets tags.old }
     ensures { (e : List ℕ) → state_in tags.new l1d.now l2.new e
         ≡ take_half t v b (state_in tags.old l1d.now l2.old e) }
 {
     let i = L1d::set_of(b);
-    let w = tags::l1d_find(tags, i, L1d::line_of(b));
-    if L1d::WAYS <= w {
+    let Some(w) = tags::find::<L1d>(tags, i, L1d::line_of(b)) else {
         return;
-    }
-    take_found(tags, sram, sets, t, v, b, i, w, l1d, l2);
+    };
+    take_found(tags, split, t, v, b, i, w, l1d, l2);
 }
 
 // The upper half of the line at a, if L1D holds it. Each half has a function with one caller, so that the compiler
 // makes them part of it; one function for both would be called, twice for each line that leaves L2.
-fn take_upper(
-    tags: &mut [u32],
-    sram: usize,
-    sets: usize,
-    t: usize,
-    v: usize,
-    a: u32,
-    l1d: &[u8],
-    l2: &mut [u8],
-)
+#[tactic(auto, unfolding(model::specs::Homes::take_half, model::specs::Ways::in_l1d, model::specs::Ways::l1d_way))]
+fn take_upper(tags: &mut [u32], split: Split, t: usize, v: usize, a: u32, l1d: &[u8], l2: &mut [u8])
     requires t_bound { (t < 512) × (v < 4) }
-    requires lent { Lent sram sets tags.old }
+    requires lent { Lent split.sram split.sets tags.old }
     ensures { (e : List ℕ) → state_in tags.new l1d.now l2.new e
         ≡ take_half t v (upper_half a) (state_in tags.old l1d.now l2.old e) }
 {
     let b = L2::upper_half(a);
     let i = L1d::set_of(b);
-    let w = tags::l1d_find(tags, i, L1d::line_of(b));
-    if L1d::WAYS <= w {
+    let Some(w) = tags::find::<L1d>(tags, i, L1d::line_of(b)) else {
         return;
-    }
-    take_found(tags, sram, sets, t, v, b, i, w, l1d, l2);
+    };
+    take_found(tags, split, t, v, b, i, w, l1d, l2);
 }
 
 // The L2 line in set t, way v goes out, if dirty, into the part of external memory that begins at its home.
 // How many bytes went there is told.
 pub fn write_out_l2(
     tags: &mut [u32],
-    sram: usize,
-    sets: usize,
+    split: Split,
     t: usize,
     v: usize,
     l2: &[u8],
     ext: &mut [u8],
 ) -> u32
     requires t_bound { (t < 512) × (v < 4) }
-    requires lent { Lent sram sets tags.old }
+    requires lent { Lent split.sram split.sets tags.old }
     ensures by_index { (d : List ℕ) → state_in tags.new d l2.now ext.new
         ≡ write_out_l2 t v (state_in tags.old d l2.now ext.old) }
     ensures told { ((d : List ℕ) →
         result ≡ bytes_in (write_out_l2_moved t v (state_in tags.old d l2.now ext.old)).written) × (result ≤ 128) }
 {
-    let x = tags::l2_line(tags, t, v);
+    let x = tags::line::<L2>(tags, t, v);
     if !x.valid {
         return 0;
     }
     if !x.dirty {
         return 0;
     }
-    let n = memory::move128(
+    let n = memory::move_line::<128>(
         ext,
         geometry::external_place(x.address),
         l2,
-        L2::data_at(sram, sets, t, v),
+        L2::data_at(split, t, v),
     );
-    tags::l2_put(tags, t, v, geometry::line_at(x.address, false));
+    tags::put::<L2>(tags, t, v, geometry::line_at(x.address, false));
     n
 }
 
@@ -140,8 +128,7 @@ pub fn write_out_l2(
 // bytes went out.
 pub fn writeback_l2(
     tags: &mut [u32],
-    sram: usize,
-    sets: usize,
+    split: Split,
     t: usize,
     v: usize,
     l1d: &[u8],
@@ -149,22 +136,22 @@ pub fn writeback_l2(
     ext: &mut [u8],
 ) -> Gone
     requires t_bound { (t < 512) × (v < 4) }
-    requires lent { Lent sram sets tags.old }
+    requires lent { Lent split.sram split.sets tags.old }
     ensures ext_after { state_in tags.new l1d.now l2.new ext.new
         ≡ writeback_l2 t v (state_in tags.old l1d.now l2.old ext.old) }
     ensures told { L2Gone result t v (state_in tags.old l1d.now l2.old ext.old) }
 {
-    let x = tags::l2_line(tags, t, v);
+    let x = tags::line::<L2>(tags, t, v);
     if !x.valid {
         return Gone {
             left: Left::Empty,
             written: 0,
         };
     }
-    take_half(tags, sram, sets, t, v, x.address, l1d, l2);
-    take_upper(tags, sram, sets, t, v, x.address, l1d, l2);
-    let k = geometry::left_by(tags::l2_line(tags, t, v));
-    let n = write_out_l2(tags, sram, sets, t, v, l2, ext);
+    take_half(tags, split, t, v, x.address, l1d, l2);
+    take_upper(tags, split, t, v, x.address, l1d, l2);
+    let k = geometry::left_by(tags::line::<L2>(tags, t, v));
+    let n = write_out_l2(tags, split, t, v, l2, ext);
     Gone {
         left: k,
         written: n,
@@ -172,10 +159,10 @@ pub fn writeback_l2(
 }
 
 // .. and the way emptied.
+#[tactic(auto, unfolding(model::specs::Homes::evict_l2, model::specs::Ways::empty_l2))]
 pub fn evict_l2(
     tags: &mut [u32],
-    sram: usize,
-    sets: usize,
+    split: Split,
     t: usize,
     v: usize,
     l1d: &[u8],
@@ -183,12 +170,12 @@ pub fn evict_l2(
     ext: &mut [u8],
 ) -> Gone
     requires t_bound { (t < 512) × (v < 4) }
-    requires lent { Lent sram sets tags.old }
+    requires lent { Lent split.sram split.sets tags.old }
     ensures ext_after { state_in tags.new l1d.now l2.new ext.new
         ≡ evict_l2 t v (state_in tags.old l1d.now l2.old ext.old) }
     ensures told { L2Gone result t v (state_in tags.old l1d.now l2.old ext.old) }
 {
-    let g = writeback_l2(tags, sram, sets, t, v, l1d, l2, ext);
-    tags::l2_put(tags, t, v, geometry::empty_line());
+    let g = writeback_l2(tags, split, t, v, l1d, l2, ext);
+    tags::put::<L2>(tags, t, v, geometry::empty_line());
     g
 }

@@ -3,17 +3,19 @@
 // changes where the trace is too long, and the time goes by the output's length however many accesses are asked for.
 #![tactic(auto)]
 
-ghost use Rattle.std.specs.Prelude.{◌≡◌, ℕ, ◌+◌, ◌<◌, ◌≤◌, length, nat_le};
-ghost use Rattle.traces.specs.Writing.{command_bytes, written, write_all};
-ghost use Rattle.traces.specs.Load.{sum32, access_of, accesses, load_bytes, load_trace};
+ghost use Rattle.std.specs.Prelude.{◌≡◌, ℕ, ◌+◌, ◌<◌, ◌≤◌, length, nat_le, slice_index};
+ghost use Rattle.kinds.specs.Numbers.{refusal_number};
+ghost use Rattle.model.specs.Bytes.{stored};
+ghost use Rattle.traces.specs.Writing.{command_bytes};
+ghost use Rattle.traces.specs.Load.{sum32, next_word, words, word, access_of, load_bytes, load_trace};
 ghost use Rattle.traces.proofs.Load.{Legal};
-ghost use Rattle.trace_writer.specs.Encoding.{Added};
 ghost use Rattle.load.specs.Told.{told_load};
-ghost use Rattle.load.specs.Ring.{place_back, place_after, Ring, Next};
+ghost use Rattle.load.specs.Ring.{place_back, place_after, Ring};
 
+use kinds::Refusal;
 use model::Command;
 
-// How many bytes the trace has, and the number.
+// How many bytes the trace has, and the number. C is given it as it stands, so the fields are numbers.
 #[repr(C)]
 #[derive(Clone, Copy)]
 pub struct Load {
@@ -21,16 +23,15 @@ pub struct Load {
     pub number: u8,
 }
 
-// E is illegal; the output is too short for the whole trace.
-const ILLEGAL: Load = Load {
-    length: 0,
-    number: 1,
-};
-
-const TOO_SHORT: Load = Load {
-    length: 0,
-    number: 16,
-};
+// No trace is made.
+fn refused(refusal: Refusal) -> Load
+    ensures { (result.length ≡ 0) × (result.number ≡ refusal_number refusal) }
+{
+    Load {
+        length: 0,
+        number: refusal.number(),
+    }
+}
 
 // The words that a ring of them keeps; how many places back the two lie of which a later one is the sum.
 const RING: usize = 55;
@@ -66,32 +67,60 @@ fn place_after(at: usize) -> usize
     at + 1
 }
 
-// The first 55 words.
-fn seeded(seed: u32) -> [u32; 55]
-    ensures { Ring seed 55 result 0 }
-{
-    let mut ring = [seed; 55];
-    let mut i: usize = 1;
-    while i < RING {
-        ring[i] = sum(ring[i - 1], 0x9E3779B9);
-        i += 1;
-    }
-    ring
+// The last 55 words, and the place to which the next one comes.
+#[derive(Drop)]
+struct Words {
+    ring: [u32; 55],
+    at: usize,
+    ghost inside: { at < 55 },
 }
 
-// The word that comes next; it takes the place of the one 55 places back.
-fn next_word(ring: &mut [u32; 55], at: usize) -> u32
-    requires { at < 55 }
-    ensures { Next ring.old at ring.new result }
-{
-    let near = place_back(at, NEAR);
-    let far = place_back(at, FAR);
-    let word = sum(ring[near], ring[far]);
-    ring[at] = word;
-    word
+impl Words {
+    // The word so many places back.
+    fn back(&self, places: usize) -> u32
+        requires { places < 56 }
+        ensures { result ≡ slice_index self.now.ring (place_back self.now.at places) }
+    {
+        self.ring[place_back(self.at, places)]
+    }
+
+    // The next word takes the place of the one 55 places back.
+    fn put(&mut self, word: u32)
+        ensures { (seed k : ℕ) → Ring seed k self.old.ring self.old.at → word ≡ next_word seed (words seed k) →
+            Ring seed (k + 1) self.new.ring self.new.at }
+    {
+        self.ring[self.at] = word;
+        self.at = place_after(self.at);
+    }
+
+    // The first 55 words.
+    fn seeded(seed: u32) -> Words
+        ensures { Ring seed 55 result.ring result.at }
+    {
+        let mut words = Words {
+            ring: [0; 55],
+            at: 0,
+        };
+        words.put(seed);
+        for _ in 1..RING {
+            words.put(sum(words.back(1), 0x9E3779B9));
+        }
+        words
+    }
+
+    // The word that comes next.
+    fn next(&mut self) -> u32
+        ensures { (seed made : ℕ) → Ring seed (55 + made) self.old.ring self.old.at →
+            (result ≡ word seed (56 + made)) × Ring seed (55 + (made + 1)) self.new.ring self.new.at }
+    {
+        let word = sum(self.back(NEAR), self.back(FAR));
+        self.put(word);
+        word
+    }
 }
 
 // The access of a word: bit 31 set means write.
+#[tactic(auto, unfolding(traces::specs::Load::access_of))]
 fn access_of(extlen: u32, word: u32) -> Command
     requires { Legal extlen }
     ensures { result ≡ access_of extlen word }
@@ -114,6 +143,7 @@ fn access_of(extlen: u32, word: u32) -> Command
 }
 
 // How many bytes of a trace it takes, whatever E is.
+#[tactic(auto, using(crate::specs::Passes::lengths))]
 fn bytes_of(word: u32) -> usize
     ensures { (e : ℕ) → Legal e → result ≡ length (command_bytes (access_of e word)) }
 {
@@ -124,37 +154,37 @@ fn bytes_of(word: u32) -> usize
 }
 
 // The access of a word, at a point of the output where it has room; the point behind it.
+#[tactic(auto, unfolding(traces::specs::Load::access_of, traces::specs::Writing::numbers_taken))]
 fn put_access(out: &mut [u8], at: usize, extlen: u32, word: u32) -> usize
     requires { Legal extlen × (at + length (command_bytes (access_of extlen word)) ≤ length out.old) }
-    ensures { Added out.old at (command_bytes (access_of extlen word)) out.new result }
+    ensures bytes_after { out.new ≡ stored out.old at (command_bytes (access_of extlen word)) }
+    ensures end { result ≡ at + length (command_bytes (access_of extlen word)) }
 {
     let a = access_of(extlen, word);
-    out[at] = a.code;
-    let sized = trace_writer::add_number(out, at + 1, a.first as u64);
-    let placed = trace_writer::add_number(out, sized, a.second as u64);
-    if a.code == 0 {
-        return placed;
-    }
-    trace_writer::add_number(out, placed, a.value)
+    let count = if a.code == 0 { 2 } else { 3 };
+    trace_writer::add_command(
+        out,
+        at,
+        a.code,
+        count,
+        a.first as u64,
+        a.second as u64,
+        a.value,
+    )
 }
 
 // Has the trace of so many accesses room in so many bytes?
 fn has_room(seed: u32, count: u64, room: usize) -> bool
     ensures { (e : ℕ) → Legal e → result ≡ nat_le (length (load_bytes seed e count)) room }
 {
-    let mut ring = seeded(seed);
-    let mut at: usize = 0;
-    let mut made: u64 = 0;
+    let mut words = Words::seeded(seed);
     let mut left = room;
-    while made < count {
-        let word = next_word(&mut ring, at);
-        at = place_after(at);
-        let bytes = bytes_of(word);
+    for _ in 0..count {
+        let bytes = bytes_of(words.next());
         if left < bytes {
             return false;
         }
         left -= bytes;
-        made += 1;
     }
     true
 }
@@ -162,33 +192,30 @@ fn has_room(seed: u32, count: u64, room: usize) -> bool
 // The accesses, one after another from the start of the output on; the point behind them.
 fn write_accesses(seed: u32, extlen: u32, count: u64, out: &mut [u8]) -> usize
     requires { Legal extlen × (length (load_bytes seed extlen count) ≤ length out.old) }
-    ensures { written 0 result out.new ≡ write_all out.old 0 (accesses seed extlen count) }
+    ensures bytes_after { out.new ≡ stored out.old 0 (load_bytes seed extlen count) }
+    ensures end { result ≡ length (load_bytes seed extlen count) }
 {
-    let mut ring = seeded(seed);
-    let mut at: usize = 0;
-    let mut made: u64 = 0;
+    let mut words = Words::seeded(seed);
     let mut point: usize = 0;
-    while made < count {
-        let word = next_word(&mut ring, at);
-        at = place_after(at);
-        point = put_access(out, point, extlen, word);
-        made += 1;
+    for _ in 0..count {
+        point = put_access(out, point, extlen, words.next());
     }
     point
 }
 
+#[tactic(auto, using(crate::specs::Passes::loads))]
 pub fn load_trace(seed: u32, extlen: u32, count: u64, out: &mut [u8]) -> Load
     ensures { told_load result out.new ≡ load_trace seed extlen count out.old }
 {
-    if geometry::legal_external(extlen as usize) {} else {
-        return ILLEGAL;
+    if !geometry::legal_external(extlen as usize) {
+        return refused(Refusal::LentLength);
     }
-    if has_room(seed, count, out.len()) {
-        let length = write_accesses(seed, extlen, count, out);
-        return Load {
-            length: length,
-            number: 0,
-        };
+    if !has_room(seed, count, out.len()) {
+        return refused(Refusal::OutputShort);
     }
-    TOO_SHORT
+    let length = write_accesses(seed, extlen, count, out);
+    Load {
+        length: length,
+        number: 0,
+    }
 }

@@ -1,53 +1,17 @@
 -- A line copied by a loop, through an array, into a lent part: it is the line `stored` in the memory. The loop has
 -- replaced the first bytes (`copied`), the part that was lent comes back between what stood before and after it, and
 -- that is `splice`.
-use Rattle.std.specs.Prelude.{ℕ, suc, ◌+◌, ◌-◌, ◌≤◌, ◌<◌, Bool, cond, ◌≡◌, List, [], ◌∷◌, ◌++◌, set, get_or, replicate}
+use Rattle.std.specs.Prelude.{ℕ, ◌+◌, ◌-◌, ◌≤◌, ◌<◌, Bool, cond, ◌≡◌, List, [], ◌++◌, replicate}
 use Rattle.std.proofs.Math.Bool.{true, false}
 use Rattle.std.proofs.Math.Path.{refl, sym, ap}
-use Rattle.std.proofs.Common.{◌∙◌, append-nil, append_assoc, add-one, length-append, length-take, length-drop, drop_of_length-le, take-append-drop, take_all, drop-drop, drop-cons, take-suc, length-take-le, leb-true, leb-false, le-leb}
+use Rattle.std.proofs.Common.{◌∙◌, append-nil, length-drop, drop_of_length-le, take_all, drop-drop, leb-true, leb-false, le-leb}
 use native.Mathlib.Omega.{arith}
 use Rattle.std.proofs.Math.ListN.{length, take, drop}
-use Rattle.std.proofs.lemmas.List.{length-replicate, replicate-append-replicate, set_at}
-use Rattle.std.proofs.Math.Seq.{append_snoc, drop-length}
 use Rattle.std.proofs.Math.Dec.{leb}
 use Rattle.std.proofs.lemmas.Bool.{lt-leb}
 use Rattle.model.specs.Bytes.{part, stored, splice, zero_from}
 use Rattle.model.specs.Reports.{taken}
 use Rattle.model.specs.Laws.{stored-none, part-inside, stored-inside, stored-outside, length_part}
-
--- d with its first n bytes replaced by those of s
-unfoldable pub copied : List ℕ → List ℕ → ℕ → List ℕ
-copied d s n = take n s ++ drop n d
-
-pub copied-zero : (d s : List ℕ) → d ≡ copied d s 0
-unfolding copied
-copied-zero d s = refl
-
-pub copied_next : (d s : List ℕ) (j : ℕ) → j < length d → j < length s → set (copied d s j) j (get_or s j 0) ≡ copied d s (j + 1)
-unfolding copied
-copied_next d s j hd hs =
-    ap (λ (r : List ℕ). set (take j s ++ r) j (get_or s j 0)) (drop-cons d j 0 hd)
-    ∙ set_at (take j s) (get_or d j 0) (drop (suc j) d) (get_or s j 0) j (length-take-le j s (omega arith))
-    ∙ sym (append_snoc (take j s) (get_or s j 0) (drop (suc j) d))
-    ∙ rw (add-one, take-suc s j 0 hs)
-
--- an array that was filled from the front is what it was filled from
-pub filled : (d s : List ℕ) (n : ℕ) → length d ≡ n → copied d s n ≡ take n s
-unfolding copied
-filled d s n e = let h : length d ≤ n = omega arith in rw (drop_of_length-le d h, append-nil)
-
--- a slice that was replaced by one of its length is that one
-pub copied_all : (d s : List ℕ) → length d ≡ length s → copied d s (length s) ≡ s
-copied_all d s e = let h : length s ≤ length s = omega arith in filled d s (length s) e ∙ take_all (length s) s h
-
--- m[a..] is lent to the end, and its first bytes become s
-put_back : (m s : List ℕ) (a : ℕ) → a + length s ≤ length m →
-    take a m ++ (copied (take (length m - a) (drop a m)) s (length s) ++ drop (length m - a) (drop a m)) ≡ splice m a s
-unfolding copied splice
-put_back m s a h =
-    let rest : length (drop a m) ≤ length m - a = simp length-drop (omega arith) in
-    let all : length s ≤ length s = omega arith in
-    rw (take_all (length m - a) (drop a m) rest, drop_of_length-le (drop a m) rest, append-nil, take_all (length s) s all, drop-drop)
 
 cond_same : (b : Bool) → ◌≡◌ {A = List ℕ} [] (cond b [] [])
 cond_same true = refl
@@ -90,19 +54,6 @@ module _ (m l : List ℕ) (a b n : ℕ) where
       let k = length_part l b n i.from in
       let o : leb (a + length (part l b n)) (length m) ≡ true = rw k (le-leb (a + n) (length m) i.to) in rw o (sym k)
 
-  -- m[a..] takes the n bytes that were loaded from l[b..]
-  pub move_in : Inside m l a b n → (t : List ℕ) → t ≡ take n (take (length l - b) (drop b l)) →
-      take a m ++ (copied (take (length m - a) (drop a m)) t n ++ drop (length m - a) (drop a m)) ≡ stored m a (part l b n)
-  move_in i t g =
-      let k = i.from in
-      let h = i.to in
-      let all : length (drop b l) ≤ length l - b = simp length-drop (omega arith) in
-      let t' : t ≡ part l b n = g ∙ ap (take n) (take_all (length l - b) (drop b l) all) ∙ sym (part-inside l b n k) in
-      let len = length_part l b n k in
-      let p : take a m ++ (copied (take (length m - a) (drop a m)) (part l b n) (length (part l b n)) ++ drop (length m - a) (drop a m)) ≡ splice m a (part l b n)
-      = put_back m (part l b n) a (omega arith) in
-      rw t' ((rw len at p) ∙ sym (stored-inside m a (part l b n) (omega arith)))
-
   -- m[a..a + n] takes l[b..b + n]
   pub moved : Inside m l a b n → (t : List ℕ) → t ≡ take (b + n - b) (drop b l) →
       take a m ++ (t ++ drop (a + n - a) (drop a m)) ≡ stored m a (part l b n)
@@ -140,35 +91,20 @@ leb-shift a n k h = go (leb a (k - n)) refl
 pub leb-short : (a n k : ℕ) → k < n → false ≡ leb (a + n) k
 leb-short a n k h = sym (lt-leb (a + n) k (omega arith))
 
--- ---- zeros from k on, as a loop makes them: done up to i, and the rest as it was
-abbrev pub cleared_to : ℕ → List ℕ → ℕ → List ℕ
-cleared_to k m i = zero_from k m i ++ drop i m
-
-length-zero_from : (k : ℕ) (m : List ℕ) (i : ℕ) → k ≤ i → k ≤ length m → length (zero_from k m i) ≡ i
-unfolding zero_from
-length-zero_from k m i h g = simp (length-append, length-take, length-replicate) (omega arith)
-
-pub cleared-none : (m : List ℕ) (k : ℕ) → m ≡ cleared_to k m k
-unfolding zero_from
-cleared-none m k = let e : k - k ≡ 0 = omega arith in rw (e, append-nil) (sym (take-append-drop k m))
-
-pub cleared-next : (m : List ℕ) (k i : ℕ) → k ≤ i → i < length m → set (cleared_to k m i) i 0 ≡ cleared_to k m (i + 1)
-unfolding zero_from
-cleared-next m k i h g =
-    let n : length (zero_from k m i) ≡ i = length-zero_from k m i h (omega arith) in
-    let e : i + 1 - k ≡ i - k + 1 = omega arith in
-    ap (λ (r : List ℕ). set (zero_from k m i ++ r) i 0) (drop-cons m i 0 g)
-    ∙ set_at (zero_from k m i) (get_or m i 0) (drop (suc i) m) 0 i n
-    ∙ sym (append_snoc (zero_from k m i) 0 (drop (suc i) m))
-    ∙ rw (e, ← replicate-append-replicate {A = ℕ} (i - k) 1 0, add-one, append_assoc (take k m) (replicate (i - k) 0) (0 ∷ [])) refl
-
+-- ---- zeros from k on
 -- nothing from k on
 pub cleared-past : (m : List ℕ) (k : ℕ) → length m ≤ k → m ≡ zero_from k m (length m)
 unfolding zero_from
 cleared-past m k h = let e : length m - k ≡ 0 = omega arith in rw (e, append-nil) (sym (take_all k m h))
 
-pub cleared-all : (m : List ℕ) (k : ℕ) → cleared_to k m (length m) ≡ zero_from k m (length m)
-cleared-all m k = rw (drop-length, append-nil) refl
+-- the part from k on was filled
+pub cleared-part : (m : List ℕ) (k : ℕ) (t : List ℕ) → t ≡ replicate (length (take (length m - k) (drop k m))) 0 →
+    take k m ++ (t ++ drop (length m - k) (drop k m)) ≡ zero_from k m (length m)
+unfolding zero_from
+cleared-part m k t e =
+    let rest : length (drop k m) ≤ length m - k = simp length-drop (omega arith) in
+    let n : length (take (length m - k) (drop k m)) ≡ length m - k = ap length (take_all (length m - k) (drop k m) rest) ∙ length-drop k m in
+    rw (drop_of_length-le (drop k m) rest, append-nil, e, n) refl
 
 -- ---- bytes that are there, or not
 pub held_all : (m : List ℕ) (a n : ℕ) (b : Bool) → b ≡ leb (a + n) (length m) → b ≡ true → n ≡ length (part m a n)

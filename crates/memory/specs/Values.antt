@@ -1,13 +1,13 @@
 -- Values of several bytes: a value of 2 n bytes is made of two values of n bytes, loaded or stored one behind the
 -- other. Each law is stated once over the two widths; the code uses it at 1, 2 and 4.
-use Rattle.std.specs.Prelude.{ℕ, zero, suc, ◌+◌, ◌*◌, ◌/◌, ◌%◌, ◌≤◌, ◌<◌, Bool, true, false, not, ◌≡◌, refl, List, [], ◌∷◌, ◌++◌, ◌≢◌, length, take, drop, set, get_or, leb, eqb}
-use Rattle.std.proofs.Common.{sym, ap, ◌∙◌, append_assoc, arith, mul_assoc, length-append, drop-cons, take-add, drop-drop, leb-true, leb-false, eqb-true, ne_eqb}
+use Rattle.std.specs.Prelude.{ℕ, zero, suc, ◌+◌, ◌-◌, ◌*◌, ◌/◌, ◌%◌, ◌≤◌, ◌<◌, Bool, true, false, not, ◌≡◌, refl, List, [], ◌∷◌, ◌++◌, ◌≢◌, length, take, drop, set, get_or, leb, eqb}
+use Rattle.std.proofs.Common.{sym, ap, ◌∙◌, append_assoc, arith, mul_assoc, length-append, add-one, drop-cons, take-add, drop-drop, leb-true, leb-false, eqb-true, ne_eqb}
 use Rattle.std.proofs.Math.Nat.{div-div-eq-div-mul}
 use Rattle.std.proofs.lemmas.List.Edits.{sets, sets-eq}
 use Rattle.std.proofs.lemmas.Bool.{not-false, eqb-false}
 use Rattle.model.specs.Bytes.{part, stored, splice, little, little_bytes}
 use Rattle.model.specs.Refusals.{size_ok}
-use Rattle.model.specs.Laws.{bool, part-inside, stored-inside, stored-outside, length_part, length-stored, length-little_bytes}
+use Rattle.model.specs.Laws.{bool, part-inside, stored-none, stored-inside, stored-outside, length_part, length-stored, length-little_bytes}
 
 -- 256 to the n-th
 abbrev pub power : ℕ → ℕ
@@ -39,6 +39,34 @@ load-both m a j k h =
     let n = length_part m a j e₁ in
     ap little (part-append m a j k h) ∙ rw (little-append (part m a j) (part m (a + j) k), n) refl
 
+-- i bytes from the high one down, and one more
+pub load-next : (m : List ℕ) (a n i v : ℕ) → a + n ≤ length m → i < n → v ≡ little (part m (a + (n - i)) i) →
+    v * 256 + get_or m (a + (n - 1 - i)) 0 ≡ little (part m (a + (n - (i + 1))) (i + 1))
+load-next m a n i v h k e =
+    let p = a + (n - (i + 1)) in
+    let here : a + (n - 1 - i) ≡ p = omega arith in let next : p + 1 ≡ a + (n - i) = omega arith in
+    let both : little (part m p (1 + i)) ≡ little (part m p 1) + power 1 * little (part m (p + 1) i) = load-both m p 1 i (omega arith) in
+    let one : little (part m p 1) ≡ get_or m p 0 = load_one m p (omega arith) in
+    let rest : little (part m (p + 1) i) ≡ v = ap (λ (q : ℕ). little (part m q i)) next ∙ sym e in
+    let more : little (part m p (i + 1)) ≡ little (part m p (1 + i)) = (let c : i + 1 ≡ 1 + i = omega arith in ap (λ (q : ℕ). little (part m p q)) c) in
+    let byte : get_or m (a + (n - 1 - i)) 0 ≡ get_or m p 0 = ap (λ (q : ℕ). get_or m q 0) here in
+    omega arith
+
+pub load-below : (i v b : ℕ) → v < power i → b < 256 → v * 256 + b < power (i + 1)
+load-below i v b h k = rw add-one (omega arith)
+
+-- eight bytes fit
+pub load-fits : (i v : ℕ) → i < 8 → v < power i → v * 256 + 255 < 18446744073709551616
+load-fits zero v h k = omega arith
+load-fits (suc zero) v h k = omega arith
+load-fits (suc (suc zero)) v h k = omega arith
+load-fits (suc (suc (suc zero))) v h k = omega arith
+load-fits (suc (suc (suc (suc zero)))) v h k = omega arith
+load-fits (suc (suc (suc (suc (suc zero))))) v h k = omega arith
+load-fits (suc (suc (suc (suc (suc (suc zero)))))) v h k = omega arith
+load-fits (suc (suc (suc (suc (suc (suc (suc zero))))))) v h k = omega arith
+load-fits (suc (suc (suc (suc (suc (suc (suc (suc i)))))))) v h k = absurd (omega arith)
+
 -- ---- storing
 pub stored-sets : (m : List ℕ) (a : ℕ) (bs : List ℕ) → a + length bs ≤ length m → stored m a bs ≡ sets m a bs
 unfolding splice
@@ -58,13 +86,6 @@ stored-append m a xs ys h =
     ∙ sets-append m a xs ys
     ∙ sym (stored-sets m a (xs ++ ys) (omega arith))
 
--- a line moved as its two parts
-pub moved-both : (m l : List ℕ) (a b j k : ℕ) → a + (j + k) ≤ length m → b + (j + k) ≤ length l →
-    stored (stored m a (part l b j)) (a + j) (part l (b + j) k) ≡ stored m a (part l b (j + k))
-moved-both m l a b j k h g =
-    let n = length_part l b j (omega arith) in let n' = length_part l (b + j) k (omega arith) in
-    (rw n at (stored-append m a (part l b j) (part l (b + j) k) (omega arith))) ∙ ap (stored m a) (sym (part-append l b j k g))
-
 bytes-append : (v j k : ℕ) → little_bytes v (j + k) ≡ little_bytes v j ++ little_bytes (v / power j) k
 unfolding little_bytes
 bytes-append v zero k = let e : v / 1 ≡ v = omega arith in let f : zero + k ≡ k = omega arith in rw (e, f) refl
@@ -81,6 +102,18 @@ pub store_both : (m : List ℕ) (a v j k : ℕ) → a + (j + k) ≤ length m →
 store_both m a v j k h =
     let n = length-little_bytes v j in let n' = length-little_bytes (v / power j) k in
     (rw n at (stored-append m a (little_bytes v j) (little_bytes (v / power j) k) (omega arith))) ∙ ap (stored m a) (sym (bytes-append v j k))
+
+-- i bytes from the low one up, and one more
+pub store-next : (m : List ℕ) (a n i v : ℕ) → a + n ≤ length m → i < n →
+    set (stored m a (little_bytes v i)) (a + i) (v / power i % 256) ≡ stored m a (little_bytes v (i + 1))
+store-next m a n i v h k =
+    let l = length-stored m (little_bytes v i) a in
+    store-one (stored m a (little_bytes v i)) (a + i) (v / power i) (omega arith) ∙ store_both m a v i 1 (omega arith)
+
+pub rest-next : (v i : ℕ) → v / power i / 256 ≡ v / power (i + 1)
+rest-next v i =
+    let e : power i * 256 ≡ power (i + 1) = rw add-one (omega arith) in
+    div-div-eq-div-mul v (power i) 256 ∙ ap (λ (q : ℕ). v / q) e
 
 -- ---- the widths
 -- where the bytes do not lie in the memory
@@ -108,3 +141,12 @@ size_small n h =
     (λ e₄. bool (eqb n 1) (λ e. let p = eqb-true n 1 e in omega arith)
     (λ e₁. bool (eqb n 2) (λ e. let p = eqb-true n 2 e in omega arith)
     (λ e₂. let p = size-eight n h (eqb-false n 4 e₄) (eqb-false n 1 e₁) (eqb-false n 2 e₂) in omega arith)))
+
+-- no byte yet
+pub load-zero : (m : List ℕ) (a : ℕ) → 0 ≡ little (part m a 0)
+unfolding part little
+load-zero m a = bool (leb (a + 0) (length m)) (λ e. rw e refl) (λ e. rw e refl)
+
+pub store-zero : (m : List ℕ) (a v : ℕ) → m ≡ stored m a (little_bytes v 0)
+unfolding little_bytes
+store-zero m a v = sym (stored-none m a)

@@ -1,182 +1,136 @@
--- All sets, and the words as a whole: how a loop goes over the sets, what it has found at its end, and the number due.
-use Prim.Native.Nat.{ℕ, zero, suc, ◌+◌, ◌-◌, ◌/◌, ◌%◌, ◌≤◌, ◌<◌}
-use Rattle.std.specs.Prelude.{Bool, true, ◌&&◌, List, ◌≡◌, length}
-use Rattle.std.proofs.Math.Bool.{false, and_assoc, and-true, and-false}
-use Rattle.std.proofs.Math.Path.{refl, sym, ap}
-use Rattle.std.proofs.Common.{◌∙◌, add-one}
-use native.Mathlib.Omega.{arith}
-use Rattle.std.proofs.Math.Dec.{leb, eqb}
+-- Sets one after another: what a loop over them finds is what the definitions say of the lists of sets.
+use Rattle.std.specs.Prelude.{ℕ, zero, suc, ◌+◌, ◌-◌, ◌≤◌, ◌<◌, Bool, true, false, ◌&&◌, List, [], ◌∷◌, ◌≡◌, refl, length, get_or, take, drop, eqb}
+use Rattle.std.proofs.Common.{sym, ap, ◌∙◌, arith, add-one, length-take, length-drop, get_or-take, get_or-drop}
+use Rattle.std.proofs.Math.Bool.{and_assoc}
 use Rattle.model.specs.Basics.{all_indexed}
-use Rattle.model.specs.Memories.{legal_l2, legal_external, is_mode, cache_size, sram_length}
-use Rattle.model.specs.Records.{state, legal_sizes, counts_ok, well_formed, l1d_set_ok, l2_set_ok, sram_of, l2_sets_of}
-use Rattle.model.specs.Refusals.{lowest_due, unless, lent_l1d, lent_l2, lent_external, lent_due}
-use Rattle.model.specs.Laws.{bool, both_true}
-use Rattle.record_check.specs.Idle.{sizes-legal}
-use Rattle.tags.specs.Words.{word, l1d_in, l2_in, record_in, bits_in, l2len-in, extlen-in, mode-good, mode-bad}
-use Rattle.lists.specs.Listed.{listed}
-use Rattle.record_check.specs.Lent.{all_from, dirty_from, l1d_ok_in, l2_ok_in, l1d_lines_in, l2_lines_in, l1d_all_in, l2_first_in}
-use Rattle.record_check.specs.Counts.{dirty-listed, used_all}
+use Rattle.model.specs.Records.{dirty_lines, dirty_in, no_l1d_set, no_l2_set, l1d_set_ok, l2_set_ok}
+use Rattle.model.specs.Laws.{both_true}
+use Rattle.model.specs.declared.Line.{Line}
 use Rattle.model.specs.declared.L1dSet.{L1dSet}
 use Rattle.model.specs.declared.L2Set.{L2Set}
+use Rattle.model.specs.declared.Record.{Record}
+use Rattle.tags.specs.Words.{word, record_in, shaped}
+use Rattle.record_check.specs.Parts.{l1d_ok, l2_ok, l1d_dirty, l2_dirty, front_ok, l1d_front_ok, l2_front_ok, l2_rest_ok}
 
--- ---- a loop that goes up to n
-module _ (p : ℕ → Bool) (i n : ℕ) where
-  step : i < n → all_from p i (n - i) ≡ (p i && all_from p (i + 1) (n - (i + 1)))
-  unfolding all_from
-  step h = let e : n - i ≡ suc (n - (i + 1)) = omega arith in ap (all_from p i) e ∙ ap (λ (k : ℕ). p i && all_from p k (n - (i + 1))) (sym (add-one i))
+-- ---- tests of the elements, each with its index
+module _ {A : Type 0} (f : ℕ → A → Bool) where
+  pub all_parts : (k m : ℕ) (xs : List A) → all_indexed f k xs ≡ (all_indexed f k (take m xs) && all_indexed f (k + m) (drop m xs))
+  unfolding all_indexed
+  all_parts k zero xs = ap (λ (j : ℕ). all_indexed f j xs) (omega arith)
+  all_parts k (suc m) [] = refl
+  all_parts k (suc m) (x ∷ xs) =
+      let z = all_parts (suc k) m xs in let e : suc k + m ≡ k + suc m = omega arith in rw (z, e) (sym (and_assoc (f k x) _ _))
 
-  pub from_next : (w : Bool) → all_from p i (n - i) ≡ w → i < n → p i ≡ true → all_from p (i + 1) (n - (i + 1)) ≡ w
-  from_next w e h t = ap (λ (b : Bool). b && all_from p (i + 1) (n - (i + 1))) (sym t) ∙ sym (step h) ∙ e
+module _ {A : Type 0} (f : ℕ → A → Bool) (d : A) where
+  pub all_ok : (k : ℕ) (xs : List A) → ((i : ℕ) → i < length xs → f (k + i) (get_or xs i d) ≡ true) → all_indexed f k xs ≡ true
+  unfolding all_indexed
+  all_ok k [] h = refl
+  all_ok k (x ∷ xs) h =
+      let e : f k x ≡ true = ap (λ (j : ℕ). f j x) (omega arith) ∙ h 0 (omega arith) in
+      rw (e, all_ok (suc k) xs (λ i l. ap (λ (j : ℕ). f j (get_or xs i d)) (omega arith) ∙ h (suc i) (omega arith))) refl
 
-  pub from-stop : (w : Bool) → all_from p i (n - i) ≡ w → i < n → p i ≡ false → false ≡ w
-  from-stop w e h t = ap (λ (b : Bool). b && all_from p (i + 1) (n - (i + 1))) (sym t) ∙ sym (step h) ∙ e
+  pub all_off : (k : ℕ) (xs : List A) (i : ℕ) → i < length xs → f (k + i) (get_or xs i d) ≡ false → all_indexed f k xs ≡ false
+  unfolding all_indexed
+  all_off k [] i l e = absurd (omega arith)
+  all_off k (x ∷ xs) zero l e = let z : f k x ≡ false = ap (λ (j : ℕ). f j x) (omega arith) ∙ e in rw z refl
+  all_off k (x ∷ xs) (suc i) l e =
+      let z = all_off (suc k) xs i (omega arith) (ap (λ (j : ℕ). f j (get_or xs i d)) (omega arith) ∙ e) in rw z (grind arith)
 
-  pub from_end : (w : Bool) → all_from p i (n - i) ≡ w → n ≤ i → true ≡ w
-  unfolding all_from
-  from_end w e h = let z : n - i ≡ 0 = omega arith in sym (ap (all_from p i) z) ∙ e
+  module _ (xs : List A) (n : ℕ) (few : n ≤ length xs) where
+    short : length (take n xs) ≡ n
+    short = simp length-take (omega arith)
 
-pub from_first : (p : ℕ → Bool) (n : ℕ) → all_from p 0 (n - 0) ≡ all_from p 0 n
-from_first p n = let e : n - 0 ≡ n = omega arith in ap (all_from p 0) e
+    pub front_all : ((i : ℕ) → i < n → f i (get_or xs i d) ≡ true) → all_indexed f 0 (take n xs) ≡ true
+    front_all h = all_ok 0 (take n xs) (λ i l. let m : i < n = omega (arith, short) in let z : 0 + i ≡ i = omega arith in rw (z, get_or-take n xs i d m) (h i m))
 
--- ---- a list of what a function gives; two parts
-pub all_listed {ℓ} : {A : Type ℓ} (f : ℕ → A → Bool) (g : ℕ → A) (k n : ℕ) → all_indexed f k (listed g k n) ≡ all_from (λ i. f i (g i)) k n
-unfolding all_from all_indexed listed
-all_listed f g k zero = refl
-all_listed f g k (suc n) = ap (λ (b : Bool). f k (g k) && b) (all_listed f g (suc k) n)
+    pub front_off : (i : ℕ) → i < n → f i (get_or xs i d) ≡ false → all_indexed f 0 (take n xs) ≡ false
+    front_off i m e = all_off 0 (take n xs) i (omega (arith, short)) (let z : 0 + i ≡ i = omega arith in rw (z, get_or-take n xs i d m) e)
 
-all-parts : (p : ℕ → Bool) (k m n : ℕ) → all_from p k (m + n) ≡ (all_from p k m && all_from p (k + m) n)
-unfolding all_from
-all-parts p k zero n =
-    let e : k ≡ k + 0 = omega arith in let z : 0 + n ≡ n = omega arith in ap (all_from p k) z ∙ ap (λ (i : ℕ). all_from p i n) e
-all-parts p k (suc m) n =
-    let e : suc k + m ≡ k + suc m = omega arith in
-    let z : suc m + n ≡ suc (m + n) = omega arith in
-    ap (all_from p k) z ∙ ap (λ (b : Bool). p k && b) (all-parts p (suc k) m n ∙ ap (λ (i : ℕ). all_from p (suc k) m && all_from p i n) e)
-    ∙ sym (and_assoc (p k) (all_from p (suc k) m) (all_from p (k + suc m) n))
+    behind : length (drop n xs) + n ≡ length xs
+    behind = simp length-drop (omega arith)
 
--- ---- each count beside its sets; of the count d of all of L2 only where the last sets (v) pass
-reordered : (h a u v c d e : Bool) → (v ≡ true → d ≡ e) → (h && (a && ((u && v) && (c && d)))) ≡ (h && ((a && c) && ((u && e) && v)))
-reordered false a u v c d e f = refl
-reordered true false u v c d e f = refl
-reordered true true u false c d e f = rw (and-false u, and-false (u && e), and-false c) refl
-reordered true true false true c d e f = rw (and-false c) refl
-reordered true true true true c d e f = rw (f refl) (rw (and-true e) refl)
+    pub rest_all : ((i : ℕ) → n ≤ i → i < length xs → f i (get_or xs i d) ≡ true) → all_indexed f n (drop n xs) ≡ true
+    rest_all h = all_ok n (drop n xs) (λ i l. rw (get_or-drop n xs i d) (h (n + i) (omega arith) (omega (arith, behind))))
 
-l1d-off : (h a l c d : Bool) → (a && c) ≡ false → (h && (a && (l && (c && d)))) ≡ false
-l1d-off false a l c d e = refl
-l1d-off true false l c d e = refl
-l1d-off true true l c d e = rw (e, and-false l) refl
+    pub rest_off : (i : ℕ) → n ≤ i → i < length xs → f i (get_or xs i d) ≡ false → all_indexed f n (drop n xs) ≡ false
+    rest_off i l m e =
+        let z : i ≡ n + (i - n) = omega arith in
+        all_off n (drop n xs) (i - n) (omega (arith, behind)) (rw (get_or-drop n xs (i - n) d, sym z) e)
 
--- ---- the words
+-- ---- how many lines are dirty
+module _ {A : Type 0} (g : A → List Line) where
+  pub dirty_more : (d : A) (xs : List A) (i : ℕ) → i < length xs → dirty_in g (take (i + 1) xs) ≡ dirty_in g (take i xs) + dirty_lines (g (get_or xs i d))
+  unfolding dirty_in
+  dirty_more d [] i l = absurd (omega arith)
+  dirty_more d (x ∷ xs) zero l = omega arith
+  dirty_more d (x ∷ xs) (suc i) l = let z = rw (add-one i) at (dirty_more d xs i (omega arith)) in rw (add-one (suc i)) (omega arith)
+
+  pub dirty_parts : (m : ℕ) (xs : List A) → dirty_in g xs ≡ dirty_in g (take m xs) + dirty_in g (drop m xs)
+  unfolding dirty_in
+  dirty_parts zero xs = omega arith
+  dirty_parts (suc m) [] = refl
+  dirty_parts (suc m) (x ∷ xs) = let z = dirty_parts m xs in omega arith
+
+  -- where no element that passes a test has a dirty line, none is dirty behind the first m
+  pub dirty_none : (f : ℕ → A → Bool) (k : ℕ) (xs : List A) → ((i : ℕ) (x : A) → k ≤ i → f i x ≡ true → dirty_lines (g x) ≡ 0) → all_indexed f k xs ≡ true → dirty_in g xs ≡ 0
+  unfolding dirty_in all_indexed
+  dirty_none f k [] h e = refl
+  dirty_none f k (x ∷ xs) h e =
+      let p = both_true (f k x) (all_indexed f (suc k) xs) e in
+      let z = dirty_none f (suc k) xs (λ i y l. h i y (omega arith)) p.1 in let y = h k x (omega arith) p.0 in omega arith
+
+-- ---- the sets of the record that words stand for: a set that is not in order, one more that is counted, the end
+module _ {A : Type 0} (f : ℕ → A → Bool) (g : A → List Line) (d : A) (xs : List A) (count n : ℕ) (few : n ≤ length xs) where
+  front_stops : (i : ℕ) → i < n → f i (get_or xs i d) ≡ false → false ≡ front_ok f g xs count n
+  unfolding front_ok
+  front_stops i l e = rw (front_off f d xs n few i l e) refl
+
+  front_ends : ((i : ℕ) → i < n → f i (get_or xs i d) ≡ true) → (m : ℕ) → m ≡ dirty_in g (take n xs) → eqb count m ≡ front_ok f g xs count n
+  unfolding front_ok
+  front_ends h m e = rw (front_all f d xs n few h, e) refl
+
+pub no_sets : {A : Type 0} (g : A → List Line) → dirty_in g [] ≡ 0
+unfolding dirty_in
+no_sets g = refl
+
 module _ (ws : List ℕ) where
-  l1d-listed : all_indexed (l1d_set_ok (record_in ws)) 0 (record_in ws).l1d ≡ all_from (λ i. l1d_set_ok (record_in ws) i (l1d_in ws i)) 0 128
+  abbrev r : Record
+  r = record_in ws
+
+  -- the lines of a set of L1D, of L2
+  abbrev lines : L1dSet → List Line
+  lines v = v.lines
+
+  abbrev lines_2 : L2Set → List Line
+  lines_2 v = v.lines
+
+  pub l1d_stops : (i : ℕ) → i < 128 → l1d_ok r i ≡ false → false ≡ l1d_front_ok r 128
+  l1d_stops i l e = front_stops (l1d_set_ok r) lines no_l1d_set r.l1d r.dirty_l1d 128 (omega (arith, (shaped ws).l1d_sets)) i l e
+
+  pub l1d_more : (i : ℕ) → i < 128 → dirty_in lines (take (i + 1) r.l1d) ≡ dirty_in lines (take i r.l1d) + l1d_dirty r i
+  l1d_more i l = dirty_more lines no_l1d_set r.l1d i (omega (arith, (shaped ws).l1d_sets))
+
+  pub l1d_ends : ((i : ℕ) → i < 128 → l1d_ok r i ≡ true) → (n : ℕ) → n ≡ dirty_in lines (take 128 r.l1d) → eqb (word ws 3) n ≡ l1d_front_ok r 128
   unfolding record_in
-  l1d-listed = all_listed (l1d_set_ok (record_in ws)) (l1d_in ws) 0 128
+  l1d_ends h n e = front_ends (l1d_set_ok r) lines no_l1d_set r.l1d r.dirty_l1d 128 (omega (arith, (shaped ws).l1d_sets)) h n e
 
-  l2-listed : all_indexed (l2_set_ok (record_in ws)) 0 (record_in ws).l2 ≡ all_from (λ j. l2_set_ok (record_in ws) j (l2_in ws j)) 0 512
-  unfolding record_in
-  l2-listed = all_listed (l2_set_ok (record_in ws)) (l2_in ws) 0 512
+  module _ (sets : ℕ) (few : sets ≤ 512) where
+    pub l2_stops : (j : ℕ) → j < sets → l2_ok r j ≡ false → false ≡ l2_front_ok r sets
+    l2_stops j l e = front_stops (l2_set_ok r) lines_2 no_l2_set r.l2 r.dirty_l2 sets (omega (arith, (shaped ws).l2_sets)) j l e
 
-  counts-listed : counts_ok (record_in ws) ≡ (eqb (word ws 3) (dirty_from (l1d_lines_in ws) 0 128) && eqb (word ws 4) (dirty_from (l2_lines_in ws) 0 512))
-  unfolding counts_ok record_in
-  counts-listed =
-      let a = dirty-listed (λ (v : L1dSet). v.lines) (l1d_in ws) 0 128 in let b = dirty-listed (λ (v : L2Set). v.lines) (l2_in ws) 0 512 in
-      λ t. eqb (word ws 3) (a t) && eqb (word ws 4) (b t)
+    pub l2_ends : ((j : ℕ) → j < sets → l2_ok r j ≡ true) → (n : ℕ) → n ≡ dirty_in lines_2 (take sets r.l2) → eqb (word ws 4) n ≡ l2_front_ok r sets
+    unfolding record_in
+    l2_ends h n e = front_ends (l2_set_ok r) lines_2 no_l2_set r.l2 r.dirty_l2 sets (omega (arith, (shaped ws).l2_sets)) h n e
 
-  well-in : well_formed (record_in ws) ≡ (legal_sizes (record_in ws) && (all_from (l1d_ok_in ws) 0 128 && (all_from (l2_ok_in ws) 0 512 &&
-      (eqb (word ws 3) (dirty_from (l1d_lines_in ws) 0 128) && eqb (word ws 4) (dirty_from (l2_lines_in ws) 0 512)))))
-  unfolding well_formed l1d_ok_in l2_ok_in
-  well-in = λ t. legal_sizes (record_in ws) && (l1d-listed t && (l2-listed t && counts-listed t))
+    pub idle_stops : (j : ℕ) → sets ≤ j → j < 512 → l2_ok r j ≡ false → false ≡ l2_rest_ok r sets
+    unfolding l2_rest_ok
+    idle_stops j l n e = let h = (shaped ws).l2_sets in sym (rest_off (l2_set_ok r) no_l2_set r.l2 sets (omega arith) j l (omega arith) e)
 
-  -- the sets in use with the count of L2, then the others
-  in_parts : (sets : ℕ) → sets ≤ 512 → l2_sets_of (record_in ws) ≤ sets →
-      well_formed (record_in ws) ≡ (legal_sizes (record_in ws) && (l1d_all_in ws && (l2_first_in ws sets && all_from (l2_ok_in ws) sets (512 - sets))))
-  unfolding l1d_all_in l2_first_in
-  in_parts sets h l =
-      let s : 512 ≡ sets + (512 - sets) = omega arith in
-      let z : 0 + sets ≡ sets = omega arith in
-      let v = all_from (l2_ok_in ws) sets (512 - sets) in
-      let p : all_from (l2_ok_in ws) 0 512 ≡ (all_from (l2_ok_in ws) 0 sets && v) =
-      ap (all_from (l2_ok_in ws) 0) s ∙ all-parts (l2_ok_in ws) 0 sets (512 - sets) ∙ (λ k. all_from (l2_ok_in ws) 0 sets && all_from (l2_ok_in ws) (z k) (512 - sets)) in
-      well-in
-      ∙ ap (λ (b : Bool). legal_sizes (record_in ws) && (all_from (l1d_ok_in ws) 0 128 && (b &&
-      (eqb (word ws 3) (dirty_from (l1d_lines_in ws) 0 128) && eqb (word ws 4) (dirty_from (l2_lines_in ws) 0 512))))) p
-      ∙ reordered (legal_sizes (record_in ws)) (all_from (l1d_ok_in ws) 0 128) (all_from (l2_ok_in ws) 0 sets) v (eqb (word ws 3) (dirty_from (l1d_lines_in ws) 0 128))
-      (eqb (word ws 4) (dirty_from (l2_lines_in ws) 0 512)) (eqb (word ws 4) (dirty_from (l2_lines_in ws) 0 sets))
-      (λ e. ap (eqb (word ws 4)) (used_all ws sets h l e))
+    pub idle_ends : ((j : ℕ) → sets ≤ j → j < 512 → l2_ok r j ≡ true) → true ≡ l2_rest_ok r sets
+    unfolding l2_rest_ok
+    idle_ends h = let g = (shaped ws).l2_sets in sym (rest_all (l2_set_ok r) no_l2_set r.l2 sets (omega arith) (λ j l n. h j l (omega arith)))
 
-  -- S and the number of L2 sets, from the words; b: the rest of the head's test
-  module _ (b : Bool) (t : (bits_in (word ws 2) && b) ≡ true) where
-    mode-is : word ws 2 % 256 ≡ (record_in ws).mode
-    mode-is = mode-good ws (both_true (bits_in (word ws 2)) b t).0
+  pub l2_more : (j : ℕ) → j < 512 → dirty_in lines_2 (take (j + 1) r.l2) ≡ dirty_in lines_2 (take j r.l2) + l2_dirty r j
+  l2_more j l = dirty_more lines_2 no_l2_set r.l2 j (omega (arith, (shaped ws).l2_sets))
 
-    pub sram-is : (s k : ℕ) → s ≡ k → k ≡ sram_length (word ws 0) (word ws 2 % 256) → s ≡ sram_of (record_in ws)
-    sram-is s k es ek = es ∙ ek ∙ (λ i. sram_length (l2len-in ws i) (mode-is i))
-
-    pub sets-is : (c : ℕ) → c ≡ cache_size (word ws 2 % 256) → c / 512 ≡ l2_sets_of (record_in ws)
-    sets-is c e = ap (λ (n : ℕ). n / 512) (e ∙ ap cache_size mode-is)
-
-  pub sets-few : (c : ℕ) → c < 262145 → c / 512 ≤ 512
-  sets-few c h = omega arith
-
-  -- the parts of the test, as the code makes them
-  module _ (l e m : Bool) (c : ℕ) (el : l ≡ legal_l2 (word ws 0)) (ee : e ≡ legal_external (word ws 1)) (em : m ≡ is_mode (word ws 2 % 256))
-      (ec : c ≡ cache_size (word ws 2 % 256)) where
-    abbrev head : Bool
-    head = bits_in (word ws 2) && ((l && e) && (m && leb c (word ws 0)))
-
-    head-joined : head ≡ legal_sizes (record_in ws)
-    unfolding legal_sizes is_mode
-    head-joined =
-        bool (bits_in (word ws 2))
-        (λ t. ap (λ (b : Bool). b && ((l && e) && (m && leb c (word ws 0)))) t
-        ∙ ap (λ (n : ℕ). (l && e) && (m && leb c n)) (l2len-in ws)
-        ∙ sizes-legal (record_in ws) l e m c (el ∙ ap legal_l2 (l2len-in ws)) (ee ∙ ap legal_external (extlen-in ws)) (em ∙ ap is_mode (mode-good ws t)) (ec ∙ ap cache_size (mode-good ws t)))
-        (λ t. ap (λ (b : Bool). b && ((l && e) && (m && leb c (word ws 0)))) t ∙ sym (no_mode t))
-      where
-        no_mode : bits_in (word ws 2) ≡ false → legal_sizes (record_in ws) ≡ false
-        no_mode t = rw (sym (mode-bad ws t), and-false, and-false) refl
-
-    pub well-head : head ≡ false → false ≡ well_formed (record_in ws)
-    well-head t = sym (well-in ∙ rw (sym head-joined ∙ t) refl)
-
-    module _ (t : head ≡ true) (b : Bool) (eb : b ≡ l1d_all_in ws) where
-      pub well-l1d : b ≡ false → false ≡ well_formed (record_in ws)
-      unfolding l1d_all_in
-      well-l1d f =
-          sym (well-in
-          ∙ l1d-off (legal_sizes (record_in ws)) (all_from (l1d_ok_in ws) 0 128) (all_from (l2_ok_in ws) 0 512) (eqb (word ws 3) (dirty_from (l1d_lines_in ws) 0 128))
-          (eqb (word ws 4) (dirty_from (l2_lines_in ws) 0 512)) (sym eb ∙ f))
-
-      module _ (f : b ≡ true) (sets : ℕ) (h : sets ≤ 512) (u : Bool) (eu : u ≡ l2_first_in ws sets) (es : sets ≡ l2_sets_of (record_in ws)) where
-        left : well_formed (record_in ws) ≡ (u && all_from (l2_ok_in ws) sets (512 - sets))
-        left = in_parts sets h (omega arith) ∙ rw (sym head-joined ∙ t, sym eb ∙ f, ← eu) refl
-
-        pub well-used : u ≡ false → false ≡ well_formed (record_in ws)
-        well-used g = sym (left ∙ rw g refl)
-
-        pub well-last : u ≡ true → (v : Bool) → v ≡ all_from (l2_ok_in ws) sets (512 - sets) → v ≡ well_formed (record_in ws)
-        well-last g v ev = sym (left ∙ rw (g, ev) refl)
-
-  -- ---- the number due
-  module _ (d m e : List ℕ) (a b : Bool) (l x : ℕ) (ea : a ≡ legal_l2 (length m)) (el : l ≡ word ws 0) (eb : b ≡ legal_external (length e)) (ex : x ≡ word ws 1) where
-    abbrev lengths : Bool
-    lengths = eqb (length d) 16384 && ((a && eqb (length m) l) && (b && eqb (length e) x))
-
-    by_lengths : lent_due (state (record_in ws) d m e) ≡ lowest_due (unless lengths 1) (unless (well_formed (record_in ws)) 2)
-    unfolding lent_due lent_l1d lent_l2 lent_external record_in
-    by_lengths = rw (ea, el, eb, ex) refl
-
-    pub due-one : lengths ≡ false → 1 ≡ lent_due (state (record_in ws) d m e)
-    due-one t = sym (by_lengths ∙ rw t refl)
-
-    -- w: what the test of the words says
-    module _ (t : lengths ≡ true) (w : Bool) (ew : w ≡ well_formed (record_in ws)) where
-      due-last : lent_due (state (record_in ws) d m e) ≡ unless w 2
-      due-last = by_lengths ∙ rw (t, ew) refl
-
-      pub due-none : w ≡ true → 0 ≡ lent_due (state (record_in ws) d m e)
-      due-none f = sym (due-last ∙ rw f refl)
-
-      pub due-two : w ≡ false → 2 ≡ lent_due (state (record_in ws) d m e)
-      due-two f = sym (due-last ∙ rw f refl)
+pub ruleset loop_laws = (no_sets, l1d_stops, l1d_more, l1d_ends, l2_stops, l2_more, l2_ends, idle_stops, idle_ends)

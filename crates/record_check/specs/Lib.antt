@@ -1,5 +1,4 @@
-pub mod Idle
-pub mod Lent
+pub mod Parts
 pub mod Sets
-pub mod Counts
 pub mod All
+pub mod Whole

@@ -1,3 +1,4 @@
-pub mod Lent
+pub mod Front
 pub mod Executed
 pub mod Upwards
+pub mod Turns

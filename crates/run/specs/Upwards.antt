@@ -10,11 +10,7 @@ use Rattle.model.specs.Basics.{each}
 use Rattle.model.specs.Records.{State}
 use Rattle.model.specs.Laws.{length-stored}
 use Rattle.model.specs.Calls.{step, Run, ran, put_answer, put_reply}
-use Rattle.program.specs.Fetches.{Chip}
-use Rattle.program.specs.Runs.{ChipRun, chip_run_from}
 use Rattle.model.specs.declared.Command.{Command}
-use Rattle.tags.specs.Words.{record_words}
-use Rattle.l1p_tags.specs.Lines.{chip_words}
 use Rattle.run.specs.Executed.{raised, source_of, end_of, stop_of, data_machine, executes}
 
 -- the state behind k of them
@@ -57,9 +53,3 @@ unfolding end_of each up_answers
 told-up n c t z o x e h room =
     let some : n ≢ 0 = λ i. omega arith in
     rw (ne_eqb n 0 some) at e ∙ up_rest n c t z o some room n 0 (omega arith)
-
--- of one given command neither the run over a trace is asked for nor several
-pub given-alone : (n : ℕ) (c : Command) (t ws : List ℕ) (z : State) (x : List ℕ → Chip) (o : List ℕ) (q : Run) (r : List ℕ → ChipRun) → n ≡ 1 →
-    (n ≡ 0 → length ws ≡ chip_words → (p : List ℕ) → r p ≡ chip_run_from t (length t) 0 (x p) 0 o)
-    × (2 ≤ n → n * 10 ≤ length o → length ws ≡ record_words → q ≡ all_up c n z o)
-given-alone n c t ws z x o q r s = (λ f. absurd (omega arith), λ f _. absurd (omega arith))

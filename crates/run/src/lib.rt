@@ -4,41 +4,46 @@
 // of the data side alone gets what the commands do there.
 #![tactic(auto)]
 
-ghost use Rattle.std.specs.Prelude.{◌≢◌, ◌≡◌, List, ℕ, ◌+◌, ◌*◌, ◌≤◌, ◌<◌, length};
+ghost use Rattle.std.specs.Prelude.{◌≡◌, List, ℕ, ◌+◌, ◌*◌, ◌≤◌, ◌<◌, length, OnErr};
 ghost use Rattle.model.specs.Records.{sram_of, l2_sets_of};
 ghost use Rattle.model.specs.Calls.{step, ran, put_answer};
 ghost use Rattle.model.specs.declared.Left.TheVariants.{NoWay};
-ghost use Rattle.access.specs.Serving.{answer_of};
+ghost use Rattle.access.specs.Answered.{answer_of, plain_answer, server_in, value_in};
+ghost use Rattle.kinds.specs.Numbers.{number_due};
 ghost use Rattle.tags.specs.Words.{record_words, record_in, state_in};
 ghost use Rattle.program.specs.Fetches.{with_l1p};
 ghost use Rattle.program.specs.Chip.{chip_step};
 ghost use Rattle.program.specs.Runs.{chip_ran, chip_run_from};
 ghost use Rattle.l1p_tags.specs.Lines.{chip_words, lines_in, chip_in};
 ghost use Rattle.l1p_tags.specs.Lent.{Sized};
-ghost use Rattle.run.specs.Executed.{NextAt, end_of, stop_of, no_answer};
+ghost use Rattle.run.specs.Executed.{NextAt, TakenAt, end_of};
+ghost use Rattle.run.specs.Turns.{held, Carried};
 ghost use Rattle.run.specs.Upwards.{all_up};
 
 use access::Answer;
 use decode::Decoded;
-use geometry::L2;
+use geometry::Split;
+use kinds::Refusal;
 use model::Command;
 
-// How far a run came, and why it stopped; of one given command the answer.
+// How far a run came, and why it stopped, if not at the end; of one given command the answer.
 #[derive(Clone, Copy)]
 pub struct Ended {
     pub consumed: usize,
     pub count: usize,
-    pub stop: u8,
-    pub last: Answer,
+    pub stop: Result<(), Refusal>,
+    pub last: Result<Answer, Refusal>,
 }
 
-fn no_answer() -> Answer
-    ensures { result ≡ no_answer }
+// An answer without server, value and report, as every command that is no access has it.
+fn nothing() -> Answer
+    ensures { result ≡ plain_answer None 0 }
 {
-    access::plain(0, 0, 0)
+    access::plain(None, 0)
 }
 
 // Where the commands end: behind the given ones, or the trace.
+#[tactic(auto, unfolding(crate::specs::Executed::end_of))]
 fn end_of(times: usize, trace: &[u8]) -> usize
     ensures { result ≡ end_of times trace.now }
 {
@@ -48,9 +53,11 @@ fn end_of(times: usize, trace: &[u8]) -> usize
     trace.len()
 }
 
-// The command at a place: a given one, or that of the trace.
-fn next(times: usize, given: Command, trace: &[u8], at: usize) -> Decoded
-    requires { times ≢ 0 → given.second + at < 4294967296 }
+// The command at a place before the end: a given one, or that of the trace, if it is not damaged there.
+#[tactic(auto, unfolding(crate::specs::Executed::end_of))]
+fn next(times: usize, given: Command, trace: &[u8], at: usize) -> Option<Decoded>
+    requires before { at < end_of times trace.now }
+    requires times_bound { given.second + times ≤ 4294967296 }
     ensures { NextAt times given trace.now at result }
 {
     if times != 0 {
@@ -60,76 +67,101 @@ fn next(times: usize, given: Command, trace: &[u8], at: usize) -> Decoded
             second: given.second + at as u32,
             value: given.value,
         };
-        return Decoded {
-            ok: true,
+        return Some(Decoded {
             command: up,
             used: 1,
-        };
+        });
     }
     decode::next_command(trace, at)
 }
 
-// 11 for a damaged trace, then 12 for fewer than ten answer bytes left, 0 to go on. The quotient keeps the test from
-// wrapping.
-fn stop_of(ok: bool, len: usize, count: usize) -> u8
-    ensures { result ≡ stop_of ok len count }
+// The command that the run goes on with, or why it stops: 11 for a damaged trace, then 12 for fewer than ten answer
+// bytes left. The quotient keeps the test from wrapping.
+#[tactic(auto, unfolding(crate::specs::Executed::stop_of))]
+fn taken(
+    times: usize,
+    given: Command,
+    trace: &[u8],
+    at: usize,
+    count: usize,
+    len: usize,
+) -> Result<Decoded, Refusal>
+    requires before { at < end_of times trace.now }
+    requires times_bound { given.second + times ≤ 4294967296 }
+    ensures { TakenAt times given trace.now at count len result }
 {
-    if !ok {
-        return 11;
-    }
+    let Some(d) = next(times, given, trace, at) else {
+        return Err(Refusal::Damaged);
+    };
     if len / 10 <= count {
-        return 12;
+        return Err(Refusal::AnswersFull);
     }
-    0
+    Ok(d)
 }
 
-fn put_answer(answers: &mut [u8], count: usize, number: u8, server: u8, value: u64)
+// Number, server and value of an answer, or of a refusal, which has but its number.
+fn put_answer(answers: &mut [u8], count: usize, answered: Result<Answer, Refusal>)
     requires { count * 10 + 10 ≤ length answers.old }
-    ensures { answers.new ≡ put_answer answers.old count number server value }
+    ensures { answers.new
+        ≡ put_answer answers.old count (number_due answered) (server_in answered) (value_in answered) }
 {
     let at = count * 10;
-    answers[at] = number;
-    answers[at + 1] = server;
-    memory::store8(answers, at + 2, value);
+    match answered {
+        Ok(answer) => {
+            answers[at] = 0;
+            answers[at + 1] = kinds::server_told(answer.server);
+            memory::store_bytes::<8>(answers, at + 2, answer.value);
+        }
+        Err(refusal) => {
+            answers[at] = refusal.number();
+            answers[at + 1] = 0;
+            memory::store_bytes::<8>(answers, at + 2, 0);
+        }
+    }
 }
 
-// S, and the number of L2 sets.
-pub fn sram_of(words: &[u32]) -> usize
+// How the mode splits L2.
+pub fn split_of(words: &[u32]) -> Split
     requires { record_words ≤ length words.now }
-    ensures { (result ≡ sram_of (record_in words.now)) × (result < 4294967296) }
+    ensures { (result.sram ≡ sram_of (record_in words.now)) × (result.sets ≡ l2_sets_of (record_in words.now)) }
 {
     let n = tags::WORDS;
-    let tags = &words[..n];
-    L2::sram(tags::l2len_of(tags), tags::mode_of(tags))
-}
-
-pub fn sets_of(words: &[u32]) -> usize
-    requires { record_words ≤ length words.now }
-    ensures { (result ≡ l2_sets_of (record_in words.now)) × (result ≤ 512) }
-{
-    let n = tags::WORDS;
-    L2::sets(tags::mode_of(&words[..n]))
+    tags::split_of(&words[..n])
 }
 
 // A read or a write, which leaves L1P alone.
 fn access(
     words: &mut [u32],
-    sram: usize,
-    sets: usize,
+    split: Split,
     c: Command,
     l1d: &mut [u8],
     l2: &mut [u8],
     ext: &mut [u8],
-) -> Answer
+) -> Result<Answer, Refusal>
     requires code_bound { (c.code < 2) × (record_words ≤ length words.old) }
-    requires sized { Sized sram sets words.old }
-    ensures ext_after { answer_of result (state_in words.new l1d.new l2.new ext.new)
-        ≡ step c (state_in words.old l1d.old l2.old ext.old) }
-    ensures rest { lines_in words.new ≡ lines_in words.old }
-    ensures refused { result.number ≢ 0 → words.new ≡ words.old }
+    requires sized { Sized split.sram split.sets words.old }
+    ensures carried { Carried c (held words.old l1d.old l2.old ext.old) (held words.new l1d.new l2.new ext.new) result }
+    ensures sized { Sized split.sram split.sets words.new }
 {
     let n = tags::WORDS;
-    access::access(&mut words[..n], sram, sets, c, l1d, l2, ext)
+    access::access(&mut words[..n], split, c, l1d, l2, ext)
+}
+
+// A command that is no access, as its answer is put down.
+fn command(
+    words: &mut [u32],
+    split: Split,
+    c: Command,
+    l1d: &[u8],
+    l2: &mut [u8],
+    ext: &mut [u8],
+) -> Result<Answer, Refusal>
+    requires code_bound { (2 ≤ c.code) × (record_words ≤ length words.old) }
+    requires sized { Sized split.sram split.sets words.old }
+    ensures { Carried c (held words.old l1d.now l2.old ext.old) (held words.new l1d.now l2.new ext.new) result }
+{
+    chip_commands::execute(words, split, c, l1d, l2, ext)?;
+    Ok(nothing())
 }
 
 // All of a trace (`times` 0), or so many given commands, the second number of each one higher than that of the one in
@@ -154,66 +186,67 @@ pub fn run(
     ensures whole { times ≡ 1 → 10 ≤ length answers.old → length words.old ≡ chip_words → (p : List ℕ) →
         with_l1p NoWay (lines_in words.new) p (answer_of result.last (state_in words.new l1d.new l2.new ext.new))
         ≡ chip_step given (chip_in words.old l1d.old l2.old ext.old p) }
-    ensures refused { times ≡ 1 → result.last.number ≢ 0 → words.new ≡ words.old }
+    ensures refused { times ≡ 1 → OnErr result.last (words.new ≡ words.old) }
     ensures all { times ≡ 0 → length words.old ≡ chip_words → (p : List ℕ) →
-        chip_ran (chip_in words.new l1d.new l2.new ext.new p) result.consumed result.count result.stop answers.new
+        chip_ran (chip_in words.new l1d.new l2.new ext.new p) result.consumed result.count (number_due result.stop)
+        answers.new
         ≡ chip_run_from trace.now (length trace.now) 0
         (chip_in words.old l1d.old l2.old ext.old p) 0 answers.old }
     ensures up { 2 ≤ times → times * 10 ≤ length answers.old → length words.old ≡ record_words →
-        ran (state_in words.new l1d.new l2.new ext.new) result.consumed result.count result.stop answers.new
+        ran (state_in words.new l1d.new l2.new ext.new) result.consumed result.count (number_due result.stop)
+        answers.new
         ≡ all_up given times (state_in words.old l1d.old l2.old ext.old) answers.old }
 {
     let mut at: usize = 0;
     let mut count: usize = 0;
-    let mut sets = sets_of(words);
-    let mut sram = sram_of(words);
+    let mut split = split_of(words);
     let end = end_of(times, trace);
     while at < end {
-        let d = next(times, given, trace, at);
-        let stop = stop_of(d.ok, answers.len(), count);
-        if stop != 0 {
-            return Ended {
-                consumed: at,
-                count: count,
-                stop: stop,
-                last: no_answer(),
-            };
-        }
+        let d = match taken(times, given, trace, at, count, answers.len()) {
+            Ok(d) => d,
+            Err(refusal) => {
+                return Ended {
+                    consumed: at,
+                    count: count,
+                    stop: Err(refusal),
+                    last: Ok(nothing()),
+                };
+            }
+        };
         let c = d.command;
         if 2 <= c.code {
-            let n = chip_commands::execute(words, sram, sets, c, l1d, l2, ext);
+            let n = command(words, split, c, l1d, l2, ext);
             if times == 1 {
                 return Ended {
                     consumed: 1,
                     count: 1,
-                    stop: 0,
-                    last: access::plain(n, 0, 0),
+                    stop: Ok(()),
+                    last: n,
                 };
             }
-            put_answer(answers, count, n, 0, 0);
-            sets = sets_of(words);
-            sram = sram_of(words);
+            put_answer(answers, count, n);
+            split = split_of(words);
             at += d.used;
             count += 1;
             continue;
         }
-        let a = access(words, sram, sets, c, l1d, l2, ext);
+        let a = access(words, split, c, l1d, l2, ext);
         if times == 1 {
             return Ended {
                 consumed: 1,
                 count: 1,
-                stop: 0,
+                stop: Ok(()),
                 last: a,
             };
         }
-        put_answer(answers, count, a.number, a.server, a.value);
+        put_answer(answers, count, a);
         at += d.used;
         count += 1;
     }
     Ended {
         consumed: at,
         count: count,
-        stop: 0,
-        last: no_answer(),
+        stop: Ok(()),
+        last: Ok(nothing()),
     }
 }

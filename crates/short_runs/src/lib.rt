@@ -1,15 +1,17 @@
 // Runs of up to four of eight commands (02, U12): from a number the run, from a run its number. A run is its digits.
 #![tactic(auto)]
 
-ghost use Rattle.std.specs.Prelude.{◌≡◌, ◌≤◌, ◌<◌, ◌^◌, ◌-◌, ◌++◌, replicate};
+ghost use Rattle.std.specs.Prelude.{◌≡◌, ◌≤◌, ◌<◌, ◌^◌, ◌-◌, ◌++◌, [], replicate};
 ghost use Rattle.model.specs.Trace.{command};
-ghost use Rattle.traces.specs.ShortRuns.{command_of_digit, digits_of_value, short_run_of, short_run_number};
+ghost use Rattle.traces.specs.ShortRuns.{command_of_digit, digits_of_value, run_of, short_run, run_number};
+ghost use Rattle.traces.specs.ShortRuns.{short_run_of, short_run_number};
 ghost use Rattle.short_runs.specs.Told.{told_run, told_number};
-ghost use Rattle.short_runs.specs.Digits.{PlacedAt};
 
+use kinds::Refusal;
 use model::Command;
 
-// The run of a number: four digits, those behind its length being 0.
+// The run of a number: four digits, those behind its length being 0. C is given it as it stands, so the fields are
+// numbers.
 #[repr(C)]
 #[derive(Clone, Copy)]
 pub struct ShortRun {
@@ -18,7 +20,7 @@ pub struct ShortRun {
     pub digits: [u8; 4],
 }
 
-// The number of a run.
+// The number of a run. C is given it as it stands, so the fields are numbers.
 #[repr(C)]
 #[derive(Clone, Copy)]
 pub struct RunNumber {
@@ -34,13 +36,25 @@ struct Place {
     runs: u32,
 }
 
-const REFUSED_RUN: ShortRun = ShortRun {
-    number: 18,
-    length: 0,
-    digits: [0, 0, 0, 0],
-};
+// The empty run, and number 0, come with the refusal.
+fn refused_run() -> ShortRun
+    ensures { told_run result ≡ short_run 18 [] }
+{
+    ShortRun {
+        number: Refusal::ShortRun.number(),
+        length: 0,
+        digits: [0; 4],
+    }
+}
 
-const REFUSED_NUMBER: RunNumber = RunNumber { number: 18, run: 0 };
+fn refused_number() -> RunNumber
+    ensures { told_number result ≡ run_number 18 0 }
+{
+    RunNumber {
+        number: Refusal::ShortRun.number(),
+        run: 0,
+    }
+}
 
 fn made(code: u8, first: u32, second: u32, value: u64) -> Command
     ensures { result ≡ command code first second value }
@@ -54,36 +68,30 @@ fn made(code: u8, first: u32, second: u32, value: u64) -> Command
 }
 
 // The command of a digit, which is 7 at most in a run.
+#[tactic(auto, unfolding(traces::specs::ShortRuns::command_of_digit))]
 pub fn command_of(digit: u8) -> Command
     ensures { result ≡ command_of_digit digit }
 {
-    if digit == 0 {
-        return made(0, 1, 0x80000000, 0);
+    match digit {
+        0 => made(0, 1, 0x80000000, 0),
+        1 => made(0, 1, 0x80002000, 0),
+        2 => made(1, 1, 0x80000000, 1),
+        3 => made(1, 1, 0x80002000, 2),
+        4 => made(2, 0, 0, 0),
+        5 => made(3, 0, 0, 0),
+        6 => made(10, 0, 0, 0),
+        _ => made(10, 1, 0, 0),
     }
-    if digit == 1 {
-        return made(0, 1, 0x80002000, 0);
-    }
-    if digit == 2 {
-        return made(1, 1, 0x80000000, 1);
-    }
-    if digit == 3 {
-        return made(1, 1, 0x80002000, 2);
-    }
-    if digit == 4 {
-        return made(2, 0, 0, 0);
-    }
-    if digit == 5 {
-        return made(3, 0, 0, 0);
-    }
-    if digit == 6 {
-        return made(10, 0, 0, 0);
-    }
-    made(10, 1, 0, 0)
 }
 
+// The loop ends by the value that is left: how long the run is comes out only as the shorter ones are passed, so there
+// is no range to count through.
+#[tactic(auto, using(crate::specs::Digits::places))]
 fn place_of(number: u32) -> Place
     requires { number ≤ 4680 }
-    ensures { PlacedAt number result.length result.value result.runs }
+    ensures few { result.length ≤ 4 }
+    ensures as_long { (result.runs ≡ 8 ^ result.length) × (result.value < result.runs) }
+    ensures run { run_of number ≡ digits_of_value 8 result.length result.value }
 {
     let mut length: usize = 0;
     let mut value = number;
@@ -101,57 +109,54 @@ fn place_of(number: u32) -> Place
 }
 
 // The first digit weighs most: so many of the runs as long have the digits before it and a smaller one there.
-fn digits_of(length: usize, value: u32, runs: u32) -> [u8; 4]
-    requires { (length ≤ 4) × ((runs ≡ 8 ^ length) × (value < runs)) }
-    ensures { result ≡ digits_of_value 8 length value ++ replicate (4 - length) 0 }
+#[tactic(auto, using(crate::specs::Digits::fillings))]
+fn digits_of(place: Place) -> [u8; 4]
+    requires { (place.length ≤ 4) × ((place.runs ≡ 8 ^ place.length) × (place.value < place.runs)) }
+    ensures { result ≡ digits_of_value 8 place.length place.value ++ replicate (4 - place.length) 0 }
 {
     let mut digits = [0u8; 4];
-    let mut weight = runs;
-    let mut rest = value;
-    let mut i: usize = 0;
-    while i < length {
+    let mut weight = place.runs;
+    let mut rest = place.value;
+    for i in 0..place.length {
         weight = weight / 8;
         digits[i] = (rest / weight) as u8;
         rest = rest % weight;
-        i += 1;
     }
     digits
 }
 
+#[tactic(auto, using(crate::specs::Digits::runs))]
 pub fn run_of(number: u32) -> ShortRun
     ensures { told_run result ≡ short_run_of number }
 {
     if 4680 < number {
-        return REFUSED_RUN;
+        return refused_run();
     }
-    let p = place_of(number);
-    let digits = digits_of(p.length, p.value, p.runs);
+    let place = place_of(number);
     ShortRun {
         number: 0,
-        length: p.length as u8,
-        digits: digits,
+        length: place.length as u8,
+        digits: digits_of(place),
     }
 }
 
+#[tactic(auto, using(crate::specs::Digits::numbers))]
 pub fn number_of(digits: &[u8]) -> RunNumber
     ensures { told_number result ≡ short_run_number digits.now }
 {
     if 4 < digits.len() {
-        return REFUSED_NUMBER;
+        return refused_number();
     }
     let mut shorter: u32 = 0;
     let mut same: u32 = 1;
     let mut value: u32 = 0;
-    let mut i: usize = 0;
-    while i < digits.len() {
-        let digit = digits[i] as u32;
-        if 7 < digit {
-            return REFUSED_NUMBER;
+    for digit in digits {
+        if 7 < *digit {
+            return refused_number();
         }
         shorter = shorter + same;
         same = same * 8;
-        value = value * 8 + digit;
-        i += 1;
+        value = value * 8 + *digit as u32;
     }
     RunNumber {
         number: 0,

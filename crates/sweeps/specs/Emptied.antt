@@ -19,7 +19,10 @@ same-bare z z' e b s w hs hw = rw e (b s w hs hw)
 -- ---- then it holds no half
 no-half : (z : State) (b : ℕ) → Bare z → in_l1d z b ≡ false
 unfolding in_l1d l1d_way l1d_find way_holding holds
-no-half z b h = let n₀ = h (l1d_set_of b) 0 (omega arith) (omega arith) in let n₁ = h (l1d_set_of b) 1 (omega arith) (omega arith) in rw (n₀, n₁) refl
+no-half z b h =
+    let n₀ = h (l1d_set_of b) 0 (omega arith) (omega arith) in
+    let n₁ = h (l1d_set_of b) 1 (omega arith) (omega arith) in
+    rw (n₀, n₁) refl
 
 no-halves : (z : State) (t v b : ℕ) → Bare z → take_halves t v b z ≡ z
 unfolding take_halves take_half
@@ -59,7 +62,8 @@ unfolding evict_l2 clear_l2
 bare-evict z t v h = ap (empty_l2 t v) (bare-writeback z t v h)
 
 -- ---- all of them: two loops whose steps are the same wherever they come
-each_same : (f g : ℕ → State → State) (P : State → Type 0) → ((k : ℕ) (x : State) → P x → f k x ≡ g k x) → ((k : ℕ) (x : State) → P x → P (g k x)) →
+each_same : (f g : ℕ → State → State) (P : State → Type 0) →
+    ((k : ℕ) (x : State) → P x → f k x ≡ g k x) → ((k : ℕ) (x : State) → P x → P (g k x)) →
     (n : ℕ) (z : State) → P z → (each f n z ≡ each g n z) × P (each g n z)
 unfolding each
 each_same f g P same keep zero z p = (refl, p)
@@ -70,7 +74,8 @@ each_same f g P same keep (suc n) z p =
 pub bare-writebacks : (z : State) → Bare z → each_l2 writeback_l2 z ≡ each_l2 write_out_l2 z
 unfolding each_l2
 bare-writebacks z h =
-    (each_same (λ k. writeback_l2 (k / 4) (k % 4)) (λ k. write_out_l2 (k / 4) (k % 4)) Bare (λ k x b. bare-writeback x (k / 4) (k % 4) b)
+    (each_same (λ k. writeback_l2 (k / 4) (k % 4)) (λ k. write_out_l2 (k / 4) (k % 4)) Bare
+    (λ k x b. bare-writeback x (k / 4) (k % 4) b)
     (λ k x b. same-bare x (write_out_l2 (k / 4) (k % 4) x) (out-lines x (k / 4) (k % 4)) b)
     (l2_sets_of z.rec * 4) z h
     ).0
@@ -78,7 +83,8 @@ bare-writebacks z h =
 pub bare-evicts : (z : State) → Bare z → each_l2 evict_l2 z ≡ each_l2 clear_l2 z
 unfolding each_l2 clear_l2
 bare-evicts z h =
-    (each_same (λ k. evict_l2 (k / 4) (k % 4)) (λ k. clear_l2 (k / 4) (k % 4)) Bare (λ k x b. bare-evict x (k / 4) (k % 4) b)
+    (each_same (λ k. evict_l2 (k / 4) (k % 4)) (λ k. clear_l2 (k / 4) (k % 4)) Bare
+    (λ k x b. bare-evict x (k / 4) (k % 4) b)
     (λ k x b. let y = write_out_l2 (k / 4) (k % 4) x in
     same-bare x (empty_l2 (k / 4) (k % 4) y) (empty-lines y (k / 4) (k % 4) ∙ out-lines x (k / 4) (k % 4)) b)
     (l2_sets_of z.rec * 4) z h

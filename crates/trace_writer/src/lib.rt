@@ -2,14 +2,17 @@
 // array first, so that one that is refused or does not fit has changed no byte of the output.
 #![tactic(auto)]
 
-ghost use Rattle.std.specs.Prelude.{cond, ◌≡◌, ◌+◌, ◌≤◌, ◌++◌, length, take};
+ghost use Rattle.std.specs.Prelude.{◌≡◌, ◌+◌, ◌≤◌, ◌<◌, length, unwrap_or, IfSome};
+ghost use Rattle.std.specs.Result.{result_unwrap_or};
+ghost use Rattle.kinds.specs.Numbers.{number_due};
 ghost use Rattle.model.specs.Bytes.{stored};
 ghost use Rattle.model.specs.Trace.{command};
-ghost use Rattle.traces.specs.Writing.{number_bytes, numbers_taken, command_bytes, narrow, write_command};
-ghost use Rattle.trace_writer.specs.Encoding.{Added, Holds};
+ghost use Rattle.traces.specs.Writing.{number_bytes, numbers_taken, command_bytes, narrow, written, write_command};
 ghost use Rattle.trace_writer.specs.Told.{told, wrote, reached};
 
-// The point behind what is written, and the number.
+use kinds::Refusal;
+
+// The point behind what is written, and the number. C is given it as it stands, so the fields are numbers.
 #[repr(C)]
 #[derive(Clone, Copy)]
 pub struct Put {
@@ -17,17 +20,20 @@ pub struct Put {
     pub number: u8,
 }
 
-// How many numbers a code takes; 4: there is no such code.
-fn numbers_taken(code: u32) -> u8
-    ensures { result ≡ numbers_taken code }
+// How many numbers a code takes; none where there is no such code.
+#[tactic(auto, unfolding(traces::specs::Writing::numbers_taken, decode::specs::Codes::numbers_behind))]
+fn numbers_taken(code: u32) -> Option<u8>
+    ensures count { unwrap_or result 4 ≡ numbers_taken code }
+    ensures most { IfSome result (λ n. (n ≤ 3) × (code < 256)) }
 {
     if 255 < code {
-        return 4;
+        return None;
     }
     decode::numbers_behind(code as u8)
 }
 
 // Is no number that the code takes too wide? A value of 64 bits never is.
+#[tactic(auto, unfolding(traces::specs::Writing::narrow))]
 fn is_narrow(taken: u8, first: u64, second: u64) -> bool
     ensures { result ≡ narrow taken (command 0 first second 0) }
 {
@@ -43,23 +49,13 @@ fn is_narrow(taken: u8, first: u64, second: u64) -> bool
     second <= 0xFFFFFFFF
 }
 
-// 16 comes last.
-fn number_due(narrow: bool, fits: bool) -> u8
-    ensures { result ≡ cond narrow (cond fits 0 16) 11 }
-{
-    if narrow {} else {
-        return 11;
-    }
-    if fits {
-        return 0;
-    }
-    16
-}
-
-// A number goes into the bytes, from byte n on; the place behind it.
+// A number goes into the bytes, from byte n on; the place behind it. The loop ends by the value of what is left: how
+// many groups there will be is not known before, so there is no range to count through.
+#[tactic(auto, using(crate::specs::Encoding::groups))]
 pub fn add_number(bytes: &mut [u8], n: usize, number: u64) -> usize
     requires { n + length (number_bytes number) ≤ length bytes.old }
-    ensures { Added bytes.old n (number_bytes number) bytes.new result }
+    ensures bytes_after { bytes.new ≡ stored bytes.old n (number_bytes number) }
+    ensures end { result ≡ n + length (number_bytes number) }
 {
     let mut end = n;
     let mut rest = number;
@@ -72,16 +68,27 @@ pub fn add_number(bytes: &mut [u8], n: usize, number: u64) -> usize
     end + 1
 }
 
-// A command is made in an array: a code and three numbers of ten groups are 31 bytes.
-fn encode(bytes: &mut [u8], code: u8, count: u8, first: u64, second: u64, value: u64) -> usize
-    requires { (length bytes.old ≡ 32) × (count ≡ numbers_taken code) }
-    ensures { Holds bytes.new result 31 (command_bytes (command code first second value)) }
+// The code and the numbers that it takes go into the bytes, from byte `at` on; the place behind them.
+#[tactic(auto, using(crate::specs::Encoding::puts))]
+pub fn add_command(
+    bytes: &mut [u8],
+    at: usize,
+    code: u8,
+    count: u8,
+    first: u64,
+    second: u64,
+    value: u64,
+) -> usize
+    requires { (count ≡ numbers_taken code)
+        × (at + length (command_bytes (command code first second value)) ≤ length bytes.old) }
+    ensures bytes_after { bytes.new ≡ stored bytes.old at (command_bytes (command code first second value)) }
+    ensures end { result ≡ at + length (command_bytes (command code first second value)) }
 {
-    bytes[0] = code;
+    bytes[at] = code;
     if count == 0 {
-        return 1;
+        return at + 1;
     }
-    let one = add_number(bytes, 1, first);
+    let one = add_number(bytes, at + 1, first);
     if count == 1 {
         return one;
     }
@@ -92,39 +99,45 @@ fn encode(bytes: &mut [u8], code: u8, count: u8, first: u64, second: u64, value:
     add_number(bytes, two, value)
 }
 
-fn copy_in(out: &mut [u8], at: usize, bytes: &[u8], n: usize)
-    requires { (n ≤ length bytes.now) × (at + n ≤ length out.old) }
-    ensures { out.new ≡ stored out.old at (take n bytes.now) }
+// One command behind a point of the output; the point behind it. 16 comes last.
+#[tactic(auto, using(crate::specs::Encoding::puts_command), unfolding(traces::specs::Writing::write_command))]
+pub fn put_at(
+    out: &mut [u8],
+    at: usize,
+    code: u32,
+    first: u64,
+    second: u64,
+    value: u64,
+) -> Result<usize, Refusal>
+    ensures { written (number_due result) (result_unwrap_or result at) out.new
+        ≡ write_command out.old at (command code first second value) }
 {
-    let mut i: usize = 0;
-    while i < n {
-        out[at + i] = bytes[i];
-        i += 1;
+    let Some(count) = numbers_taken(code) else {
+        return Err(Refusal::Damaged);
+    };
+    let mut bytes = [0u8; 32];
+    let n = add_command(&mut bytes, 0, code as u8, count, first, second, value);
+    if !is_narrow(count, first, second) {
+        return Err(Refusal::Damaged);
     }
+    if !memory::fits(at, n, out.len()) {
+        return Err(Refusal::OutputShort);
+    }
+    out[at..at + n].copy_from_slice(&bytes[..n]);
+    Ok(at + n)
 }
 
+// The same as C is told it: where it is refused, the point stays.
 pub fn put_command(out: &mut [u8], at: usize, code: u32, first: u64, second: u64, value: u64) -> Put
     ensures { told result out.new
         ≡ write_command out.old at (command code first second value) }
 {
-    let count = numbers_taken(code);
-    if count == 4 {
-        return Put { at: at, number: 11 };
-    }
-    let mut bytes = [0u8; 32];
-    let n = encode(&mut bytes, code as u8, count, first, second, value);
-    let narrow = is_narrow(count, first, second);
-    let number = number_due(narrow, memory::fits(at, n, out.len()));
-    if number == 0 {
-        copy_in(out, at, &bytes, n);
-        return Put {
-            at: at + n,
-            number: 0,
-        };
-    }
-    Put {
-        at: at,
-        number: number,
+    match put_at(out, at, code, first, second, value) {
+        Ok(end) => Put { at: end, number: 0 },
+        Err(refusal) => Put {
+            at: at,
+            number: refusal.number(),
+        },
     }
 }
 
@@ -142,12 +155,16 @@ pub fn new<'a>(out: &'a mut [u8]) -> Writer<'a>
 }
 
 // One command behind the point, which moves on where it is accepted.
-pub fn put_next<'s, 'a>(w: &'s mut Writer<'a>, code: u32, first: u64, second: u64, value: u64) -> u8
-    ensures { (result ≡ (wrote w.old (command code first second value)).number)
+pub fn put_next<'s, 'a>(
+    w: &'s mut Writer<'a>,
+    code: u32,
+    first: u64,
+    second: u64,
+    value: u64,
+) -> Result<(), Refusal>
+    ensures { (number_due result ≡ (wrote w.old (command code first second value)).number)
         × (w.new ≡ reached w.old (command code first second value)) }
 {
-    let at = w.at;
-    let p = put_command(&mut *w.out, at, code, first, second, value);
-    w.at = p.at;
-    p.number
+    w.at = put_at(&mut *w.out, w.at, code, first, second, value)?;
+    Ok(())
 }

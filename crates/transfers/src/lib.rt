@@ -3,29 +3,32 @@
 // checks 1 and 2, each contract being the definition of 02 (model/specs/Transfers, Calls).
 #![tactic(auto)]
 
-ghost use Rattle.std.specs.Prelude.{◌≢◌, List, ◌≡◌, ℕ, ◌≤◌, length};
+ghost use Rattle.std.specs.Prelude.{List, ◌≡◌, ℕ, ◌≤◌, length, OnErr};
 ghost use Rattle.model.specs.Bytes.{stored};
-ghost use Rattle.model.specs.Records.{state};
+ghost use Rattle.model.specs.Records.{state, sram_of};
 ghost use Rattle.model.specs.Homes.{memory_part, put_memory};
 ghost use Rattle.model.specs.Refusals.{lent_due};
-ghost use Rattle.model.specs.Transfers.{sent_home};
-ghost use Rattle.model.specs.Calls.{reply, handed_back, transfer_due_in, transfer_in_step, transfer_out_step};
+ghost use Rattle.model.specs.Transfers.{sent_home, transfer_due};
+ghost use Rattle.model.specs.Calls.{reply, handed_back, transfer_in_step, transfer_out_step};
 ghost use Rattle.model.specs.declared.Record.{Record};
-ghost use Rattle.tags.specs.Words.{record_words, state_in};
+ghost use Rattle.kinds.specs.Numbers.{number_due};
+ghost use Rattle.tags.specs.Words.{record_words, record_in, state_in};
 
-use geometry::L2;
+use kinds::{L1dOperation, Refusal};
 
-// The number due for a transfer of n bytes, 0 where none is; the memories, whatever they are, do not matter.
-fn due_for(tags: &[u32], address: u32, n: usize) -> u8
+// What is due for a transfer of n bytes.
+fn due_for(tags: &[u32], address: u32, n: usize) -> Result<(), Refusal>
     requires { length tags.now ≡ record_words }
-    ensures { (d m e : List ℕ) → result ≡ transfer_due_in (state_in tags.now d m e) n address }
+    ensures { number_due result
+        ≡ transfer_due (sram_of (record_in tags.now)) (record_in tags.now).extlen n address }
 {
-    let sram = L2::sram(tags::l2len_of(tags), tags::mode_of(tags));
-    refusals::transfer_due(sram as u32, tags::extlen_of(tags), n, address)
+    let sram = tags::split_of(tags).sram as u32;
+    refusals::transfer_due(sram, tags::extlen_of(tags), n, address)
 }
 
 // The L1D lines of SRAM that n bytes touch go home if dirty and become invalid: the command of code 7 over the words
 // that these bytes are.
+#[tactic(auto, using(crate::specs::Moved::home_by_lines))]
 fn send_home(tags: &mut [u32], address: u32, n: usize, l1d: &[u8], l2: &mut [u8], ext: &mut [u8])
     requires { (length tags.old ≡ record_words) × (n ≤ 262140) }
     ensures { state_in tags.new l1d.now l2.new ext.new
@@ -34,14 +37,15 @@ fn send_home(tags: &mut [u32], address: u32, n: usize, l1d: &[u8], l2: &mut [u8]
     if geometry::is_external(address) {
         return;
     }
-    let mode = tags::mode_of(tags);
-    let sets = L2::sets(mode);
-    let sram = L2::sram(tags::l2len_of(tags), mode);
-    l1d_commands::l1d_block(tags, sram, sets, 7, address, (n / 4) as u32, l1d, l2, ext);
+    let split = tags::split_of(tags);
+    let words = (n / 4) as u32;
+    let what = L1dOperation::WritebackInvalidate;
+    l1d_commands::l1d_block(tags, split, what, address, words, l1d, l2, ext);
 }
 
 // The bytes of a buffer go to an address, and those at an address into a buffer: SRAM and external memory themselves,
 // whatever the record is.
+#[tactic(auto, using(crate::specs::Moved::put_whole))]
 fn put(address: u32, buffer: &[u8], l2: &mut [u8], ext: &mut [u8])
     ensures { (r : Record) (d : List ℕ) → state r d l2.new ext.new
         ≡ put_memory address buffer.now (state r d l2.old ext.old) }
@@ -54,6 +58,7 @@ fn put(address: u32, buffer: &[u8], l2: &mut [u8], ext: &mut [u8])
     memory::move_part(ext, geometry::external_place(address), buffer, 0, n);
 }
 
+#[tactic(auto, unfolding(model::specs::Homes::memory_part))]
 fn take(address: u32, buffer: &mut [u8], l2: &[u8], ext: &[u8])
     ensures { (r : Record) (d : List ℕ) → buffer.new
         ≡ stored buffer.old 0 (memory_part address (length buffer.old) (state r d l2.now ext.now)) }
@@ -67,6 +72,7 @@ fn take(address: u32, buffer: &mut [u8], l2: &[u8], ext: &[u8])
 }
 
 // A transfer in, and one out: refused by its number with nothing changed, or carried out.
+#[tactic(auto, using(crate::specs::Moved::in_refused, crate::specs::Moved::in_done, crate::specs::Moved::short))]
 pub fn transfer_in(
     tags: &mut [u32],
     address: u32,
@@ -74,21 +80,19 @@ pub fn transfer_in(
     l1d: &[u8],
     l2: &mut [u8],
     ext: &mut [u8],
-) -> u8
+) -> Result<(), Refusal>
     requires { length tags.old ≡ record_words }
-    ensures ext_after { reply result 0 0 (state_in tags.new l1d.now l2.new ext.new)
+    ensures ext_after { reply (number_due result) 0 0 (state_in tags.new l1d.now l2.new ext.new)
         ≡ transfer_in_step address buffer.now (state_in tags.old l1d.now l2.old ext.old) }
-    ensures refused { result ≢ 0 → tags.new ≡ tags.old }
+    ensures refused { OnErr result (tags.new ≡ tags.old) }
 {
-    let due = due_for(tags, address, buffer.len());
-    if due != 0 {
-        return due;
-    }
+    due_for(tags, address, buffer.len())?;
     send_home(tags, address, buffer.len(), l1d, l2, ext);
     put(address, buffer, l2, ext);
-    0
+    Ok(())
 }
 
+#[tactic(auto, using(crate::specs::Moved::out_refused, crate::specs::Moved::out_done, crate::specs::Moved::short))]
 pub fn transfer_out(
     tags: &mut [u32],
     address: u32,
@@ -96,19 +100,16 @@ pub fn transfer_out(
     l1d: &[u8],
     l2: &mut [u8],
     ext: &mut [u8],
-) -> u8
+) -> Result<(), Refusal>
     requires tags_len { length tags.old ≡ record_words }
     requires ext_value { lent_due (state_in tags.old l1d.now l2.old ext.old) ≡ 0 }
-    ensures ext_after { handed_back result buffer.new (state_in tags.new l1d.now l2.new ext.new)
+    ensures ext_after { handed_back (number_due result) buffer.new (state_in tags.new l1d.now l2.new ext.new)
         ≡ transfer_out_step address buffer.old (state_in tags.old l1d.now l2.old ext.old) }
-    ensures refused { result ≢ 0 → tags.new ≡ tags.old }
+    ensures refused { OnErr result (tags.new ≡ tags.old) }
 {
     let n = buffer.len();
-    let due = due_for(tags, address, n);
-    if due != 0 {
-        return due;
-    }
+    due_for(tags, address, n)?;
     send_home(tags, address, n, l1d, l2, ext);
     take(address, buffer, l2, ext);
-    0
+    Ok(())
 }

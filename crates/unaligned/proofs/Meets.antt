@@ -1,27 +1,30 @@
 -- The commands of single bytes, one after another, are the non-aligned accesses of 02, U6 on a state that passed checks
 -- 1 and 2: each is accepted where the bytes below it left off (crate agreement), and gives one byte.
-use Rattle.std.specs.Prelude.{ℕ, zero, suc, ◌+◌, ◌*◌, ◌/◌, ◌%◌, ◌≤◌, ◌<◌, true, ◌≡◌, ◌≢◌, length, get_or, ltb, eqb}
+use Rattle.std.specs.Prelude.{ℕ, zero, suc, ◌+◌, ◌*◌, ◌/◌, ◌%◌, ◌≤◌, ◌<◌, true, ◌≡◌, length, get_or, ltb, eqb}
 use Rattle.std.proofs.Math.Path.{refl, sym, ap}
 use Rattle.std.proofs.Common.{◌∙◌, arith, length-append}
 use mathlib.Core.List.{List, [], ◌∷◌, ◌++◌}
-use borrow.Author.Tests.{ltb-true, ltb-false, eqb-true, eqb-false, eq-eqb, ne_eqb}
+use borrow.Author.Tests.{ltb-true, ltb-false, eqb-false}
 use Rattle.model.specs.Basics.{each}
 use Rattle.model.specs.Bytes.{little, little_bytes}
 use Rattle.model.specs.Memories.{external_base}
 use Rattle.model.specs.Records.{State, state, sram_of}
 use Rattle.model.specs.Access.{read_access, write_access}
 use Rattle.model.specs.Reports.{Report, read_report, write_report}
-use Rattle.model.specs.Refusals.{lent_due, size_ok, lowest_due, unless, value_ok}
-use Rattle.model.specs.Unaligned.{unaligned_size, bytes_placed, unaligned_due, read_up, write_up, read_up_report, write_up_report, added, higher}
+use Rattle.model.specs.Refusals.{lent_due, size_ok}
+use Rattle.model.specs.Unaligned.{unaligned_size, unaligned_due, read_up, write_up, read_up_report, write_up_report, added, higher}
 use Rattle.model.specs.Trace.{command}
 use Rattle.model.specs.Calls.{Reply, replied, refused, command_due, read_done, write_done, accepted, step, call, unaligned_due_in, read_unaligned_done, write_unaligned_done, read_unaligned_step, write_unaligned_step}
 use Rattle.model.specs.Bytewise.{byte_read, byte_write, calls_to}
-use Rattle.model.specs.Laws.{bool, cond-elim, lowest_due-none}
+use Rattle.model.specs.Laws.{bool, cond-elim}
 use Rattle.model.specs.declared.Command.{Command}
 use Rattle.agreement.proofs.Good.{Well, Anything, layout_of}
 use Rattle.agreement.proofs.Tested.{due-well}
 use Rattle.agreement.proofs.Unaligned.{all_fit, read_up_lem, due-fits, written_byte, read-up-bytes, write-up-bytes}
-use Rattle.tags.specs.Words.{record_in, shaped}
+use Rattle.tags.specs.Words.{record_in, state_in, shaped}
+use Rattle.std.proofs.lemmas.Bool.Decides.{nat_tests}
+use Rattle.kinds.specs.Numbers.{refusal_number, refusal_some}
+use Rattle.kinds.specs.declared.Refusal.{Refusal}
 use Rattle.unaligned.specs.Upwards.{rest_at, byte_of, Sofar, sofar, and_then, up_to, up_done}
 
 -- ---- a record in words that passes checks 1 and 2
@@ -30,18 +33,16 @@ lent-well ws d m e h = due-well (state (record_in ws) d m e) (shaped ws) h
 
 -- ---- the bytes of a value
 rest_of : (v k : ℕ) → rest_at (v / 256) k ≡ rest_at v (suc k)
-unfolding rest_at
 rest_of v zero = refl
 rest_of v (suc k) = ap (λ (r : ℕ). r / 256) (rest_of v k)
 
 rest-byte : (v n k : ℕ) → k < n → rest_at v k % 256 ≡ get_or (little_bytes v n) k 0
-unfolding little_bytes rest_at
+unfolding little_bytes
 rest-byte v zero k h = absurd (omega arith)
 rest-byte v (suc n) zero h = refl
 rest-byte v (suc n) (suc k) h = sym (ap (λ (r : ℕ). r % 256) (rest_of v k)) ∙ rest-byte (v / 256) n k (omega arith)
 
 rest-none : (k : ℕ) → rest_at 0 k ≡ 0
-unfolding rest_at
 rest-none zero = refl
 rest-none (suc k) = let e = rest-none k in rw e refl
 
@@ -245,55 +246,47 @@ module _ (z : State) (q : Well z) (n a v : ℕ) (d : unaligned_due_in z n a v �
       ap (λ (w : Sofar). replied 0 w.server (little w.bytes) w.report w.next) (writes n (omega arith)).0
       ∙ ap (λ (x : ℕ). replied 0 (write_up n a bs z).server x (write_up_report n a bs z) (write_up n a bs z).next) (zeros-none n)
 
--- ---- the number due, as the code asks for it, on a state that passed checks 1 and 2
-pub sram-low : (z : State) → Well z → (s : ℕ) → s ≡ sram_of z.rec → s + 8 ≤ external_base
-sram-low z q s e = let m = q.tidy.sizes.l2_most in omega arith
-
-sized : (s e n a v : ℕ) → unaligned_due s e n a v ≡ 0 → size_ok n ≡ true
+-- ---- the number due
+pub sized : (s e n a v : ℕ) → unaligned_due s e n a v ≡ 0 → size_ok n ≡ true
 unfolding unaligned_due unaligned_size size_ok
-sized s e n a v d =
-    let p = (lowest_due-none (unaligned_size n) 2 (lowest_due (unless (bytes_placed s e n a) 5) (unless (value_ok n v) 6)) d).0 in
-    bool (eqb n 4) (λ t. let i = eqb-true n 4 t in rw i refl) (λ t. let i = eqb-true n 8 (rw t at p) in rw i refl)
+sized s e n a v d = grind (arith, nat_tests)
 
-module _ (z : State) (q : Well z) (n a v s e due : ℕ) (es : s ≡ sram_of z.rec) (ee : e ≡ z.rec.extlen) (ed : due ≡ unaligned_due s e n a v) where
-  due_in : due ≡ unaligned_due_in z n a v
-  due_in = rw (← es, ← ee) ed
+-- an access that is refused
+module _ (z : State) (n a v : ℕ) (x : Refusal) (d : refusal_number x ≡ unaligned_due_in z n a v) where
+  pub read_refused : v ≡ 0 → refused (refusal_number x) z ≡ read_unaligned_step n a z
+  unfolding read_unaligned_step
+  read_refused ev = grind (arith, nat_tests, refusal_some)
 
-  pub goes_on : due ≡ 0 → (size_ok n ≡ true) × (a + n ≤ 4294967296)
-  goes_on h =
-      let d : unaligned_due s e n a v ≡ 0 = sym ed ∙ h in
-      let low = sram-low z q s es in
-      let c = due-fits s e n a v (layout_of z.rec) (sym es) (sym ee) low d in
-      let most = q.tidy.sizes.ext_most in (
-        sized s e n a v d,
+  pub write_refused : refused (refusal_number x) z ≡ write_unaligned_step n a v z
+  unfolding write_unaligned_step
+  write_refused = grind (arith, nat_tests, refusal_some)
+
+-- ---- on words that passed checks 1 and 2
+module _ (ws ds ms es : List ℕ) (h : lent_due (state_in ws ds ms es) ≡ 0) where
+  abbrev z : State
+  z = state_in ws ds ms es
+
+  pub sram_low : sram_of (record_in ws) + 8 ≤ external_base
+  sram_low = let m = (lent-well ws ds ms es h).tidy.sizes.l2_most in omega arith
+
+  -- an access that goes on
+  module _ (n a v : ℕ) (d : unaligned_due_in z n a v ≡ 0) where
+    pub ends : a + n ≤ 4294967296
+    ends =
+        let r = record_in ws in let low = sram_low in let most = (lent-well ws ds ms es h).tidy.sizes.ext_most in
+        let c = due-fits (sram_of r) r.extlen n a v (layout_of r) refl refl low d in
         bool (ltb a external_base)
-            (λ t. let x = c.low (ltb-true a external_base t) in omega arith)
-            (λ t. let x = c.high (ltb-false a external_base t) in omega arith),
-      )
+        (λ t. let x = c.low (ltb-true a external_base t) in omega arith)
+        (λ t. let x = c.high (ltb-false a external_base t) in omega arith)
 
-  pub read-refused : due ≢ 0 → v ≡ 0 → refused due z ≡ read_unaligned_step n a z
-  unfolding read_unaligned_step
-  read-refused h ev =
-      let i : due ≡ unaligned_due_in z n a 0 = due_in ∙ ap (λ (w : ℕ). unaligned_due_in z n a w) ev in
-      rw (i, ne_eqb (unaligned_due_in z n a 0) 0 (λ x. h (i ∙ x))) refl
+    pub read_done_up : (code : ℕ) → code ≡ 0 → v ≡ 0 → up_done (byte_of code a v) n z ≡ read_unaligned_step n a z
+    unfolding read_unaligned_step
+    read_done_up code ec ev =
+        let i = rw ev at d in rw (ec, ev, i) (read_done_lem z (lent-well ws ds ms es h) n a i)
 
-  pub write-refused : due ≢ 0 → refused due z ≡ write_unaligned_step n a v z
-  unfolding write_unaligned_step
-  write-refused h = let i = due_in in rw (i, ne_eqb (unaligned_due_in z n a v) 0 (λ x. h (i ∙ x))) refl
+    pub write_done_up : (code : ℕ) → code ≡ 1 → up_done (byte_of code a v) n z ≡ write_unaligned_step n a v z
+    unfolding write_unaligned_step
+    write_done_up code ec = rw (ec, d) (write_done_lem z (lent-well ws ds ms es h) n a v d)
 
-  pub read-up-done : due ≡ 0 → (code : ℕ) → code ≡ 0 → v ≡ 0 → up_done (byte_of code a v) n z ≡ read_unaligned_step n a z
-  unfolding read_unaligned_step
-  read-up-done h code ec ev =
-      let i : unaligned_due_in z n a 0 ≡ 0 = sym (due_in ∙ ap (λ (w : ℕ). unaligned_due_in z n a w) ev) ∙ h in
-      rw (ec, ev, eq-eqb (unaligned_due_in z n a 0) 0 i) (read_done_lem z q n a i)
-
-  pub write-up-done : due ≡ 0 → (code : ℕ) → code ≡ 1 → up_done (byte_of code a v) n z ≡ write_unaligned_step n a v z
-  unfolding write_unaligned_step
-  write-up-done h code ec =
-      let i : unaligned_due_in z n a v ≡ 0 = sym due_in ∙ h in
-      rw (ec, eq-eqb (unaligned_due_in z n a v) 0 i) (write_done_lem z q n a v i)
-
--- an access that is carried out is not refused
-pub up-number : (f : ℕ → Command) (n : ℕ) (z : State) → (up_done f n z).number ≡ 0
-unfolding up_done
-up-number f n z = refl
+-- what closes the goals of the access as a whole
+pub ruleset whole_access = (sized, read_refused, write_refused, sram_low, ends, read_done_up, write_done_up)

@@ -12,13 +12,17 @@ use Rattle.model.specs.Access.{Access, access, cacheable, use_hit, read_hit, hom
 use Rattle.model.specs.Trace.{command}
 use Rattle.model.specs.Calls.{Reply, refused, carried_out, command_due, command_state, read_done, write_done, accepted, step}
 use Rattle.model.specs.Laws.{bool, cond-elim}
-use Rattle.access.specs.Serving.{answer_of}
+use Rattle.std.proofs.Common.{None, Result, Ok, Err, Fits, w8}
+use Rattle.std.specs.Result.{result_unwrap_or}
+use Rattle.kinds.specs.declared.Refusal.{Refusal}
+use Rattle.access.specs.Answered.{plain_answer, accepted_of, answer_of}
+use Rattle.unaligned.specs.Upwards.{told_of}
 use Rattle.access.specs.declared.Answer.{Answer}
 use Rattle.agreement.proofs.Reports.{at-most-128}
 use Rattle.memory.specs.Values.{load_one, load-none}
 
 abbrev pub Bytes : List ℕ → Type 0
-Bytes m = (i : ℕ) → get_or m i 0 < 256
+Bytes m = (i : ℕ) → Fits w8 (get_or m i 0)
 
 pub record Lent (z : State) : Type 0 where
   pub l1d : Bytes z.l1d
@@ -81,15 +85,23 @@ step-byte code a v z =
     (λ _. cond-elim P (eqb code 1) (write_done 1 a v z) (carried_out (command_state c z)) (λ _ _. omega arith) (λ _ _. omega arith)))
     (λ _ _. omega arith)
 
--- what an answer of such a command is bounded by: its value, and what it reports (02, U2)
-pub answer-small : (code a v : ℕ) (z z' : State) (x : Answer) → answer_of x z' ≡ step (command code 1 a v) z →
-    Bytes z'.l1d → Bytes z'.l2 → Bytes z'.ext → (x.value < 256) × ((x.read ≤ 128) × (x.written ≤ 128))
-answer-small code a v z z' x e d m t =
-    let c = command code 1 a v in
-    let n : z' ≡ (step c z).next = ap (λ (r : Reply). r.next) e in
+-- ---- the answer of such a command, nothing where it is refused: what is told with it, and what that is bounded by,
+-- its value and what it reports (02, U2)
+abbrev pub answer_or_none : Result Answer Refusal → Answer
+answer_or_none r = result_unwrap_or r (plain_answer None 0)
+
+pub told_alone : (r : Result Answer Refusal) (z : State) (x : Reply) → answer_of r z ≡ x → accepted_of (answer_or_none r) z ≡ told_of x
+told_alone (Ok y) z x e = rw (← e) refl
+told_alone (Err d) z x e = rw (← e) refl
+
+pub small : (code a v : ℕ) (z z' : State) (r : Result Answer Refusal) → answer_of r z' ≡ step (command code 1 a v) z →
+    Bytes z'.l1d → Bytes z'.l2 → Bytes z'.ext →
+    ((answer_or_none r).value < 256) × (((answer_or_none r).read ≤ 128) × ((answer_or_none r).written ≤ 128))
+small code a v z z' r e d m t =
+    let c = command code 1 a v in let f = told_alone r z' (step c z) e in let b = at-most-128 c z in
+    let n : z' ≡ (step c z).next = ap (λ (y : Reply). y.next) f in
     let h = step-byte code a v z (subst Lent n (record { l1d = d; l2 = m; ext = t })) in
-    let b = at-most-128 c z in let b₀ = b.0 in let b₁ = b.1 in
-    let e₁ : x.value ≡ (step c z).value = ap (λ (r : Reply). r.value) e in
-    let e₂ : x.read ≡ (step c z).report.read = ap (λ (r : Reply). r.report.read) e in
-    let e₃ : x.written ≡ (step c z).report.written = ap (λ (r : Reply). r.report.written) e in
-    (rw e₁ h, (rw e₂ b₀, rw e₃ b₁))
+    let e₁ : (answer_or_none r).value ≡ (step c z).value = ap (λ (y : Reply). y.value) f in
+    let e₂ : (answer_or_none r).read ≡ (step c z).report.read = ap (λ (y : Reply). y.report.read) f in
+    let e₃ : (answer_or_none r).written ≡ (step c z).report.written = ap (λ (y : Reply). y.report.written) f in
+    (rw e₁ h, (rw e₂ b.0, rw e₃ b.1))

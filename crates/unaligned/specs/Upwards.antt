@@ -2,7 +2,7 @@
 -- added up, the state. And the loop's laws: where it begins, one turn, its end.
 use Rattle.std.specs.Prelude.{ℕ, zero, suc, ◌+◌, ◌/◌, ◌%◌, ◌≤◌, ◌<◌, ◌≡◌, List, [], ◌∷◌, ◌++◌, length, take, set}
 use Rattle.std.proofs.Math.Path.{refl}
-use Rattle.std.proofs.Common.{arith, add-one}
+use Rattle.std.proofs.Common.{ap, arith, add-one}
 use Rattle.std.proofs.Math.Seq.{take-suc-set}
 use Rattle.model.specs.Bytes.{part, little}
 use Rattle.model.specs.Records.{State}
@@ -13,11 +13,16 @@ use Rattle.model.specs.Calls.{Reply, replied, step}
 use Rattle.model.specs.Laws.{part-inside}
 use Rattle.model.specs.declared.Command.{Command}
 use Rattle.model.specs.declared.Left.TheVariants.{NoWay}
-use Rattle.access.specs.Serving.{answer_of}
+use Rattle.access.specs.Answered.{accepted_of}
+use Rattle.kinds.specs.Numbers.{server_told}
 use Rattle.access.specs.declared.Answer.{Answer}
 
+-- ---- what a reply says but for its number
+abbrev pub told_of : Reply → Reply
+told_of r = record r { number = 0 }
+
 -- ---- the value once its first k bytes are taken off, and the command of byte k
-unfoldable pub rest_at : ℕ → ℕ → ℕ
+abbrev pub rest_at : ℕ → ℕ → ℕ
 rest_at v zero = v
 rest_at v (suc k) = rest_at v k / 256
 
@@ -48,26 +53,17 @@ up_done f n z = replied 0 (up_to f n z).server (little (up_to f n z).bytes) (up_
 abbrev pub counts : ℕ → ℕ → Report
 counts i j = record { l1d_left = NoWay; l2_left = NoWay; read = i; written = j }
 
-pub begun : (f : ℕ → Command) (bs : List ℕ) (z : State) → sofar 0 (take 0 bs) (counts 0 0) z ≡ up_to f 0 z
-unfolding up_to
-begun f bs z = refl
-
 module _ (f : ℕ → Command) (z₀ z z' : State) (k server i j : ℕ) (bs : List ℕ) where
-  pub turned : sofar server (take k bs) (counts i j) z ≡ up_to f k z₀ → k < length bs → (x : Answer) → answer_of x z' ≡ step (f k) z →
-      (s : ℕ) → s ≡ higher server x.server →
-      sofar s (take (k + 1) (set bs k x.value)) (counts (i + x.read) (j + x.written)) z' ≡ up_to f (k + 1) z₀
+  pub turned : sofar server (take k bs) (counts i j) z ≡ up_to f k z₀ → k < length bs → (x : Answer) → accepted_of x z' ≡ told_of (step (f k) z) →
+      sofar (higher server (server_told x.server)) (take (k + 1) (set bs k x.value)) (counts (i + x.read) (j + x.written)) z' ≡ up_to f (k + 1) z₀
   unfolding up_to
-  turned e h x ex s es = rw (add-one, es, take-suc-set bs k x.value h, ← e, ← ex) refl
+  turned e h x ex =
+      rw (add-one, take-suc-set bs k x.value h, ← e) (ap (λ (r : Reply). and_then (sofar server (take k bs) (counts i j) z) r) ex)
 
-pub begun-rest : (v : ℕ) → v ≡ rest_at v 0
-unfolding rest_at
-begun-rest v = refl
+pub rest_next : (v k : ℕ) → rest_at v k / 256 ≡ rest_at v (k + 1)
+rest_next v k = rw add-one refl
 
-pub rest-next : (v k r : ℕ) → r ≡ rest_at v k → r / 256 ≡ rest_at v (k + 1)
-unfolding rest_at
-rest-next v k r e = rw (add-one, e) refl
-
-pub ended : (f : ℕ → Command) (z₀ z : State) (n server i j v : ℕ) (bs : List ℕ) → sofar server (take n bs) (counts i j) z ≡ up_to f n z₀ →
-    n ≤ length bs → v ≡ little (part bs 0 n) → replied 0 server v (counts i j) z ≡ up_done f n z₀
+pub ended : (f : ℕ → Command) (z₀ z : State) (n server i j : ℕ) (bs : List ℕ) → sofar server (take n bs) (counts i j) z ≡ up_to f n z₀ →
+    n ≤ length bs → replied 0 server (little (part bs 0 n)) (counts i j) z ≡ up_done f n z₀
 unfolding up_done
-ended f z₀ z n server i j v bs e h ev = rw (ev, part-inside bs 0 n (omega arith), ← e) refl
+ended f z₀ z n server i j bs e h = rw (part-inside bs 0 n (omega arith), ← e) refl

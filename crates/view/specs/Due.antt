@@ -1,75 +1,39 @@
--- The number due for a view, as the code comes to it: the tests passed so far, and what the next one says. `Legal`
--- names what was found of the lent lengths.
-use Rattle.std.specs.Prelude.{ℕ, zero, suc, ◌%◌, Bool, true, false, ◌&&◌, List, [], ◌≡◌, ◌≢◌, length, eqb}
-use Rattle.std.proofs.Math.Path.{refl}
-use Rattle.std.proofs.Common.{sym, ◌∙◌, eq-eqb, ne_eqb}
+-- The number due for a view, as the code comes to it: the tests in their order.
+use Rattle.std.specs.Prelude.{ℕ, zero, suc, ◌<◌, ◌&&◌, List, ◌≡◌, length, eqb}
+use Rattle.std.proofs.Common.{Result, Err, arith, refl}
+use Rattle.std.specs.Result.{IsErrAnd}
+use Rattle.std.proofs.lemmas.Result.{err_from_is_err_and}
+use Rattle.kinds.specs.Numbers.{refusal_some}
+use Rattle.kinds.specs.declared.Refusal.{Refusal}
 use Rattle.model.specs.Memories.{legal_l2, legal_external}
-use Rattle.model.specs.Records.{state, sram_of, well_formed}
-use Rattle.model.specs.Refusals.{lowest_due, unless, multiple_of, lent_l2, lent_external, view_lent_due, view_due, place_ok}
-use Rattle.model.specs.declared.Line.{Line}
+use Rattle.model.specs.Records.{sram_of, well_formed}
+use Rattle.model.specs.Refusals.{lowest_due, unless, multiple_of, place_ok, lent_l2, lent_external, view_lent_due, view_due}
 use Rattle.model.specs.declared.Record.{Record}
-use Rattle.program.specs.L1p.{l1p_ok}
-use Rattle.program.specs.Fetches.{Chip, chip}
-use Rattle.program.specs.Chip.{chip_view_due}
-
--- ---- the lent lengths: a and b are what the tests of L2's and of external memory's say, l and x the lengths that
--- the record has
-pub record Legal (r : Record) (m e : List ℕ) (a b : Bool) (l x : ℕ) : Type 0 where
-  pub l2 : a ≡ legal_l2 (length m)
-  pub ext : b ≡ legal_external (length e)
-  pub sized : l ≡ r.l2len
-  pub ext_sized : x ≡ r.extlen
-
-module _ {r : Record} {m e : List ℕ} {a b : Bool} {l x : ℕ} (k : Legal r m e a b l x) where
-  abbrev both_lent : Bool
-  both_lent = (a && eqb (length m) l) && (b && eqb (length e) x)
-
-  both-lent : both_lent ≡ (lent_l2 r m && lent_external r e)
-  unfolding lent_l2 lent_external
-  both-lent = rw (k.l2, k.ext, k.sized, k.ext_sized) refl
-
-  pub lent_one : both_lent ≡ false → 1 ≡ view_lent_due r m e
-  unfolding view_lent_due
-  lent_one f = rw (sym both-lent ∙ f) refl
-
-  -- w: what the test of the record says
-  pub lent_two : both_lent ≡ true → (w : Bool) → w ≡ well_formed r → view_lent_due r m e ≡ unless w 2
-  unfolding view_lent_due
-  lent_two f w ew = rw (sym both-lent ∙ f, ew) refl
+use Rattle.l1p_tags.specs.Lines.{lent_length, lent-record}
 
 -- ---- the address
-unfoldable pub place_due : Record → ℕ → ℕ
+abbrev pub place_due : Record → ℕ → ℕ
 place_due r v = lowest_due (unless (multiple_of 64 v) 4) (unless (place_ok (sram_of r) r.extlen 64 v) 5)
 
-pub place-four : (r : Record) (v : ℕ) → v % 64 ≢ 0 → 4 ≡ place_due r v
-unfolding place_due
-place-four r v n = rw (ne_eqb (v % 64) 0 n) refl
+-- ---- the data side's number: of the memories and the record, then of the address
+pub lent_in_turn : (r : Record) (m e : List ℕ) → view_lent_due r m e ≡
+    lowest_due (unless ((legal_l2 (length m) && eqb (length m) r.l2len) && (legal_external (length e) && eqb (length e) r.extlen)) 1)
+    (unless (well_formed r) 2)
+unfolding view_lent_due lent_l2 lent_external
+lent_in_turn r m e = refl
 
--- p: what the test of the place says, by S and E as they were found
-pub place-five : (r : Record) (v : ℕ) → v % 64 ≡ 0 → (s n : ℕ) → s ≡ sram_of r → n ≡ r.extlen → (p : Bool) → p ≡ place_ok s n 64 v → place_due r v ≡ unless p 5
-unfolding place_due
-place-five r v z s n es en p ep = rw (eq-eqb (v % 64) 0 z, ep, es, en) refl
+pub view-in_turn : (r : Record) (m e : List ℕ) (v : ℕ) → view_due r m e v ≡ lowest_due (view_lent_due r m e) (place_due r v)
+unfolding view_due
+view-in_turn r m e v = refl
 
--- ---- in turn: the memories and the record, L1P's lines, the address; n is the first number
-module _ (r : Record) (ls : List Line) (m e : List ℕ) (v n : ℕ) (en : n ≡ view_lent_due r m e) where
-  abbrev x : Chip
-  x = chip (state r [] m e) ls []
+-- ---- a number that is due comes in front of those behind it
+pub due-first : (n k : ℕ) → 0 < n → lowest_due n k ≡ n
+due-first zero k h = absurd (omega arith)
+due-first (suc n) k h = refl
 
-  in-turn : chip_view_due v x ≡ lowest_due n (lowest_due (unless (l1p_ok r ls) 2) (lowest_due n (place_due r v)))
-  unfolding chip_view_due view_due place_due
-  in-turn = rw en refl
+-- ---- what `?` returns where it ends the call: the refusal that it met
+pub exit-refusal : {A : Type 0} (r : Result A Refusal) (e : Refusal) → IsErrAnd r (λ y. y ≡ e) → r ≡ Err e
+exit-refusal r e h = let p = err_from_is_err_and r h in rw (p.1, p.2) refl
 
-  pub due-lent : n ≢ 0 → n ≡ chip_view_due v x
-  due-lent k = sym (in-turn ∙ first n k)
-    where
-      first : (o : ℕ) → o ≢ 0 → lowest_due o (lowest_due (unless (l1p_ok r ls) 2) (lowest_due o (place_due r v))) ≡ o
-      first zero k = absurd (k refl)
-      first (suc o) k = refl
-
-  -- b: what the test of L1P's lines says
-  module _ (z : n ≡ 0) (b : Bool) (eb : b ≡ l1p_ok r ls) where
-    pub due-lines : b ≡ false → 2 ≡ chip_view_due v x
-    due-lines f = sym (in-turn ∙ rw (z, sym eb ∙ f) refl)
-
-    pub due-place : b ≡ true → place_due r v ≡ chip_view_due v x
-    due-place t = sym (in-turn ∙ rw (z, sym eb ∙ t) refl)
+-- for `view_due`, which lends the words in front to the checks of the data side's record
+pub ruleset in_turn = (lent_length, lent-record, view-in_turn, due-first, refusal_some, exit-refusal)

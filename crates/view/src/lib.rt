@@ -9,75 +9,72 @@ ghost use Rattle.model.specs.Refusals.{view_lent_due};
 ghost use Rattle.program.specs.Chip.{chip_view_due, chip_view};
 ghost use Rattle.tags.specs.Words.{record_words, record_in};
 ghost use Rattle.l1p_tags.specs.Lines.{chip_words, chip_in};
+ghost use Rattle.kinds.specs.Numbers.{number_due};
 ghost use Rattle.view.specs.Due.{place_due};
 ghost use Rattle.view.specs.Into.{seen_as, view_into};
 
 use geometry::L1d;
+use kinds::Refusal;
 
 const LINE: u32 = L1d::LINE as u32;
 
-fn wide(n: u32) -> usize
-    ensures { result ≡ n }
-{
-    n as usize
-}
-
-// ---- the number due, by the data side's words: 1 and 2 for the memories and the record, 4 and 5 for the address
-fn lent_due(tags: &[u32], l2: &[u8], ext: &[u8]) -> u8
+// ---- what is due, by the data side's words: 1 and 2 for the memories and the record, 4 and 5 for the address
+#[tactic(auto, using(crate::specs::Due::lent_in_turn))]
+fn lent_due(tags: &[u32], l2: &[u8], ext: &[u8]) -> Result<(), Refusal>
     requires { length tags.now ≡ record_words }
-    ensures { result ≡ view_lent_due (record_in tags.now) l2.now ext.now }
+    ensures { number_due result ≡ view_lent_due (record_in tags.now) l2.now ext.now }
 {
     let m = l2.len();
     let e = ext.len();
-    let l2_lent = geometry::legal_l2(m) & (m == wide(tags::l2len_of(tags)));
-    let ext_lent = geometry::legal_external(e) & (e == wide(tags::extlen_of(tags)));
-    if l2_lent & ext_lent {} else {
-        return 1;
+    let l2_lent = geometry::legal_l2(m) & (m == tags::l2len_of(tags) as usize);
+    let ext_lent = geometry::legal_external(e) & (e == tags::extlen_of(tags) as usize);
+    if !(l2_lent & ext_lent) {
+        return Err(Refusal::LentLength);
     }
-    if record_check::well_formed(tags) {
-        return 0;
+    if !record_check::well_formed(tags) {
+        return Err(Refusal::Record);
     }
-    2
+    Ok(())
 }
 
-fn place_due(tags: &[u32], address: u32) -> u8
+#[tactic(auto, using(std::proofs::lemmas::Bool::Decides::nat_tests))]
+fn place_due(tags: &[u32], address: u32) -> Result<(), Refusal>
     requires { length tags.now ≡ record_words }
-    ensures { result ≡ place_due (record_in tags.now) address }
+    ensures { number_due result ≡ place_due (record_in tags.now) address }
 {
     if address % LINE != 0 {
-        return 4;
+        return Err(Refusal::Alignment);
     }
-    let sram = geometry::sram_length(tags::l2len_of(tags), tags::mode_of(tags) as u32);
-    if refusals::place_ok(sram, tags::extlen_of(tags), LINE, address) {
-        return 0;
+    let sram = tags::split_of(tags).sram as u32;
+    if !refusals::place_ok(sram, tags::extlen_of(tags), LINE, address) {
+        return Err(Refusal::Place);
     }
-    5
+    Ok(())
 }
 
-// The number due for the view of the line at an address: 1, 2, 4, 5, or 0 for none.
-pub fn view_due(words: &[u32], l2: &[u8], ext: &[u8], address: u32) -> u8
+// What is due for the view of the line at an address: 1, 2, 4, 5, or nothing.
+#[tactic(auto, using(crate::specs::Due::in_turn), unfolding(program::specs::Chip::chip_view_due))]
+pub fn view_due(words: &[u32], l2: &[u8], ext: &[u8], address: u32) -> Result<(), Refusal>
     requires { length words.now ≡ chip_words }
-    ensures { result ≡ chip_view_due address (chip_in words.now [] l2.now ext.now []) }
+    ensures { number_due result ≡ chip_view_due address (chip_in words.now [] l2.now ext.now []) }
 {
     let n = tags::WORDS;
-    let due = lent_due(&words[..n], l2, ext);
-    if due != 0 {
-        return due;
-    }
-    if l1p_check::lines_ok(words) {} else {
-        return 2;
+    lent_due(&words[..n], l2, ext)?;
+    if !l1p_check::lines_ok(words) {
+        return Err(Refusal::Record);
     }
     place_due(&words[..n], address)
 }
 
 // ---- the bytes
 // The 64 bytes of SRAM or external memory themselves, a part of whichever is their home; the empty part on refusal.
+#[tactic(auto, using(crate::specs::Seen::seen))]
 pub fn view<'a>(words: &[u32], l2: &'a [u8], ext: &'a [u8], address: u32) -> &'a [u8]
     requires { length words.now ≡ chip_words }
     ensures { result.now
         ≡ (chip_view address (chip_in words.now [] l2.now ext.now [])).bytes }
 {
-    if view_due(words, l2, ext, address) != 0 {
+    if view_due(words, l2, ext, address).is_err() {
         return &l2[..0];
     }
     if geometry::is_external(address) {
@@ -88,24 +85,27 @@ pub fn view<'a>(words: &[u32], l2: &'a [u8], ext: &'a [u8], address: u32) -> &'a
     &l2[a..a + L1d::LINE]
 }
 
-// The 64 bytes go into the front of a lent buffer; one of fewer bytes is a lent length that is illegal. Returns the
-// number, 0 when accepted.
-pub fn view_into(words: &[u32], address: u32, l2: &[u8], ext: &[u8], seen: &mut [u8]) -> u8
+// The 64 bytes go into the front of a lent buffer; one of fewer bytes is a lent length that is illegal.
+#[tactic(auto, using(crate::specs::Into::seen_into), unfolding(crate::specs::Into::view_into))]
+pub fn view_into(
+    words: &[u32],
+    address: u32,
+    l2: &[u8],
+    ext: &[u8],
+    seen: &mut [u8],
+) -> Result<(), Refusal>
     requires { length words.now ≡ chip_words }
-    ensures { seen_as result seen.new
+    ensures { seen_as (number_due result) seen.new
         ≡ view_into address (chip_in words.now [] l2.now ext.now []) seen.old }
 {
     if seen.len() < L1d::LINE {
-        return 1;
+        return Err(Refusal::LentLength);
     }
-    let due = view_due(words, l2, ext, address);
-    if due != 0 {
-        return due;
-    }
+    view_due(words, l2, ext, address)?;
     if geometry::is_external(address) {
-        memory::move64(seen, 0, ext, geometry::external_place(address));
-        return 0;
+        memory::move_line::<64>(seen, 0, ext, geometry::external_place(address));
+    } else {
+        memory::move_line::<64>(seen, 0, l2, geometry::place_of(address));
     }
-    memory::move64(seen, 0, l2, geometry::place_of(address));
-    0
+    Ok(())
 }

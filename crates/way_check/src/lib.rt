@@ -3,14 +3,14 @@
 // is not well formed, as it does in C's layout by value; the padding of a mark is not looked at.
 #![tactic(auto)]
 
-ghost use Rattle.std.specs.Prelude.{◌||◌, ◌≡◌, ◌*◌, ◌-◌, ◌%◌, ◌≤◌, ◌<◌, eqb, length};
+ghost use Rattle.std.specs.Prelude.{◌&&◌, ◌||◌, ◌≡◌, ◌%◌, ◌≤◌, ◌<◌, eqb, length};
 ghost use Rattle.model.specs.Basics.{any_of};
+ghost use Rattle.model.specs.Memories.{external_base};
 ghost use Rattle.model.specs.Lines.{holds};
-ghost use Rattle.model.specs.Records.{sram_of, l2_sets_of, l2_set_at};
+ghost use Rattle.model.specs.Records.{sram_of, l2_sets_of, l2_set_at, in_cacheable, l1d_line_ok, l2_line_ok};
 ghost use Rattle.tags.specs.Words.{record_words, line_in, record_in};
-ghost use Rattle.way_check.specs.Lent.{low_bits, external_in, empty_in, l1d_way, l2_way};
 
-use geometry::{L1d, L2};
+use geometry::{L1d, L2, Split};
 
 // Sums of an address and a length are made of 64 bits, so that none wraps.
 const EXTERNAL: u64 = geometry::EXTERNAL_BASE as u64;
@@ -33,44 +33,33 @@ pub fn live(f: u32) -> bool
 
 // The mark f without its padding and the address a are those of an empty way.
 pub fn empty(f: u32, a: u32) -> bool
-    ensures { result ≡ empty_in f a }
+    ensures { result ≡ (eqb (f % 65536) 0 && eqb a 0) }
 {
     (f % 65536 == 0) & (a == 0)
 }
 
-// The n bytes at a end inside external memory, and the MAR bit of a is 1; m: the word that has mode and MAR bits.
-pub fn external_ok(a: u32, n: u64, extlen: u32, m: u32) -> bool
-    requires { n ≤ 128 }
-    ensures { result ≡ external_in extlen m n a }
+// The n bytes at a, an external address, end inside external memory, and the MAR bit of a is 1.
+#[tactic(auto, using(crate::specs::Ways::external_is, std::proofs::lemmas::Bool::Decides::nat_tests))]
+pub fn external_ok(tags: &[u32], a: u32, n: u64) -> bool
+    requires { (record_words ≤ length tags.now) × (n ≤ 128) }
+    ensures { external_base ≤ a → result ≡ in_cacheable (record_in tags.now) n a }
 {
-    let inside = a as u64 + n <= EXTERNAL + extlen as u64;
+    let inside = a as u64 + n <= EXTERNAL + tags[1] as u64;
     if a < geometry::MAR_129_FROM {
-        return inside & (m / 256 % 2 == 1);
+        return inside & (tags[2] / 256 % 2 == 1);
     }
-    inside & (m / 65536 % 2 == 1)
+    inside & (tags[2] / 65536 % 2 == 1)
 }
 
+#[tactic(auto, unfolding(model::specs::Lines::holds, tags::specs::Words::line_in))]
 pub fn holds_in(f: u32, a: u32, b: u32) -> bool
     ensures { result ≡ holds (line_in f a) b }
 {
     live(f % 65536) & (a == b)
 }
 
-// The bits of n that the mask has: the number of L2 sets is a power of two, so that a remainder by it needs no
-// division.
-fn low(n: usize, mask: usize) -> usize
-    ensures { result ≡ low_bits n mask }
-{
-    n & mask
-}
-
-pub fn wide(n: u32) -> usize
-    ensures { result ≡ n }
-{
-    n as usize
-}
-
 // A way of L2 set j holds the line at b.
+#[tactic(auto, using(crate::specs::Ways::four_ways))]
 fn covers(tags: &[u32], j: usize, b: u32) -> bool
     requires { (j < 512) × (length tags.now ≡ record_words) }
     ensures { result ≡ any_of (λ y. holds y b) (l2_set_at (record_in tags.now) j).lines }
@@ -82,42 +71,47 @@ fn covers(tags: &[u32], j: usize, b: u32) -> bool
 }
 
 // ---- one way, by its mark f and its address a
-// Of L1D set i; sram and sets: S and the number of L2 sets.
-pub fn l1d_way(tags: &[u32], i: usize, f: u32, a: u32, sram: usize, sets: usize) -> bool
+// Of L1D set i.
+#[tactic(auto, using(crate::specs::Ways::way_laws))]
+pub fn l1d_way(tags: &[u32], i: usize, f: u32, a: u32, split: Split) -> bool
     requires i_bound { (i < 128) × (length tags.now ≡ record_words) }
-    requires sram_value { (sram ≡ sram_of (record_in tags.now)) × (sets ≡ l2_sets_of (record_in tags.now)) }
-    ensures { result ≡ l1d_way (record_in tags.now) i f a }
+    requires sram_value { split.sram ≡ sram_of (record_in tags.now) }
+    requires sets_value { split.sets ≡ l2_sets_of (record_in tags.now) }
+    ensures { result ≡ l1d_line_ok (record_in tags.now) i (line_in f a) }
 {
     let mark = f % 65536;
     if mark == 0 {
         return a == 0;
     }
-    if live(mark) & (a as usize % L1D_SPAN == i * L1d::LINE) {} else {
+    if !(live(mark) & (a as usize % L1D_SPAN == i * L1d::LINE)) {
         return false;
     }
     if a < geometry::EXTERNAL_BASE {
-        return a as usize + L1d::LINE <= sram;
+        return a as usize + L1d::LINE <= split.sram;
     }
-    if external_ok(a, L1D_LINE, tags[1], tags[2]) {} else {
+    if !external_ok(tags, a, L1D_LINE) {
         return false;
     }
-    if sets == 0 {
+    if split.sets == 0 {
         return true;
     }
-    covers(tags, low(wide(a) / L2::LINE, sets - 1), L2::line_of(a))
+    // the number of L2 sets is a power of two, so that a remainder by it needs no division
+    let j = (a as usize / L2::LINE) & (split.sets - 1);
+    covers(tags, j, L2::line_of(a))
 }
 
 // Of L2 set j, which is in use.
-pub fn l2_way(tags: &[u32], j: usize, f: u32, a: u32, sets: usize) -> bool
-    requires sets_bound { (sets ≤ 512) × (length tags.now ≡ record_words) }
-    requires sets_value { (sets ≡ l2_sets_of (record_in tags.now)) × (j < sets) }
-    ensures { result ≡ l2_way (record_in tags.now) j f a }
+#[tactic(auto, using(crate::specs::Ways::way_laws))]
+pub fn l2_way(tags: &[u32], j: usize, f: u32, a: u32, split: Split) -> bool
+    requires tags_len { length tags.now ≡ record_words }
+    requires sets_value { (split.sets ≡ l2_sets_of (record_in tags.now)) × (j < split.sets) }
+    ensures { result ≡ l2_line_ok (record_in tags.now) j (line_in f a) }
 {
     let mark = f % 65536;
     if mark == 0 {
         return a == 0;
     }
-    let own = low(wide(a), sets * L2::LINE - 1) == j * L2::LINE;
-    let placed = (geometry::EXTERNAL_BASE <= a) & external_ok(a, L2_LINE, tags[1], tags[2]);
+    let own = (a as usize & (split.sets * L2::LINE - 1)) == j * L2::LINE;
+    let placed = (geometry::EXTERNAL_BASE <= a) & external_ok(tags, a, L2_LINE);
     live(mark) & (own & placed)
 }

@@ -1,41 +1,22 @@
--- `camera_calls::transfer_in` meets its contract: the checks, then the transfer on the words in front, behind which
--- L1P's stay as they were (`in-done`).
-use mathlib.Core.Path.{refl, sym, ap, ◌∙◌}
-use mathlib.Core.List.{List, ◌++◌}
-use Prim.Native.Nat.{ℕ}
-use lib.ListN.{drop, take-append-drop}
-use Rattle.model.specs.Calls.{transfer_in}
-use Rattle.access.specs.declared.Answer.{Answer}
-use Rattle.program.specs.Fetches.{Chip}
-use Rattle.l1p_tags.specs.Lines.{chip_in, lent_length}
-use Rattle.chip_answers.specs.Told.{chip_answer_of}
-use Rattle.chip_answers.specs.Passed.{beside-refused}
-use Rattle.camera_calls.specs.Transfers.{in-done}
+-- `camera_calls::transfer_in` meets its contract: behind checks 1 and 2 it is the transfer on the words in front, refused or
+-- done, behind which L1P's stay as they were (`front-done`).
+use Rattle.std.proofs.Common.{sym, arith, take-append-drop}
+use Rattle.kinds.specs.Numbers.{refusal_number}
+use Rattle.model.specs.Calls.{reply, transfer_in, transfer_in_call}
+use Rattle.chip_answers.specs.Passed.{exit-refusal}
+use Rattle.chip_answers.specs.Front.{on_front, front-done}
 use Rattle.camera_calls.proofs.transfer_in.Goals as goal
 
-pub returns-then-lent-ne0 : goal.returns-then-lent-ne0
-returns-then-lent-ne0 c =
-    let chip_at : (Chip) =
-    let a = c.args in chip_in a.words.now a.l1d.now a.l2.now a.ext.now a.l1p.now in
-    let a = c.args in let n = c.lent_due-lent in record {
-      l1p_after = ap (λ (x : Answer). chip_answer_of x (chip_at)) c.numbered.ensures
-          ∙ beside-refused (chip_at) n.result n.ensures (transfer_in a.address a.buffer.now) c.if-lent-ne0.true;
-      refused = λ _. refl;
-    }
+pub returns-in_err-transfer_in : goal.returns-in_err-transfer_in
+unfolding transfer_in_call
+returns-in_err-transfer_in c =
+    rw (exit-refusal _ _ c.from_residual-in_err-transfer_in.ensures.1)
+    (record {
+      l1p_after = front-done _ _ _ _ _ _ _ _ _ (sym c.in_ok-lent_due.ensures) (transfer_in _ _) (reply (refusal_number c.in_err-transfer_in.field-0.0) 0 0) (grind (arith, on_front)) (grind (arith, on_front));
+      refused = rw c.in_err-transfer_in.ensures.refused (take-append-drop 5253 _);
+    })
 
-pub slice_bounds-transfer_in-end-2 : goal.slice_bounds-transfer_in-end-2
-slice_bounds-transfer_in-end-2 c =
-    sym (lent_length c.args.words.now c.requires)
-
-pub transfer_in-number-requires : goal.transfer_in-number-requires
-transfer_in-number-requires c =
-    lent_length c.args.words.now c.requires
-
-pub returns : goal.returns
-returns c =
-    let a = c.args in let n = c.lent_due-lent in let t = c.transfer_in-number in let ws = a.words.now in let vs = t.new.tags in
-    let m' = t.new.l2 in let e' = t.new.ext in let l = t.auto.tags ∙ lent_length ws c.requires in let q = c.numbered-2.ensures in record {
-      l1p_after = ap (λ (x : Answer). chip_answer_of x (chip_in (vs ++ drop 5253 ws) a.l1d.now m' e' a.l1p.now)) q
-          ∙ in-done ws a.l1d.now a.l2.now a.ext.now a.l1p.now n.result n.ensures c.if-lent-ne0.false vs m' e' l a.address a.buffer.now t.result t.ensures.ext_after;
-      refused = λ k. ap (λ (us : List ℕ). us ++ drop 5253 ws) (t.ensures.refused (λ o. k (ap (λ (x : Answer). x.number) q ∙ o))) ∙ take-append-drop 5253 ws;
-    }
+pub returns-clause-l1p_after : goal.returns-clause-l1p_after
+unfolding transfer_in_call
+returns-clause-l1p_after c =
+    rw c.done.ensures (front-done _ _ _ _ _ _ _ _ _ (sym c.in_ok-lent_due.ensures) (transfer_in _ _) (reply 0 0 0) (grind (arith, on_front)) (grind (arith, on_front)))

@@ -1,12 +1,11 @@
--- `l1d_sweeps::l1d_all` meets its contract: after k turns the state is that of the first k ways (`Swept` of
--- sweeping/specs/Loop).
-use Prim.Native.Nat.{◌-◌, ◌/◌, ◌%◌}
+-- After k turns the state is that of the first k ways.
+use Rattle.std.specs.Prelude.{◌/◌, ◌%◌}
+use Rattle.kinds.specs.Numbers.{l1d_operation_code}
 use Rattle.sweeps.specs.Loop.{Swept}
 use Rattle.l1d_commands.specs.Steps.{l1d_operation}
 use Rattle.l1d_commands.proofs.l1d_all.Given as goal
 
 abbrev pub invariant-loop-k : goal.invariant-loop-k
-invariant-loop-k l = Swept (λ i. l1d_operation l.code (i / 2) (i % 2)) 256 l.sram l.sets l.initial.tags l.l1d l.initial.l2 l.initial.ext l.k l.tags l.l2 l.ext
-
-abbrev pub decreases-loop-k : goal.decreases-loop-k
-decreases-loop-k l = 256 - l.k
+invariant-loop-k l =
+    Swept (λ i. l1d_operation (l1d_operation_code l.what) (i / 2) (i % 2)) l.split.sram l.split.sets
+    l.initial.tags l.l1d l.initial.l2 l.initial.ext l.k l.tags l.l2 l.ext

@@ -1,34 +1,33 @@
--- `l1p_commands::drop_under_line` meets its contract: L2 has the line, whose four lines of L1P are dropped
--- (`line-found`), or has it not (`line-missed`). The data side's words are lent as a part, whose record is that of all
--- words (`lent-record`).
-use Prim.Native.Nat.{ℕ}
-use mathlib.Core.Path.{◌≡◌, refl, sym, ap, ◌∙◌}
-use lib.Dec.{ltb}
-use mathlib.Core.List.{List}
-use Rattle.model.specs.Records.{state, l2_set_at}
-use Rattle.model.specs.Ways.{l2_find, in_l2}
-use Rattle.model.specs.declared.Record.{Record}
-use Rattle.tags.specs.Words.{record_in}
-use Rattle.l1p_tags.specs.Lines.{lines_in}
-use Rattle.l1p_commands.specs.Dropping.{lent-record, lent_length, found_in, line-found, line-missed}
+-- L2 has the line, whose four lines of L1P are dropped, or has it not (`found_in`). The data side's words are lent as a
+-- part, whose record is that of all words (`lent-record`).
+use Rattle.std.specs.Prelude.{◌≡◌, List, ℕ, is_some, refl}
+use Rattle.std.proofs.Common.{sym}
+use Rattle.model.specs.Ways.{in_l2}
+use Rattle.tags.specs.Words.{state_in}
+use Rattle.program.specs.L1p.{drop_under_line}
+use Rattle.l1p_tags.specs.Lines.{lent_length}
+use Rattle.l1p_commands.specs.Dropping.{found_in}
 use Rattle.l1p_commands.proofs.drop_under_line.Goals as goal
+use Rattle.l1p_commands.proofs.drop_under_line.Goals.{After-is_some}
 
-pub slice_bounds-l2_find-end-2 : goal.slice_bounds-l2_find-end-2
-slice_bounds-l2_find-end-2 c = sym (lent_length c.args.words.now c.requires.sets_value.1)
+pub slice_bounds-find-end-2 : goal.slice_bounds-find-end-2
+slice_bounds-find-end-2 c = sym (lent_length _ c.requires.sets_value.1)
 
-pub l2_find-v-requires : goal.l2_find-v-requires
-l2_find-v-requires c = (c.set_of.ensures.1, lent_length c.args.words.now c.requires.sets_value.1)
+pub find-held-requires : goal.find-held-requires
+find-held-requires c = (c.set_of.ensures.1, lent_length _ c.requires.sets_value.1)
 
-pub returns-then-v-lt-WAYS : goal.returns-then-v-lt-WAYS
-returns-then-v-lt-WAYS c =
-    let a = c.args in let ws = a.words.now in
-    let t = c.set_of.result in let b = c.line_of.result in let v = c.l2_find-v.result in
-    let has : (d m e : List ℕ) → in_l2 (state (record_in ws) d m e) a.a ≡ ltb v 4 = λ d m e. found_in (state (record_in ws) d m e) a.sets a.a t b v c.requires.sets_nonzero c.requires.sets_value.0.0 c.set_of.ensures.0 c.line_of.ensures
-    (c.l2_find-v.ensures.0 ∙ ap (λ (r : Record). l2_find (l2_set_at r t) b) (lent-record ws)) in record { by_index = λ d m e. line-found (state (record_in ws) d m e) a.a v (has d m e) (lines_in ws) c.if-v-lt-WAYS.true (lines_in c.drop_inside.new.words) c.drop_inside.ensures.words_after; rest = c.drop_inside.ensures.rest }
+has : (c : After-is_some) (d m e : List ℕ) →
+    in_l2 (state_in c.args.words.now d m e) c.args.a ≡ is_some c.find-held.result
+has c d m e =
+    let found = c.find-held.ensures in
+    found_in _ d m e _ _ _ _ _ c.requires.sets_nonzero c.requires.sets_value.0 c.set_of.ensures.0 c.line_of.ensures
+    found.found found.within
 
-pub returns-else-v-lt-WAYS : goal.returns-else-v-lt-WAYS
-returns-else-v-lt-WAYS c =
-    let a = c.args in let ws = a.words.now in
-    let t = c.set_of.result in let b = c.line_of.result in let v = c.l2_find-v.result in
-    let has : (d m e : List ℕ) → in_l2 (state (record_in ws) d m e) a.a ≡ ltb v 4 = λ d m e. found_in (state (record_in ws) d m e) a.sets a.a t b v c.requires.sets_nonzero c.requires.sets_value.0.0 c.set_of.ensures.0 c.line_of.ensures
-    (c.l2_find-v.ensures.0 ∙ ap (λ (r : Record). l2_find (l2_set_at r t) b) (lent-record ws)) in record { by_index = λ d m e. line-missed (state (record_in ws) d m e) a.a v (has d m e) (lines_in ws) c.if-v-lt-WAYS.false; rest = refl }
+pub returns-then-is_some-clause-by_index : goal.returns-then-is_some-clause-by_index
+unfolding drop_under_line
+returns-then-is_some-clause-by_index c =
+    λ d m e. rw (has _ d m e, ← c.if-is_some.ensures) c.drop_inside.ensures.words_after
+
+pub returns-else-is_some-clause-by_index : goal.returns-else-is_some-clause-by_index
+unfolding drop_under_line
+returns-else-is_some-clause-by_index c = λ d m e. rw (has _ d m e, ← c.if-is_some.ensures) refl

@@ -1,12 +1,8 @@
--- `l1p_commands::invalidate_block` meets its contract: after k turns the first k touched lines are dropped
--- (`Dropping`).
-use Prim.Native.Nat.{◌+◌, ◌*◌, ◌/◌, ◌-◌}
+-- After k turns the first k touched lines are dropped.
+use Rattle.std.specs.Prelude.{◌+◌, ◌*◌, ◌/◌}
 use Rattle.program.specs.L1p.{drop_l1p}
 use Rattle.l1p_commands.specs.Dropping.{Dropping}
 use Rattle.l1p_commands.proofs.invalidate_block.Given as goal
 
 abbrev pub invariant-loop-k : goal.invariant-loop-k
-invariant-loop-k l = Dropping (λ i. drop_l1p ((l.base / 32 + i) * 32)) l.n l.initial.words l.k l.words
-
-abbrev pub decreases-loop-k : goal.decreases-loop-k
-decreases-loop-k l = l.n - l.k
+invariant-loop-k l = Dropping (λ i. drop_l1p ((l.base / 32 + i) * 32)) l.initial.words l.k l.words

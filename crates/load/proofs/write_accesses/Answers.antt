@@ -1,35 +1,28 @@
--- `load::write_accesses` meets its contract: each turn puts one access behind the point, which the writer does first of
--- the accesses that are left.
-use Rattle.std.proofs.Common.{rules}
-use Rattle.load.specs.Passes.{Turned, turn, putting-starts, putting-room, putting-on, putting-ends}
+-- `load::write_accesses` meets its contract: each turn puts one access behind the point.
+use Rattle.std.proofs.Common.{◌+◌, sym, arith, length-append}
+use Rattle.traces.specs.Writing.{trace_bytes}
+use Rattle.traces.specs.Load.{accesses_from}
+use Rattle.model.specs.Laws.{stored-none, length-stored}
+use Rattle.trace_writer.specs.Encoding.{stored_more}
+use Rattle.load.specs.Passes.{bytes_next, bytes_within}
 use Rattle.load.proofs.write_accesses.Goals as goal
 
-pub loop-made-init : goal.loop-made-init
-loop-made-init c =
-    let a = c.args in
-    putting-starts a.seed a.extlen a.count a.out.now _ c.requires.1 c.seeded-ring.ensures
-
-pub next_word-word-requires : goal.next_word-word-requires
-next_word-word-requires c = c.loop-made.invariant.held.inside
-
-pub place_after-at-requires : goal.place_after-at-requires
-place_after-at-requires c = c.loop-made.invariant.held.inside
+pub loop-init : goal.loop-init
+unfolding trace_bytes accesses_from
+loop-init c = record { held = c.seeded-words.ensures; reached = omega arith; put = sym (stored-none c.args.out.now 0) }
 
 pub put_access-point-requires : goal.put_access-point-requires
 put_access-point-requires c =
-    let turned : (Turned c.args.seed c.loop-made.made c.next_word-word.new.ring c.place_after-at.result c.next_word-word.result) =
-    turn c.loop-made.invariant.held c.next_word-word.ensures c.place_after-at.ensures in
-    (c.requires.0, putting-room c.loop-made.invariant c.loop-made-test.true (turned))
+    let n = c.next.ensures c.args.seed c.loop.counter c.loop.invariant.held in
+    let w = bytes_within c.args.seed c.args.extlen (c.loop.counter + 1) c.args.count (omega arith) in
+    grind (arith, bytes_next, length-append)
 
-pub loop-made-preserved : goal.loop-made-preserved
-loop-made-preserved c =
-    let turned : (Turned c.args.seed c.loop-made.made c.next_word-word.new.ring c.place_after-at.result c.next_word-word.result) =
-    turn c.loop-made.invariant.held c.next_word-word.ensures c.place_after-at.ensures in
-    putting-on c.loop-made.invariant c.loop-made-test.true (turned) c.requires.0
-    (search rules) c.put_access-point.ensures
-
-pub shape_of-out : goal.shape_of-out
-shape_of-out c = c.loop-made.invariant.same
-
-pub returns : goal.returns
-returns c = putting-ends c.loop-made.invariant c.loop-made-test.false
+pub loop-preserved : goal.loop-preserved
+loop-preserved c =
+    let n = c.next.ensures c.args.seed c.loop.counter c.loop.invariant.held in
+    let w = bytes_within c.args.seed c.args.extlen (c.loop.counter + 1) c.args.count (omega arith) in
+    record {
+      held = n.1;
+      reached = grind (arith, bytes_next, length-append);
+      put = grind (arith, bytes_next, length-append, stored_more, length-stored);
+    }

@@ -1,36 +1,10 @@
--- `packing::fresh_l1d` meets its contract: the words stand for the record with the sets passed so far empty. Assumes
--- nothing.
-use Rattle.model.specs.Records.{no_l1d_set, fresh_l1d_set}
+-- All sets are passed, so all are fresh.
+use Rattle.std.proofs.Common.{ap, ◌∙◌, arith}
 use Rattle.tags.specs.Words.{record_in}
-use Rattle.packing.specs.Packed.{l1d-long, l1d-first, l1d-next, l1d-last}
-use native.Mathlib.Omega.{arith}
-use lib.ListN.{replicate, length-replicate, get_or-replicate}
-use mathlib.Core.Path.{refl, sym, ◌∙◌}
-use borrow.Author.Rules.{rules}
+use Rattle.packing.specs.Packed.{with_l1d, l1d_long, alike_all}
 use Rattle.packing.proofs.fresh_l1d.Goals as goal
-
-pub loop-i-init : goal.loop-i-init
-loop-i-init c = (search rules, (refl, l1d-first (record_in c.args.tags.now) (replicate 128 fresh_l1d_set)))
-
-pub put_l1d_set-requires : goal.put_l1d_set-requires
-put_l1d_set-requires c = let e = c.loop-i.invariant.1.0 in let p = c.requires in let t = c.loop-i-test.true in (t, e ∙ p)
-
-pub loop-i-preserved : goal.loop-i-preserved
-loop-i-preserved c =
-    let a = c.args in let r = record_in a.tags.now in let t = c.loop-i-test.true in
-    let n = length-replicate 128 fresh_l1d_set in let m = l1d-long a.tags.now in (
-      omega arith,
-      (
-        c.put_l1d_set.auto.tags ∙ c.loop-i.invariant.1.0,
-        l1d-next r (replicate 128 fresh_l1d_set) c.loop-i.i (record_in c.loop-i.tags) (record_in c.put_l1d_set.new.tags) fresh_l1d_set c.loop-i.invariant.1.1 c.put_l1d_set.ensures
-            (sym (get_or-replicate 128 c.loop-i.i fresh_l1d_set no_l1d_set t)) (omega arith) (omega arith),
-      ),
-    )
-
-pub shape_of-tags : goal.shape_of-tags
-shape_of-tags c = c.loop-i.invariant.1.0
 
 pub returns : goal.returns
 returns c =
-    let a = c.args in let n = length-replicate 128 fresh_l1d_set in let m = l1d-long a.tags.now in
-    l1d-last (record_in a.tags.now) (replicate 128 fresh_l1d_set) c.loop-i.i (record_in c.loop-i.tags) c.loop-i.invariant.1.1 (omega arith) (omega arith)
+    let r = record_in c.args.tags.now in let m = l1d_long c.args.tags.now in
+    c.loop-i.invariant ∙ ap (with_l1d r) (alike_all _ r.l1d c.loop-i.i 128 (omega arith) (omega arith))

@@ -1,15 +1,9 @@
--- `packing::fresh_l1d` meets its contract: the words stand for the record with the sets passed so far empty. Assumes
--- nothing.
+-- The words stand for the record with the sets passed so far fresh.
+use Rattle.std.proofs.Common.{◌≡◌, ◌++◌, drop, replicate}
 use Rattle.model.specs.Records.{fresh_l1d_set}
 use Rattle.tags.specs.Words.{record_in}
-use Rattle.packing.specs.Packed.{with_l1d, front}
-use lib.ListN.{length, replicate}
-use Prim.Native.Nat.{◌-◌, ◌≤◌}
-use mathlib.Core.Path.{◌≡◌}
+use Rattle.packing.specs.Packed.{with_l1d}
 use Rattle.packing.proofs.fresh_l1d.Given as goal
 
 abbrev pub invariant-loop-i : goal.invariant-loop-i
-invariant-loop-i l = (l.i ≤ 128) × ((length l.tags ≡ length l.initial.tags) × (record_in l.tags ≡ with_l1d (record_in l.initial.tags) (front (replicate 128 fresh_l1d_set) (record_in l.initial.tags).l1d l.i)))
-
-abbrev pub decreases-loop-i : goal.decreases-loop-i
-decreases-loop-i l = 128 - l.i
+invariant-loop-i l = record_in l.tags ≡ with_l1d (record_in l.initial.tags) (replicate l.i fresh_l1d_set ++ drop l.i (record_in l.initial.tags).l1d)

@@ -1,12 +1,7 @@
--- `packing::l1d_of` meets its contract: the sets passed so far are in the array. Assumes nothing.
-use Rattle.model.specs.Records.{no_l1d_set}
-use Rattle.tags.specs.Words.{l1d_in}
-use Rattle.lists.specs.Filled.{Filling}
-use Prim.Native.Nat.{◌-◌}
+-- The sets passed so far are in the array.
+use Rattle.std.proofs.Common.{◌≡◌, length, take}
+use Rattle.tags.specs.Words.{record_in}
 use Rattle.packing.proofs.l1d_of.Given as goal
 
 abbrev pub invariant-loop-i : goal.invariant-loop-i
-invariant-loop-i l = Filling (l1d_in l.tags) no_l1d_set 128 l.vs l.i
-
-abbrev pub decreases-loop-i : goal.decreases-loop-i
-decreases-loop-i l = 128 - l.i
+invariant-loop-i l = (length l.vs ≡ 128) × (take l.i l.vs ≡ take l.i (record_in l.tags).l1d)

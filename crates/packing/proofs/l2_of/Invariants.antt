@@ -1,12 +1,7 @@
--- `packing::l2_of` meets its contract: the sets passed so far are in the array. Assumes nothing.
-use Rattle.model.specs.Records.{no_l2_set}
-use Rattle.tags.specs.Words.{l2_in}
-use Rattle.lists.specs.Filled.{Filling}
-use Prim.Native.Nat.{◌-◌}
+-- The sets passed so far are in the array.
+use Rattle.std.proofs.Common.{◌≡◌, length, take}
+use Rattle.tags.specs.Words.{record_in}
 use Rattle.packing.proofs.l2_of.Given as goal
 
 abbrev pub invariant-loop-j : goal.invariant-loop-j
-invariant-loop-j l = Filling (l2_in l.tags) no_l2_set 512 l.vs l.j
-
-abbrev pub decreases-loop-j : goal.decreases-loop-j
-decreases-loop-j l = 512 - l.j
+invariant-loop-j l = (length l.vs ≡ 512) × (take l.j l.vs ≡ take l.j (record_in l.tags).l2)

@@ -1,20 +1,15 @@
 -- `run::put_answer` meets its contract: two bytes and a value of eight are an answer of ten.
 use Rattle.run.specs.Executed.{answer-put}
-use lib.ListN.{length-set}
-use native.Mathlib.Omega.{arith}
-use mathlib.Core.Path.{refl, ◌∙◌}
 use Rattle.run.proofs.put_answer.Goals as goal
 
-pub bounds-answers-at-2 : goal.bounds-answers-at-2
-bounds-answers-at-2 c = let p = c.requires in simp length-set (omega arith)
+pub returns-in-Ok : goal.returns-in-Ok
+returns-in-Ok c =
+    let a = c.args in
+    rw (c.in-Ok.is, ← c.server_told.ensures)
+    (answer-put a.answers.now a.count 0 c.server_told.result c.in-Ok.answer.value c.requires _ c.store_bytes.ensures)
 
-pub store8-requires : goal.store8-requires
-store8-requires c = let p = c.requires in simp length-set (omega arith)
-
-pub shape_of-answers : goal.shape_of-answers
-shape_of-answers c = c.store8.auto.m ∙ simp length-set refl
-
-pub returns : goal.returns
-returns c =
-    answer-put c.args.answers.now c.args.count c.args.number c.args.server c.args.value
-    c.requires _ c.store8.ensures
+pub returns-in-Err : goal.returns-in-Err
+returns-in-Err c =
+    let a = c.args in
+    rw (c.in-Err.is, ← c.number.ensures.0)
+    (answer-put a.answers.now a.count c.number.result 0 0 c.requires _ c.store_bytes-in-Err.ensures)

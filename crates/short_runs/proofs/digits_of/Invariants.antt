@@ -1,10 +1,6 @@
 -- `short_runs::digits_of` meets its contract: each turn puts one digit in its place.
-use Prim.Native.Nat.{◌-◌}
 use Rattle.short_runs.specs.Digits.{Filling}
 use Rattle.short_runs.proofs.digits_of.Given as goal
 
 abbrev pub invariant-loop-i : goal.invariant-loop-i
-invariant-loop-i l = Filling l.length l.value l.digits l.weight l.rest l.i
-
-abbrev pub decreases-loop-i : goal.decreases-loop-i
-decreases-loop-i l = l.length - l.i
+invariant-loop-i l = Filling l.fn.place.length l.fn.place.value l.digits l.weight l.rest l.i

@@ -1,5 +1,4 @@
 -- `short_runs::place_of` meets its contract: each turn passes the runs of one length.
-use Prim.Native.Nat.{◌-◌}
 use Rattle.short_runs.specs.Digits.{Placing}
 use Rattle.short_runs.proofs.place_of.Given as goal
 
@@ -7,4 +6,4 @@ abbrev pub invariant-loop-runs : goal.invariant-loop-runs
 invariant-loop-runs l = Placing l.number l.length l.value l.runs
 
 abbrev pub decreases-loop-runs : goal.decreases-loop-runs
-decreases-loop-runs l = 4 - l.length
+decreases-loop-runs l = l.value

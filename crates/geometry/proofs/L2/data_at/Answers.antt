@@ -8,36 +8,31 @@ use Rattle.geometry.proofs.L2.data_at.Goals as goal
 
 pub overflow_mul-result : goal.overflow_mul-result
 overflow_mul-result c =
-    let p = c.requires in
-    let b = slot-bound c.args.sets c.args.t c.args.v p.1.1.1 in
-    let s = p.1.0 in let t = p.1.1.0 in let r = p.0 in
+    let b = slot-bound c.args.split.sets c.args.t c.args.v c.requires.1 in
+    let k = c.args.split.sets_fit in let r = c.args.split.sram_fits in let t = c.requires.0 in
     omega arith
 
 pub overflow_add-result : goal.overflow_add-result
 overflow_add-result c =
-    let p = c.requires in
-    let b = slot-bound c.args.sets c.args.t c.args.v p.1.1.1 in
-    let s = p.1.0 in let t = p.1.1.0 in let r = p.0 in
+    let b = slot-bound c.args.split.sets c.args.t c.args.v c.requires.1 in
+    let k = c.args.split.sets_fit in let r = c.args.split.sram_fits in let t = c.requires.0 in
     omega arith
 
 pub overflow_mul-result-2 : goal.overflow_mul-result-2
 overflow_mul-result-2 c =
-    let p = c.requires in
-    let b = slot-bound c.args.sets c.args.t c.args.v p.1.1.1 in
-    let s = p.1.0 in let t = p.1.1.0 in let r = p.0 in
+    let b = slot-bound c.args.split.sets c.args.t c.args.v c.requires.1 in
+    let k = c.args.split.sets_fit in let r = c.args.split.sram_fits in let t = c.requires.0 in
     omega arith
 
 pub overflow_add-result-2 : goal.overflow_add-result-2
 overflow_add-result-2 c =
-    let p = c.requires in
-    let b = slot-bound c.args.sets c.args.t c.args.v p.1.1.1 in
-    let s = p.1.0 in let t = p.1.1.0 in let r = p.0 in
+    let b = slot-bound c.args.split.sets c.args.t c.args.v c.requires.1 in
+    let k = c.args.split.sets_fit in let r = c.args.split.sram_fits in let t = c.requires.0 in
     omega arith
 
 pub returns : goal.returns
 unfolding l2_slot
 returns c =
-    let p = c.requires in
-    let b = slot-bound c.args.sets c.args.t c.args.v p.1.1.1 in
-    let s = p.1.0 in let t = p.1.1.0 in let r = p.0 in
+    let b = slot-bound c.args.split.sets c.args.t c.args.v c.requires.1 in
+    let k = c.args.split.sets_fit in let r = c.args.split.sram_fits in let t = c.requires.0 in
     (refl, omega arith)
