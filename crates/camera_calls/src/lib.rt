@@ -76,11 +76,11 @@ pub fn frame(
     ensures refused { result.number ≢ 0 → words.new ≡ words.old }
 {
     if let Err(refusal) = l1p_check::lent_due(words, l1d, l2, ext, l1p) {
-        return frames::refused(refusal, turn);
+        return frames::refused(refusal.number(), turn);
     }
     let n = tags::WORDS;
     if let Err(refusal) = frames::due_for(tags::extlen_of(&words[..n]), pixels.len()) {
-        return frames::refused(refusal, turn);
+        return frames::refused(refusal.number(), turn);
     }
     let split = run::split_of(words);
     l1p_commands::drop_under_block(words, split, frames::place_of(turn), frames::WORDS);

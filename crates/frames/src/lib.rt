@@ -10,7 +10,7 @@ ghost use Rattle.model.specs.Trace.{command};
 ghost use Rattle.model.specs.Calls.{step};
 ghost use Rattle.agreement.specs.Frames.{frame_length, frame_place, next_turn, refused_frame, frame_due, frame_step};
 ghost use Rattle.tags.specs.Words.{record_words, state_in};
-ghost use Rattle.kinds.specs.Numbers.{refusal_number, number_due};
+ghost use Rattle.kinds.specs.Numbers.{number_due};
 ghost use Rattle.frames.specs.Told.{told_framed};
 ghost use Rattle.frames.specs.Done.{put_at};
 
@@ -68,12 +68,12 @@ fn next_turn(turn: u8) -> u8
     1 - turn % 2
 }
 
-// A refused frame keeps its turn, and has no sums.
-pub fn refused(refusal: Refusal, turn: u8) -> Framed
-    ensures { (z : State) → told_framed result z ≡ refused_frame (refusal_number refusal) turn z }
+// A refused frame keeps its turn, and has no sums. It is told as it stands, so the refusal is its number.
+pub fn refused(number: u8, turn: u8) -> Framed
+    ensures { (z : State) → told_framed result z ≡ refused_frame number turn z }
 {
     Framed {
-        number: refusal.number(),
+        number: number,
         turn: turn % 2,
         sums: [0u32; COLUMNS],
     }
@@ -126,7 +126,7 @@ pub fn frame(
     ensures refused { result.number ≢ 0 → tags.new ≡ tags.old }
 {
     if let Err(refusal) = due_for(tags::extlen_of(tags), pixels.len()) {
-        return refused(refusal, turn);
+        return refused(refusal.number(), turn);
     }
     let place = place_of(turn);
     put(tags, place, pixels, l1d, l2, ext);

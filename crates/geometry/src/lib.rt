@@ -68,8 +68,11 @@ impl L2 {
 
     pub const WAYS: usize = 4;
 
-    // The number of sets is a constant of each mode: the cache size by the bytes of a set, 512. The record has room for
-    // as many as mode 7 uses.
+    // The bytes of one set.
+    pub const SET_BYTES: u32 = (L2::WAYS * L2::LINE) as u32;
+
+    // The number of sets is a constant of each mode: the cache size by the bytes of a set. The record has room for as
+    // many as mode 7 uses.
     pub const SETS_1: usize = 64;
 
     pub const SETS_2: usize = 128;

@@ -55,7 +55,7 @@ fn line_ok(words: &[u32], s: usize, sram: usize) -> bool
     if a < geometry::EXTERNAL_BASE {
         return a as usize + L1p::LINE <= sram;
     }
-    way_check::external_ok(words, a, LINE)
+    way_check::cacheable_ok(words, a, LINE)
 }
 
 // Whether the words stand for well-formed lines of L1P, beside the record that they stand for.

@@ -1,10 +1,11 @@
--- A line copied by a loop, through an array, into a lent part: it is the line `stored` in the memory. The loop has
--- replaced the first bytes (`copied`), the part that was lent comes back between what stood before and after it, and
--- that is `splice`.
-use Rattle.std.specs.Prelude.{ℕ, ◌+◌, ◌-◌, ◌≤◌, ◌<◌, Bool, cond, ◌≡◌, List, [], ◌++◌, replicate}
+-- Bytes copied into a lent part: they are `stored` in the memory. A loop has replaced the first bytes (`copied`), the
+-- part that was lent comes back between what stood before and after it, and that is `splice`.
+use Rattle.std.specs.Prelude.{ℕ, suc, ◌+◌, ◌-◌, ◌≤◌, ◌<◌, Bool, cond, ◌≡◌, List, [], ◌++◌, set, get_or, replicate}
 use Rattle.std.proofs.Math.Bool.{true, false}
 use Rattle.std.proofs.Math.Path.{refl, sym, ap}
-use Rattle.std.proofs.Common.{◌∙◌, append-nil, length-drop, drop_of_length-le, take_all, drop-drop, leb-true, leb-false, le-leb}
+use Rattle.std.proofs.Common.{◌∙◌, append-nil, add-one, length-drop, drop_of_length-le, take_all, drop-drop, drop-cons, take-suc, length-take-le, leb-true, leb-false, le-leb}
+use Rattle.std.proofs.lemmas.List.{set_at}
+use Rattle.std.proofs.Math.Seq.{append_snoc}
 use native.Mathlib.Omega.{arith}
 use Rattle.std.proofs.Math.ListN.{length, take, drop}
 use Rattle.std.proofs.Math.Dec.{leb}
@@ -12,6 +13,29 @@ use Rattle.std.proofs.lemmas.Bool.{lt-leb}
 use Rattle.model.specs.Bytes.{part, stored, splice, zero_from}
 use Rattle.model.specs.Reports.{taken}
 use Rattle.model.specs.Laws.{stored-none, part-inside, stored-inside, stored-outside, length_part}
+
+-- d with its first n bytes replaced by those of s
+unfoldable pub copied : List ℕ → List ℕ → ℕ → List ℕ
+copied d s n = take n s ++ drop n d
+
+pub copied-zero : (d s : List ℕ) → d ≡ copied d s 0
+unfolding copied
+copied-zero d s = refl
+
+pub copied_next : (d s : List ℕ) (j : ℕ) → j < length d → j < length s → set (copied d s j) j (get_or s j 0) ≡ copied d s (j + 1)
+unfolding copied
+copied_next d s j hd hs =
+    ap (λ (r : List ℕ). set (take j s ++ r) j (get_or s j 0)) (drop-cons d j 0 hd)
+    ∙ set_at (take j s) (get_or d j 0) (drop (suc j) d) (get_or s j 0) j (length-take-le j s (omega arith))
+    ∙ sym (append_snoc (take j s) (get_or s j 0) (drop (suc j) d))
+    ∙ rw (add-one, take-suc s j 0 hs)
+
+-- a slice that was replaced by one of its length is that one
+pub copied_all : (d s : List ℕ) → length d ≡ length s → copied d s (length s) ≡ s
+unfolding copied
+copied_all d s e =
+    let h : length d ≤ length s = omega arith in let all : length s ≤ length s = omega arith in
+    rw (drop_of_length-le d h, append-nil) (take_all (length s) s all)
 
 cond_same : (b : Bool) → ◌≡◌ {A = List ℕ} [] (cond b [] [])
 cond_same true = refl

@@ -1,8 +1,8 @@
 -- Values of several bytes: a value of 2 n bytes is made of two values of n bytes, loaded or stored one behind the
 -- other. Each law is stated once over the two widths; the code uses it at 1, 2 and 4.
-use Rattle.std.specs.Prelude.{ℕ, zero, suc, ◌+◌, ◌-◌, ◌*◌, ◌/◌, ◌%◌, ◌≤◌, ◌<◌, Bool, true, false, not, ◌≡◌, refl, List, [], ◌∷◌, ◌++◌, ◌≢◌, length, take, drop, set, get_or, leb, eqb}
+use Rattle.std.specs.Prelude.{ℕ, zero, suc, ◌+◌, ◌-◌, ◌*◌, ◌^◌, ◌/◌, ◌%◌, ◌≤◌, ◌<◌, Bool, true, false, not, ◌≡◌, refl, List, [], ◌∷◌, ◌++◌, ◌≢◌, length, take, drop, set, get_or, leb, eqb}
 use Rattle.std.proofs.Common.{sym, ap, ◌∙◌, append_assoc, arith, mul_assoc, length-append, add-one, drop-cons, take-add, drop-drop, leb-true, leb-false, eqb-true, ne_eqb}
-use Rattle.std.proofs.Math.Nat.{div-div-eq-div-mul}
+use Rattle.std.proofs.Math.Nat.{div-div-eq-div-mul, pow-succ'}
 use Rattle.std.proofs.lemmas.List.Edits.{sets, sets-eq}
 use Rattle.std.proofs.lemmas.Bool.{not-false, eqb-false}
 use Rattle.model.specs.Bytes.{part, stored, splice, little, little_bytes}
@@ -13,6 +13,10 @@ use Rattle.model.specs.Laws.{bool, part-inside, stored-none, stored-inside, stor
 abbrev pub power : ℕ → ℕ
 power zero = 1
 power (suc n) = 256 * power n
+
+power-is : (n : ℕ) → power n ≡ 256 ^ n
+power-is zero = refl
+power-is (suc n) = ap (λ (q : ℕ). 256 * q) (power-is n) ∙ sym (pow-succ' 256 n)
 
 -- ---- loading
 little-append : (xs ys : List ℕ) → little (xs ++ ys) ≡ little xs + power (length xs) * little ys
@@ -54,6 +58,10 @@ load-next m a n i v h k e =
 
 pub load-below : (i v b : ℕ) → v < power i → b < 256 → v * 256 + b < power (i + 1)
 load-below i v b h k = rw add-one (omega arith)
+
+-- all n bytes
+pub load-small : (n i v : ℕ) → i ≡ n → v < power i → v < 256 ^ n
+load-small n i v e h = rw (e, power-is n) at h
 
 -- eight bytes fit
 pub load-fits : (i v : ℕ) → i < 8 → v < power i → v * 256 + 255 < 18446744073709551616

@@ -2,7 +2,7 @@
 // is not touched, so that no caller has to know that a record is well formed.
 #![tactic(auto)]
 
-ghost use Rattle.std.specs.Prelude.{true, ◌≡◌, ◌+◌, ◌≤◌, ◌<◌, length, leb};
+ghost use Rattle.std.specs.Prelude.{true, ◌≡◌, ◌+◌, ◌^◌, ◌≤◌, ◌<◌, length, leb};
 ghost use Rattle.model.specs.Bytes.{part, stored, little, little_bytes, zero_from};
 ghost use Rattle.model.specs.Reports.{taken};
 ghost use Rattle.model.specs.Refusals.{size_ok};
@@ -35,6 +35,17 @@ pub fn move_line<const N: u32>(dst: &mut [u8], a: usize, src: &[u8], b: usize) -
     N
 }
 
+// Byte by byte, of which the compiler makes wide moves. The library's copy of so many bytes as come would be a call of
+// C's memmove, which C programs were never asked for.
+fn copy(dst: &mut [u8], src: &[u8])
+    requires { length dst.old ≡ length src.now }
+    ensures { dst.new ≡ src.now }
+{
+    for i in 0..src.len() {
+        dst[i] = src[i];
+    }
+}
+
 // Any number of bytes does.
 pub fn move_part(dst: &mut [u8], a: usize, src: &[u8], b: usize, n: usize)
     ensures { dst.new ≡ stored dst.old a (part src.now b n) }
@@ -45,7 +56,7 @@ pub fn move_part(dst: &mut [u8], a: usize, src: &[u8], b: usize, n: usize)
     if !fits(a, n, dst.len()) {
         return;
     }
-    dst[a..a + n].copy_from_slice(&src[b..b + n]);
+    copy(&mut dst[a..a + n], &src[b..b + n]);
 }
 
 // How many of the n bytes at a are there: all of them, or none.
@@ -62,7 +73,8 @@ pub fn held(m: &[u8], a: usize, n: u32) -> u32
 pub fn load_bytes<const N: usize>(m: &[u8], a: usize) -> u64
     requires inside { a + N ≤ length m.now }
     requires width { N ≤ 8 }
-    ensures { result ≡ little (part m.now a N) }
+    ensures low_first { result ≡ little (part m.now a N) }
+    ensures small { result < 256 ^ N }
 {
     let mut value: u64 = 0;
     // the high byte comes first

@@ -47,8 +47,11 @@ unfolding any_of l2_in
 four_ways p ws j h = rw (l2-at ws j h) (grind arith)
 
 -- ---- bits and masks
-pub external_is : (ws : List ℕ) (n a : ℕ) → external_base ≤ a → in_cacheable (record_in ws) n a ≡
-    (leb (a + n) (external_base + word ws 1) && cond (ltb a 2164260864) (eqb (word ws 2 / 256 % 2) 1) (eqb (word ws 2 / 65536 % 2) 1))
+-- the n bytes at a end in external memory of length x, and its MAR bit, in the word m, is 1
+abbrev pub external_in : ℕ → ℕ → ℕ → ℕ → Bool
+external_in x m n a = leb (a + n) (external_base + x) && cond (ltb a 2164260864) (eqb (m / 256 % 2) 1) (eqb (m / 65536 % 2) 1)
+
+pub external_is : (ws : List ℕ) (n a : ℕ) → external_base ≤ a → in_cacheable (record_in ws) n a ≡ external_in (word ws 1) (word ws 2) n a
 unfolding in_cacheable record_in
 external_is ws n a h = rw (mar-bit (record_in ws) a h) refl
 

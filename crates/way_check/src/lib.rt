@@ -9,6 +9,7 @@ ghost use Rattle.model.specs.Memories.{external_base};
 ghost use Rattle.model.specs.Lines.{holds};
 ghost use Rattle.model.specs.Records.{sram_of, l2_sets_of, l2_set_at, in_cacheable, l1d_line_ok, l2_line_ok};
 ghost use Rattle.tags.specs.Words.{record_words, line_in, record_in};
+ghost use Rattle.way_check.specs.Ways.{external_in};
 
 use geometry::{L1d, L2, Split};
 
@@ -38,17 +39,25 @@ pub fn empty(f: u32, a: u32) -> bool
     (f % 65536 == 0) & (a == 0)
 }
 
-// The n bytes at a, an external address, end inside external memory, and the MAR bit of a is 1.
-#[tactic(auto, using(crate::specs::Ways::external_is, std::proofs::lemmas::Bool::Decides::nat_tests))]
-pub fn external_ok(tags: &[u32], a: u32, n: u64) -> bool
+// The n bytes at a end inside external memory, and the MAR bit of a is 1; m: the word that has mode and MAR bits.
+pub fn external_ok(a: u32, n: u64, extlen: u32, m: u32) -> bool
+    requires { n ≤ 128 }
+    ensures { result ≡ external_in extlen m n a }
+{
+    let inside = a as u64 + n <= EXTERNAL + extlen as u64;
+    if a < geometry::MAR_129_FROM {
+        return inside & (m / 256 % 2 == 1);
+    }
+    inside & (m / 65536 % 2 == 1)
+}
+
+// Of lent words, and an external address.
+#[tactic(auto, using(crate::specs::Ways::external_is))]
+pub fn cacheable_ok(tags: &[u32], a: u32, n: u64) -> bool
     requires { (record_words ≤ length tags.now) × (n ≤ 128) }
     ensures { external_base ≤ a → result ≡ in_cacheable (record_in tags.now) n a }
 {
-    let inside = a as u64 + n <= EXTERNAL + tags[1] as u64;
-    if a < geometry::MAR_129_FROM {
-        return inside & (tags[2] / 256 % 2 == 1);
-    }
-    inside & (tags[2] / 65536 % 2 == 1)
+    external_ok(a, n, tags[1], tags[2])
 }
 
 #[tactic(auto, unfolding(model::specs::Lines::holds, tags::specs::Words::line_in))]
@@ -89,7 +98,7 @@ pub fn l1d_way(tags: &[u32], i: usize, f: u32, a: u32, split: Split) -> bool
     if a < geometry::EXTERNAL_BASE {
         return a as usize + L1d::LINE <= split.sram;
     }
-    if !external_ok(tags, a, L1D_LINE) {
+    if !cacheable_ok(tags, a, L1D_LINE) {
         return false;
     }
     if split.sets == 0 {
@@ -112,6 +121,6 @@ pub fn l2_way(tags: &[u32], j: usize, f: u32, a: u32, split: Split) -> bool
         return a == 0;
     }
     let own = (a as usize & (split.sets * L2::LINE - 1)) == j * L2::LINE;
-    let placed = (geometry::EXTERNAL_BASE <= a) & external_ok(tags, a, L2_LINE);
+    let placed = (geometry::EXTERNAL_BASE <= a) & cacheable_ok(tags, a, L2_LINE);
     live(mark) & (own & placed)
 }

@@ -14,4 +14,4 @@ load_bytes-requires-2-clause-inside c =
     rw e at h
 
 pub returns : goal.returns
-returns c = rw (size-eight _ c.requires c.if-n-eq4.false c.if-n-eq1.false c.if-n-eq2.false) c.load_bytes-2.ensures
+returns c = rw (size-eight _ c.requires c.if-n-eq4.false c.if-n-eq1.false c.if-n-eq2.false) c.load_bytes-2.ensures.low_first

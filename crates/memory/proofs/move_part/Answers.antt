@@ -15,4 +15,4 @@ pub returns : goal.returns
 returns c =
     moved _ _ _ _ _
     (both-inside _ _ _ _ _ (sym c.fits.ensures ∙ c.if-not-fits.false) (sym c.fits-2.ensures ∙ c.if-not-fits-2.false))
-    c.copy_from_slice.new.self c.copy_from_slice.ensures.after
+    c.copy.new.dst c.copy.ensures
