@@ -86,6 +86,7 @@ pub fn use_hit(tags: &mut [u32], i: usize, w: usize)
 
 // A hit in way w of L1D set i.
 #[tactic(auto, unfolding(model::specs::Access::read_hit, model::specs::Access::write_hit))]
+#[inline(always)]
 pub fn hit(tags: &mut [u32], i: usize, w: usize, c: Command, l1d: &mut [u8]) -> u64
     requires i_bound { ((i < 128) × (w < 2)) × (length tags.old ≡ record_words) }
     requires i_value { (i ≡ l1d_set_of c.second) × (size_ok c.first ≡ true) }
@@ -114,6 +115,7 @@ pub struct Room {
 
 // A read miss chooses a way of L1D set i; a dirty line there is written back to its home and the way emptied. A write
 // miss chooses none, and neither does a read miss where L1D is frozen.
+#[inline(always)]
 pub fn free_way(
     tags: &mut [u32],
     split: Split,
@@ -145,6 +147,7 @@ pub fn free_way(
 
 // Neither way of L1D set i holds the line.
 #[tactic(auto, using(memory::specs::Values::size_small))]
+#[inline(always)]
 pub fn miss(
     tags: &mut [u32],
     split: Split,
@@ -163,26 +166,29 @@ pub fn miss(
     let frozen = tags::frozen_of(tags);
     let room = free_way(tags, split, i, write | frozen, l1d, l2, ext);
     let h = l2_fetch::fetch_l2(tags, split, c.second, l1d, l2, ext);
+    // what left is taken out of the structs by itself: hits, which do not come here, stay in registers then
+    let l2_left = h.left;
     if write {
         let n = l2_fetch::write_home(tags, split, h, c.second, c.first, c.value, l2, ext);
         return Answer {
             value: 0,
             server: Some(h.server),
             l1d_left: Left::NoWay,
-            l2_left: h.left,
+            l2_left: l2_left,
             read: h.read,
             written: h.written + n,
         };
     }
     if let Some(room) = room {
+        let l1d_left = room.left;
         let n = l2_fetch::fill_l1d(tags, split, h, i, room.way, c.second, l1d, l2, ext);
         tags::touch::<L1d>(tags, i, room.way);
         let v = way_value(i, room.way, c.second, c.first, l1d);
         return Answer {
             value: v,
             server: Some(h.server),
-            l1d_left: room.left,
-            l2_left: h.left,
+            l1d_left: l1d_left,
+            l2_left: l2_left,
             read: h.read + n,
             written: room.written + h.written,
         };
@@ -194,7 +200,7 @@ pub fn miss(
         value: v,
         server: Some(h.server),
         l1d_left: Left::NoWay,
-        l2_left: h.left,
+        l2_left: l2_left,
         read: h.read + n,
         written: h.written,
     }
@@ -220,6 +226,7 @@ pub fn is_cacheable(tags: &[u32], a: u32) -> bool
 }
 
 // External memory with MAR bit 0 is reached directly, touching no line.
+#[inline(always)]
 pub fn uncached(c: Command, ext: &mut [u8]) -> Answer
     requires { (size_ok c.first ≡ true) × (ltb c.second external_base ≡ false) }
     ensures { (z : State) → z.ext ≡ ext.old → accepted_of result (state z.rec z.l1d z.l2 ext.new) ≡ passed c z }
@@ -259,6 +266,7 @@ pub fn checked_value(c: Command) -> u64
 
 // A read or a write that nothing refuses: past the caches, a hit, or a miss.
 #[tactic(auto, unfolding(model::specs::Access::cacheable))]
+#[inline(always)]
 fn accepted(
     tags: &mut [u32],
     split: Split,
@@ -284,6 +292,7 @@ fn accepted(
 }
 
 // A read or a write: number, server and value of the answer, the record and every lent byte are those of `step`.
+#[inline(always)]
 pub fn access(
     tags: &mut [u32],
     split: Split,

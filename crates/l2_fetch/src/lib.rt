@@ -130,6 +130,7 @@ pub fn fetch_l2(
 // ---- the level behind L1D gives or takes bytes
 // The line of address a is fetched from its home, way w of L1D set i filled clean. How many of its bytes were read from
 // external memory is told.
+#[inline(always)]
 pub fn fill_l1d(
     tags: &mut [u32],
     split: Split,
@@ -172,6 +173,7 @@ pub fn fill_l1d(
 
 // Just the n bytes at a, out of the home.
 #[tactic(auto, unfolding(model::specs::Access::home_part, model::specs::Homes::memory_part))]
+#[inline(always)]
 pub fn read_home(
     tags: &[u32],
     split: Split,
@@ -198,6 +200,7 @@ pub fn read_home(
 }
 
 // How many of the n bytes at a are read from external memory for that.
+#[inline(always)]
 pub fn home_moved(h: Fetched, a: u32, n: u32, ext: &[u8]) -> u32
     ensures { ((z : State) → z.ext ≡ ext.now → Found h a z.rec → HomeMoved result a a n z) × (result ≤ n) }
 {
@@ -211,6 +214,7 @@ pub fn home_moved(h: Fetched, a: u32, n: u32, ext: &[u8]) -> u32
 }
 
 // The bytes of a write go to the home. How many of them went into external memory is told.
+#[inline(always)]
 pub fn write_home(
     tags: &mut [u32],
     split: Split,

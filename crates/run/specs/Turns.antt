@@ -1,9 +1,10 @@
 -- What holds where the loop begins a turn (`Kept`), and how a turn keeps it, or ends the run: by its end, before a
 -- command that is not carried out, or with the one given command, whose answer is the run's. Each command is carried
 -- out on the words of the data side alone, or on those of the whole chip.
-use Rattle.std.specs.Prelude.{ℕ, ◌+◌, ◌*◌, ◌-◌, ◌≤◌, ◌<◌, ◌≡◌, ◌≢◌, List, length, refl, OnErr}
-use Rattle.std.proofs.Common.{sym, ◌∙◌, arith, Result, Ok, Err}
-use borrow.Author.Tests.{le-leb}
+use Rattle.std.specs.Prelude.{ℕ, ◌+◌, ◌*◌, ◌-◌, ◌≤◌, ◌<◌, ◌≡◌, ◌≢◌, true, false, ◌&&◌, List, length, refl, OnErr, eqb, ltb}
+use Rattle.std.proofs.Common.{sym, ap, ◌∙◌, arith, Some, Result, Ok, Err}
+use Rattle.std.proofs.lemmas.Bool.{true≢false}
+use borrow.Author.Tests.{le-leb, lt-ltb}
 use Rattle.kinds.specs.Numbers.{number_due}
 use Rattle.kinds.specs.declared.Refusal.{Refusal}
 use Rattle.model.specs.Records.{State}
@@ -18,7 +19,9 @@ use Rattle.program.specs.Chip.{chip_step}
 use Rattle.program.specs.Runs.{chip_ran, chip_run_from}
 use Rattle.l1p_tags.specs.Lines.{chip_words, lines_in, chip_in}
 use Rattle.decode.specs.declared.Decoded.{Decoded as Next}
-use Rattle.run.specs.Executed.{source_of, end_of, stop_of, Taken, data_machine, chip_machine, executes, told-all, turn, stopped, at-end}
+use Rattle.model.specs.Trace.{Decoded, decoded}
+use Rattle.decode.specs.Told.{told}
+use Rattle.run.specs.Executed.{raised, source_of, end_of, stop_of, Taken, data_machine, chip_machine, executes, told-all, turn, stopped, at-end}
 use Rattle.run.specs.Upwards.{all_up, told-up}
 
 -- ---- the words and memories that a run is lent, L1P's bytes apart
@@ -79,6 +82,16 @@ pub record Done (n : ℕ) (c : Command) (t : List ℕ) (a₀ : Held) (o₀ : Lis
       chip_ran (chip_of a p) at k s o ≡ chip_run_from t (length t) 0 (chip_of a₀ p) 0 o₀
   pub up : 2 ≤ n → n * 10 ≤ length o₀ → length a₀.words ≡ record_words →
       ran (state_of a) at k s o ≡ all_up c n (state_of a₀) o₀
+
+-- one given access went by itself, so that an access in the loop is not the only command
+pub not_alone : {n : ℕ} {c : Command} {t : List ℕ} {at k len : ℕ} {d : Next} → (eqb n 1 && ltb c.code 2) ≡ false →
+    Taken n c t at k len d → d.command.code < 2 → n ≢ 1
+not_alone {n} {c} {t} {at} {k} {len} {d} one f lo e =
+    let s : told (Some d) ≡ decoded (raised c at) 1 = rw e at f.same in
+    let g : d.command.code ≡ c.code = ap (λ (x : Decoded). x.found.code) s in
+    let h : ltb c.code 2 ≡ false = rw e at one in
+    let l : ltb c.code 2 ≡ true = lt-ltb c.code 2 (rw g at lo) in
+    absurd (true≢false (sym l ∙ h))
 
 module _ {n : ℕ} {c : Command} {t : List ℕ} {a₀ : Held} {o₀ : List ℕ} {a : Held} {o : List ℕ} {at k : ℕ}
     (h : Kept n c t a₀ o₀ a o at k) where

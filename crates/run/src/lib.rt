@@ -1,7 +1,7 @@
 // The run over a trace, or of given commands: a loop that takes a command, carries it out as a call of its own, and
-// puts down its answer. One function for all of them, so that the steps of an access have one caller and the compiler
-// makes one loop of them. On the words of the whole chip a command may drop lines of L1P (02, U4); who lends the words
-// of the data side alone gets what the commands do there.
+// puts down its answer. One function for all of them, so that the compiler makes one loop of the steps of an access; a
+// given access alone goes beside it, with what it reports. On the words of the whole chip a command may drop lines of
+// L1P (02, U4); who lends the words of the data side alone gets what the commands do there.
 #![tactic(auto)]
 
 ghost use Rattle.std.specs.Prelude.{◌≡◌, List, ℕ, ◌+◌, ◌*◌, ◌≤◌, ◌<◌, length, OnErr};
@@ -130,6 +130,7 @@ pub fn split_of(words: &[u32]) -> Split
 }
 
 // A read or a write, which leaves L1P alone.
+#[inline(always)]
 fn access(
     words: &mut [u32],
     split: Split,
@@ -164,10 +165,34 @@ fn command(
     Ok(nothing())
 }
 
+// One given access, whose answer is the run's, with what it reports (02, U2).
+#[inline(never)]
+fn alone(
+    words: &mut [u32],
+    split: Split,
+    c: Command,
+    l1d: &mut [u8],
+    l2: &mut [u8],
+    ext: &mut [u8],
+) -> Ended
+    requires code_bound { (c.code < 2) × (record_words ≤ length words.old) }
+    requires sized { Sized split.sram split.sets words.old }
+    ensures { Carried c (held words.old l1d.old l2.old ext.old) (held words.new l1d.new l2.new ext.new) result.last }
+{
+    let last = access(words, split, c, l1d, l2, ext);
+    Ended {
+        consumed: 1,
+        count: 1,
+        stop: Ok(()),
+        last: last,
+    }
+}
+
 // All of a trace (`times` 0), or so many given commands, the second number of each one higher than that of the one in
-// front of it. Who gives commands has room for their answers; the trace is then not looked at. The loop is left with
-// the answer of one given command, and carries none from turn to turn: what an access reports (02, U2) is not asked for
-// in a trace, and a run pays nothing for it.
+// front of it. Who gives commands has room for their answers; the trace is then not looked at. One given access goes by
+// itself: the loop puts down number, server and value, so that what an access reports is not made in it, and a run pays
+// nothing for it. The steps of an access stand in the machine code twice for that, in the loop and in `alone`, which
+// the hints at them ask for.
 pub fn run(
     words: &mut [u32],
     times: usize,
@@ -200,6 +225,9 @@ pub fn run(
     let mut at: usize = 0;
     let mut count: usize = 0;
     let mut split = split_of(words);
+    if (times == 1) & (given.code < 2) {
+        return alone(words, split, given, l1d, l2, ext);
+    }
     let end = end_of(times, trace);
     while at < end {
         let d = match taken(times, given, trace, at, count, answers.len()) {
@@ -231,14 +259,6 @@ pub fn run(
             continue;
         }
         let a = access(words, split, c, l1d, l2, ext);
-        if times == 1 {
-            return Ended {
-                consumed: 1,
-                count: 1,
-                stop: Ok(()),
-                last: a,
-            };
-        }
         put_answer(answers, count, a);
         at += d.used;
         count += 1;

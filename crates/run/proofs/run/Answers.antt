@@ -1,9 +1,9 @@
 -- `run::run` meets its contract: what is left to do gives the whole (`Kept`). Each command is one step, of the chip for
--- a trace and of the data side for given ones, by what its function ensures; one given command is the first and the
--- last of its loop, and leaves it.
+-- a trace and of the data side for given ones, by what its function ensures; one given access goes by itself, and any
+-- other command given alone is the first and the last of its loop, and leaves it.
 use Rattle.std.proofs.Common.{arith, rules}
 use Rattle.kinds.specs.Numbers.{refusal_some}
-use Rattle.run.specs.Turns.{kept-turn, kept-stops, kept-ends}
+use Rattle.run.specs.Turns.{not_alone, kept-turn, kept-stops, kept-ends}
 use Rattle.run.proofs.run.Goals as goal
 
 pub returns-in-Err : goal.returns-in-Err
@@ -22,7 +22,8 @@ loop-at-preserved-then-c-ge2 c =
 pub loop-at-preserved : goal.loop-at-preserved
 loop-at-preserved c =
     let kept =
-    kept-turn c.loop-at.invariant.0 (omega arith) c.in-Ok.ensures c.if-times-eq1-2.false c.loop-at.auto.words
+    kept-turn c.loop-at.invariant.0 (omega arith) c.in-Ok.ensures (not_alone c.if-times-given.false c.in-Ok.ensures (omega arith))
+    c.loop-at.auto.words
     c.access-a.ensures.carried c.put_answer-in-loop-at.ensures in
     (kept, c.access-a.ensures.sized)
 

@@ -1,6 +1,6 @@
 -- `run::run` meets its contract: what is left to do gives the whole (`Kept`). Each command is one step, of the chip for
--- a trace and of the data side for given ones, by what its function ensures; one given command is the first and the
--- last of its loop, and leaves it.
+-- a trace and of the data side for given ones, by what its function ensures; one given access goes by itself, and any
+-- other command given alone is the first and the last of its loop, and leaves it.
 use Rattle.std.proofs.Common.{◌-◌}
 use Rattle.l1p_tags.specs.Lent.{Sized}
 use Rattle.run.specs.Turns.{held, Kept}
