@@ -70,7 +70,7 @@
  * same time on different threads. Calls on one chip may not: give each chip to one thread, or guard it by a lock.
  *
  * STACK. A call needs at most C64X_STACK_BYTES of stack. That leaves room to grow: no call was measured to take more
- * than 2,600 bytes. `sh bench/stack` measures each of them, and fails where one takes more than is said here.
+ * than 2,472 bytes. `sh bench/stack` measures each of them, and fails where one takes more than is said here.
  *
  * LINKING. The functions stand in crates/boundary/out/libboundary.a (64-bit x86), which `rt lib --cpu=x86-64`, run in
  * crates/boundary, writes. (Without that word rt builds for x86-64-v2, which older processors lack.)

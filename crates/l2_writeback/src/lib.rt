@@ -1,5 +1,6 @@
 // A line leaves L2: on lent words, each function is the step of paper 01 itself. All are total: they say what they do
-// for every content of the words.
+// for every content of the words. The hints have the compiler make them part of what sends a line away, an L2 miss or
+// a command: with calls in between, an L2 miss in a run took a tenth more.
 #![tactic(auto)]
 
 ghost use Rattle.std.specs.Prelude.{◌≡◌, List, ℕ, ◌<◌, ◌≤◌};
@@ -17,6 +18,7 @@ use model::{Gone, Left};
 
 // The half at b of the L2 line in set t, way v, which L1D holds in set i, way w: L2 takes it in if it is dirty, and it
 // becomes invalid in L1D.
+#[inline(always)]
 fn take_found(
     tags: &mut [u32],
     split: Split,
@@ -52,6 +54,7 @@ fn take_found(
 
 // The half at b, if L1D holds it.
 #[tactic(auto, unfolding(model::specs::Homes::take_half, model::specs::Ways::in_l1d, model::specs::Ways::l1d_way))]
+#[inline(always)]
 pub fn take_half(
     tags: &mut [u32],
     split: Split,
@@ -73,9 +76,10 @@ pub fn take_half(
     take_found(tags, split, t, v, b, i, w, l1d, l2);
 }
 
-// The upper half of the line at a, if L1D holds it. Each half has a function with one caller, so that the compiler
-// makes them part of it; one function for both would be called, twice for each line that leaves L2.
+// The upper half of the line at a, if L1D holds it. Each half has a function of its own: before there were hints, one
+// for both was called, twice for each line that leaves L2.
 #[tactic(auto, unfolding(model::specs::Homes::take_half, model::specs::Ways::in_l1d, model::specs::Ways::l1d_way))]
+#[inline(always)]
 fn take_upper(tags: &mut [u32], split: Split, t: usize, v: usize, a: u32, l1d: &[u8], l2: &mut [u8])
     requires t_bound { (t < 512) × (v < 4) }
     requires lent { Lent split.sram split.sets tags.old }
@@ -92,6 +96,7 @@ fn take_upper(tags: &mut [u32], split: Split, t: usize, v: usize, a: u32, l1d: &
 
 // The L2 line in set t, way v goes out, if dirty, into the part of external memory that begins at its home.
 // How many bytes went there is told.
+#[inline(always)]
 pub fn write_out_l2(
     tags: &mut [u32],
     split: Split,
@@ -126,6 +131,7 @@ pub fn write_out_l2(
 
 // A valid L2 line takes in its halves and goes out; it stays. What it is then, clean or dirty, is told, and how many
 // bytes went out.
+#[inline(always)]
 pub fn writeback_l2(
     tags: &mut [u32],
     split: Split,
@@ -160,6 +166,7 @@ pub fn writeback_l2(
 
 // .. and the way emptied.
 #[tactic(auto, unfolding(model::specs::Homes::evict_l2, model::specs::Ways::empty_l2))]
+#[inline(always)]
 pub fn evict_l2(
     tags: &mut [u32],
     split: Split,
